@@ -1,113 +1,121 @@
 -- What lies under the lock has come by the steps of the history, one after the other.
-use Rattle.desk.proofs.Common.{◌≡◌, ℕ, ◌+◌, ◌<◌, ◌≤◌, List, [], ◌∷◌, ◌++◌, true, false, refl, sym, ap, ◌∙◌, subst, arith, None, Result, Ok, Err, OnOk, OnErr, IsPrefix, Quota, Refusal, StepOf, Admit, Leave, DidOf, Left, tenant_of, only, alone_from, CoreState, tenant_in, shared_run, newest_after, IsOneStep, Leaf, LeafAnswer, jamboree, HallOf, hall_after, IsExplained, own, Known, SeatOf, seeing, steps_of, core_at, is_admit, is_seat_step, with_taken, is_leave, stays_by, AreTaken, AreSeats, HasNoLeave, HasOwners, IsComeBy, IsThere, IsLook, IsToldOf}
-use Rattle.desk.proofs.Judged.{run-more, taken-more, not-refused, here, known-number, tenant_in-new, newest-stays, Rights, Headlines, isolated}
+use Rattle.desk.proofs.Common.{◌≡◌, ℕ, ◌+◌, ◌<◌, ◌≤◌, List, [], ◌∷◌, ◌++◌, true, false, refl, sym, ap, ◌∙◌, subst, arith, None, Result, Ok, Err, OnOk, OnErr, IsPrefix, Quota, Refusal, Admit, Leave, DidOf, Left, refusal_in, tenant_of, only, alone_from, CoreState, tenant_in, shared_run, newest_after, IsOneStep, AreNumbersGiven, step-taken, known-number, tenant_in-new, Leaf, LeafAnswer, jamboree, HallOf, IsOffered, hall_after, IsExplained, own, Known, SeatOf, seeing, steps_of, core_at, is_admit, with_taken, is_leave, AreSeats, HasNoLeave, HasOwners, IsComeBy, IsThere, IsLook, IsToldOf}
+use Rattle.desk.proofs.Judged.{run-more, taken-more, no_first, newest-stays, Rights, Headlines, isolated}
 use Rattle.desk.proofs.Staying.{there_more, seat_stays, leaves}
-use Rattle.desk.proofs.Owners.{steps_of-more, owners_more, owners_admit, steps_are_mine, unused, unmade, upto_more}
+use Rattle.desk.proofs.Owners.{Step, Entries, IsOfSeat, steps_of-more, owners_more, owners_admit, steps_are_mine, unused, unmade, upto_more}
 
-abbrev Step : Type 0
-Step = StepOf LeafAnswer
+abbrev Answer : Type 0
+Answer = Result (DidOf Leaf) Refusal
 
-abbrev Entries : Type 0
-Entries = List (ℕ × Step)
-
--- one step at the end of the history
-one-at : (begun before after : HallOf) (log : Entries) (step : Step) (answer : Result (DidOf Leaf) Refusal) → IsComeBy begun before.grain before.shared log → IsOneStep (jamboree before.grain) before.shared step answer after.shared →
-    IsOneStep (jamboree begun.grain) (core_at begun log) step answer after.shared
-one-at begun before after log step answer come one =
-    subst (λ s. IsOneStep (jamboree begun.grain) s step answer after.shared) come.core (subst (λ g. IsOneStep (jamboree g) before.shared step answer after.shared) come.same one)
-
-come_more : (begun before after : HallOf) (log : Entries) (m : ℕ) (step : Step) (did : DidOf Leaf) → IsComeBy begun before.grain before.shared log → IsOneStep (jamboree before.grain) before.shared step (Ok did) after.shared →
-    after ≡ hall_after before step after.shared → IsExplained after → HasOwners (log ++ (m, step) ∷ []) → before.shared.newest ≤ after.shared.newest → tenant_of step ≤ after.shared.newest →
-    IsComeBy begun after.grain after.shared (log ++ (m, step) ∷ [])
-come_more begun before after log m step did come one taken explained owners more within =
-    let functions = jamboree begun.grain in
-    let at = one-at begun before after log step (Ok did) come one in
-    let none = not-refused functions (core_at begun log) step did at.answered in
-    let later = come.later in
-    record {
-      same = ap (λ h. h.grain) taken ∙ come.same;
-      core = at.left ∙ sym (ap (λ l. shared_run functions begun.shared l) (steps_of-more log m step) ∙ run-more functions begun.shared (steps_of log) step);
-      legal = subst (λ l. AreTaken functions begun.shared l) (sym (steps_of-more log m step))
-          (taken-more functions begun.shared (steps_of log) step come.legal none);
-      owners = owners;
-      upto = upto_more before.shared.newest after.shared.newest log m step come.upto more within;
-      later = omega arith;
-      first = come.first;
-      given = explained.known;
-      there = λ t stays. subst (λ (s : CoreState). IsThere (tenant_in s.tenants t)) (sym at.left)
-          (there_more functions (core_at begun log) false (steps_of log) step t none (λ h. subst (λ (s : CoreState). IsThere (tenant_in s.tenants t)) come.core (come.there t h))
-          (subst (λ l. stays_by false t l ≡ true) (steps_of-more log m step) stays));
-    }
-
--- a step that is no Admit, by the owner of its tenant or a worker
-pub come_offered : (begun before after : HallOf) (log : Entries) (m : ℕ) (mine : List Step) (step : Step) (answer : Result (DidOf Leaf) Refusal) → IsComeBy begun before.grain before.shared log → is_admit step ≡ false →
-    (is_seat_step step ≡ true → AreSeats (tenant_of step) mine) → own m log ≡ mine → IsOneStep (jamboree before.grain) before.shared step answer after.shared →
-    OnOk answer (after ≡ hall_after before step after.shared) → OnErr answer (after ≡ before) → OnOk answer (after.shared.newest ≡ newest_after before.shared.newest step) → IsExplained after →
-    IsComeBy begun after.grain after.shared (with_taken log (m, step) answer)
-come_offered begun before after log m mine step (Ok did) come other seats is_mine one taken refused newest explained =
-    let same : after.shared.newest ≡ before.shared.newest = newest ∙ newest-stays before.shared.newest step other in
-    let functions = jamboree before.grain in
-    let within : tenant_of step ≤ before.shared.newest =
-    known-number before.shared.newest (tenant_of step) before.shared.tenants come.given (here functions before.shared step other (not-refused functions before.shared step did one.answered)) in
-    come_more begun before after log m step did come one taken explained (owners_more m log mine step come.owners seats is_mine) (omega (arith, same)) (omega (arith, same, within))
-come_offered begun before after log m mine step (Err refusal) come other seats is_mine one taken refused newest explained = subst (λ (h : HallOf). IsComeBy begun h.grain h.shared log) (sym refused) come
-
--- the Admit of a new tenant
-pub come_admitted : (begun before after : HallOf) (log : Entries) (m t : ℕ) (reserve : Quota) (did : DidOf Leaf) → IsComeBy begun before.grain before.shared log → t ≡ before.shared.newest + 1 →
-    IsOneStep (jamboree before.grain) before.shared (Admit t reserve) (Ok did) after.shared → after ≡ hall_after before (Admit t reserve) after.shared → after.shared.newest ≡ t → IsExplained after →
-    IsComeBy begun after.grain after.shared (log ++ (m, Admit t reserve) ∷ [])
-come_admitted begun before after log m t reserve did come number one taken newest explained =
-    come_more begun before after log m (Admit t reserve) did come one taken explained
-    (owners_admit m t reserve log come.owners (unmade before.shared.newest t log come.upto (omega (arith, number)))) (omega (arith, number, newest)) (omega (arith, newest))
+-- what an offer did to the hall
+pub offered : (before : HallOf) (step : Step) (answer : Answer) (after : HallOf) → IsOneStep (jamboree before.grain) before.shared step answer after.shared → OnOk answer (after ≡ hall_after before step after.shared) →
+    OnErr answer (after ≡ before) → IsOffered before step answer after
+offered before step (Ok did) after one taken refused = record { one = one; left = taken }
+offered before step (Err refusal) after one taken refused = record { one = one; left = refused }
 
 -- nothing has come by yet
 pub come_begun : (begun hall : HallOf) → hall ≡ begun → IsExplained hall → IsComeBy begun hall.grain hall.shared []
 come_begun begun hall is explained =
+    let given = explained.known in
     subst (λ (b : HallOf). IsComeBy b hall.grain hall.shared []) is
-    (record { same = refl; core = refl; legal = tt; owners = ((λ _. 0), tt); upto = tt; later = omega arith; first = explained.known; given = explained.known; there = λ t stays. absurd (cc stays) })
+    (record { same = refl; core = refl; legal = tt; owners = ((λ _. 0), tt); upto = tt; later = omega arith; first = given; given = given; there = λ t stays. absurd (cc stays) })
 
-pub new_unused : (begun before : HallOf) (log : Entries) (t : ℕ) → IsComeBy begun before.grain before.shared log → t ≡ before.shared.newest + 1 → only t (steps_of log) ≡ []
-new_unused begun before log t come number = unused before.shared.newest t log come.upto (omega (arith, number))
+-- A hall that has come by this history.
+module _ {begun : HallOf} {log : Entries} (before : HallOf) (come : IsComeBy begun before.grain before.shared log) where
+  pub new_unused : (t : ℕ) → t ≡ before.shared.newest + 1 → only t (steps_of log) ≡ []
+  new_unused t number = unused before.shared.newest t log come.upto (omega (arith, number))
 
--- a seat's Leave is taken
-pub leave_taken : (begun before after : HallOf) (log : Entries) (m : ℕ) (mine : List Step) (step : Step) (answer : Result (DidOf Leaf) Refusal) → IsComeBy begun before.grain before.shared log → is_leave step ≡ true →
-    (is_seat_step step ≡ true → AreSeats (tenant_of step) mine) → HasNoLeave mine → own m log ≡ mine → IsOneStep (jamboree before.grain) before.shared step answer after.shared → answer ≡ Ok Left
-leave_taken begun before after log m mine (Leave t) answer come is seats none_left is_mine one =
-    let a = seats refl in
-    leaves {A = LeafAnswer} (jamboree before.grain) before.shared t answer
-    (come.there t (seat_stays t (steps_of log) mine a.1 (Admit t a.0) (steps_are_mine m t log mine come.owners a is_mine) a.2 none_left)) one.answered
-leave_taken begun before after log m mine _ answer come is seats none_left is_mine one = absurd cc
+  -- a seat looks
+  pub looks : (was now : SeatOf) → Rights (jamboree begun.grain) → Headlines (jamboree begun.grain) → AreSeats was.tenant was.known.mine → begun.shared.newest < was.tenant →
+      IsPrefix was.known.seen log → own was.known.maker log ≡ was.known.mine → now ≡ seeing (record { maker = was.known.maker; seen = log; mine = was.known.mine }) was → IsLook begun was now
+  looks was now right headline seats new prefix is_mine is =
+      let rules = jamboree begun.grain in
+      let t = was.tenant in
+      let nobody : tenant_in begun.shared.tenants t ≡ None = tenant_in-new begun.shared.newest t begun.shared.tenants new come.first in
+      let alone = isolated rules begun.shared (steps_of log) t right headline come.first come.legal ∙ ap (λ o. alone_from rules o (only t (steps_of log))) nobody in
+      let mine = steps_are_mine was.known.maker log come.owners t was.known.mine seats is_mine in
+      subst (λ (s : SeatOf). IsLook begun was s) (sym is) (record { kept = refl; saw = (prefix, is_mine, refl, refl); legal = come.legal; mine = mine; alone = alone })
 
-pub no_leave_taken : {X : Type 0} (mine : List Step) (step : Step) (answer : Result X Refusal) → HasNoLeave mine → is_leave step ≡ false → HasNoLeave (with_taken mine step answer)
-no_leave_taken mine step (Err refusal) h other = h
-no_leave_taken mine step (Ok value) h other = more mine h
-  where
-    more : (steps : List Step) → HasNoLeave steps → HasNoLeave (steps ++ step ∷ [])
-    more [] h = (other, tt)
-    more (s ∷ steps) h = (h.0, more steps h.1)
+  -- One more step, and the hall after it.
+  module _ (after : HallOf) where
+    abbrev Answers : Step → Answer → Type 0
+    Answers step answer = IsOneStep (jamboree before.grain) before.shared step answer after.shared
 
--- what a maker is told of its step
-pub told : (begun before after : HallOf) (log : Entries) (step : Step) (answer : Result (DidOf Leaf) Refusal) (was now : Known Step) → IsComeBy begun before.grain before.shared log →
-    IsOneStep (jamboree before.grain) before.shared step answer after.shared → IsPrefix was.seen log → own was.maker log ≡ was.mine →
-    now ≡ record { maker = was.maker; seen = with_taken log (was.maker, step) answer; mine = with_taken was.mine step answer } → IsToldOf begun was step answer now
-told begun before after log step (Ok did) was now come one prefix is_mine is =
-    subst (λ (k : Known Step). IsToldOf begun was step (Ok did) k) (sym is)
-    (prefix.0, ap (λ l. l ++ (was.maker, step) ∷ []) (sym prefix.1), ap (λ l. own was.maker l) prefix.1 ∙ is_mine, refl, refl)
-told begun before after log step (Err refusal) was now come one prefix is_mine is =
-    subst (λ (k : Known Step). IsToldOf {X = DidOf Leaf} begun was step (Err refusal) k) (sym is)
-    ((prefix, is_mine, refl, refl), (one-at begun before after log step (Err refusal) come one).answered)
+    abbrev Went : Step → Type 0
+    Went step = after ≡ hall_after before step after.shared
 
--- a seat looks
-pub looks : (begun hall : HallOf) (log : Entries) (was now : SeatOf) → Rights (jamboree begun.grain) → Headlines (jamboree begun.grain) → IsComeBy begun hall.grain hall.shared log → AreSeats was.tenant was.known.mine →
-    begun.shared.newest < was.tenant → IsPrefix was.known.seen log → own was.known.maker log ≡ was.known.mine →
-    now ≡ seeing (record { maker = was.known.maker; seen = log; mine = was.known.mine }) was → IsLook begun was now
-looks begun hall log was now right headline come seats new prefix is_mine is =
-    let functions = jamboree begun.grain in
-    let nobody : tenant_in begun.shared.tenants was.tenant ≡ None = tenant_in-new begun.shared.newest was.tenant begun.shared.tenants new come.first in
-    subst (λ (s : SeatOf). IsLook begun was s) (sym is) (record {
-      kept = refl;
-      saw = (prefix, is_mine, refl, refl);
-      legal = come.legal;
-      mine = steps_are_mine was.known.maker was.tenant log was.known.mine come.owners seats is_mine;
-      alone = isolated functions begun.shared (steps_of log) was.tenant right headline come.first come.legal ∙ ap (λ o. alone_from functions o (only was.tenant (steps_of log))) nobody;
-    })
+    abbrev Comes : Entries → Type 0
+    Comes entries = IsComeBy begun after.grain after.shared entries
+
+    -- it is one at the end of the history
+    one-at : (step : Step) (answer : Answer) → Answers step answer → IsOneStep (jamboree begun.grain) (core_at begun log) step answer after.shared
+    one-at step answer one = subst (λ (x : ℕ × CoreState). IsOneStep (jamboree x.0) x.1 step answer after.shared) (λ i. (come.same i, come.core i)) one
+
+    come_more : (m : ℕ) (step : Step) (did : DidOf Leaf) → Answers step (Ok did) → Went step → IsExplained after → HasOwners (log ++ (m, step) ∷ []) →
+        before.shared.newest ≤ after.shared.newest → tenant_of step ≤ after.shared.newest → Comes (log ++ (m, step) ∷ [])
+    come_more m step did one is explained owners more within =
+        let rules = jamboree begun.grain in
+        let core = core_at begun log in
+        let at = one-at step (Ok did) one in
+        let taken = step-taken rules core step did (subst AreNumbersGiven come.core come.given) at.answered in
+        let later = come.later in
+        let IsThereIn : ℕ → CoreState → Type 0 = λ t s. IsThere (tenant_in s.tenants t) in
+        record {
+          same = ap (λ h. h.grain) is ∙ come.same;
+          core = at.left ∙ sym (ap (λ l. shared_run rules begun.shared l) (steps_of-more log m step) ∙ run-more rules begun.shared (steps_of log) step);
+          legal = rw steps_of-more (taken-more rules begun.shared (steps_of log) step come.legal (ap (λ r. refusal_in r) taken.among));
+          owners = owners;
+          upto = upto_more before.shared.newest after.shared.newest log m step come.upto more within;
+          later = omega arith;
+          first = come.first;
+          given = explained.known;
+          there = λ t stays. subst (IsThereIn t) (sym at.left) (there_more taken false (steps_of log) t (λ h. subst (IsThereIn t) come.core (come.there t h)) (rw steps_of-more at stays));
+        }
+
+    -- a step that is no Admit, by the owner of its tenant or a worker
+    pub come_offered : (m : ℕ) (mine : List Step) (step : Step) (answer : Answer) → is_admit step ≡ false → IsOfSeat mine step → own m log ≡ mine → Answers step answer → OnOk answer (Went step) →
+        OnErr answer (after ≡ before) → OnOk answer (after.shared.newest ≡ newest_after before.shared.newest step) → IsExplained after → Comes (with_taken log (m, step) answer)
+    come_offered m mine step (Ok did) other seats is_mine one is refused newest explained =
+        let rules = jamboree before.grain in
+        let core = before.shared in
+        let same : after.shared.newest ≡ core.newest = newest ∙ newest-stays core.newest step other in
+        let taken = step-taken rules core step did come.given one.answered in
+        let within = known-number core.newest (tenant_of step) core.tenants come.given (λ none. no_first rules step taken.outcome other (rw none at taken.own)) in
+        come_more m step did one is explained (owners_more m log come.owners mine step seats is_mine) (omega (arith, same)) (omega (arith, same, within))
+    come_offered m mine step (Err refusal) other seats is_mine one is refused newest explained = rw refused come
+
+    -- the Admit of a new tenant
+    pub come_admitted : (m t : ℕ) (reserve : Quota) (did : DidOf Leaf) → t ≡ before.shared.newest + 1 → Answers (Admit t reserve) (Ok did) → Went (Admit t reserve) → after.shared.newest ≡ t → IsExplained after →
+        Comes (log ++ (m, Admit t reserve) ∷ [])
+    come_admitted m t reserve did number one is newest explained =
+        let none = unmade before.shared.newest t log come.upto (omega (arith, number)) in
+        let owners = owners_admit m log come.owners t reserve none in
+        come_more m (Admit t reserve) did one is explained owners (omega (arith, number, newest)) (omega (arith, newest))
+
+    -- a seat's Leave is taken
+    pub leave_taken : (m : ℕ) (mine : List Step) (step : Step) (answer : Answer) → is_leave step ≡ true → IsOfSeat mine step → HasNoLeave mine → own m log ≡ mine → Answers step answer → answer ≡ Ok Left
+    leave_taken m mine (Leave t) answer is seats none_left is_mine one =
+        let a = seats refl in
+        let stays = seat_stays t (steps_of log) mine a.1 (Admit t a.0) (steps_are_mine m log come.owners t mine a is_mine) a.2 none_left in
+        leaves {A = LeafAnswer} (jamboree before.grain) before.shared t answer (come.there t stays) one.answered
+    leave_taken m mine _ answer is seats none_left is_mine one = absurd cc
+
+    -- what a maker knows after its step, and what it is told
+    abbrev known_after : Known Step → Step → Answer → Known Step
+    known_after k step answer = record { maker = k.maker; seen = with_taken log (k.maker, step) answer; mine = with_taken k.mine step answer }
+
+    pub told : (step : Step) (answer : Answer) (was now : Known Step) → Answers step answer → IsPrefix was.seen log → own was.maker log ≡ was.mine → now ≡ known_after was step answer →
+        IsToldOf begun was step answer now
+    told step (Ok did) was now one prefix is_mine is =
+        rw is (prefix.0, ap (λ l. l ++ (was.maker, step) ∷ []) (sym prefix.1), ap (λ l. own was.maker l) prefix.1 ∙ is_mine, refl, refl)
+    told step (Err refusal) was now one prefix is_mine is = rw is ((prefix, is_mine, refl, refl), (one-at step (Err refusal) one).answered)
+
+-- A step that is no Leave.
+module _ (step : Step) (other : is_leave step ≡ false) where
+  stay_more : (mine : List Step) → HasNoLeave mine → HasNoLeave (mine ++ step ∷ [])
+  stay_more [] h = (other, tt)
+  stay_more (s ∷ mine) h = (h.0, stay_more mine h.1)
+
+  pub no_leave_taken : {X : Type 0} (mine : List Step) (answer : Result X Refusal) → HasNoLeave mine → HasNoLeave (with_taken mine step answer)
+  no_leave_taken mine (Err refusal) h = h
+  no_leave_taken mine (Ok value) h = stay_more mine h

@@ -1,7 +1,6 @@
 mod Common
 pub mod Prefixes
 pub mod Keeping
-pub mod Offering
 pub mod Refused
 pub mod Judged
 pub mod Staying

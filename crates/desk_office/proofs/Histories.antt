@@ -91,11 +91,6 @@ pub record Follows (rules : Rules) (t : ℕ) (shared : CoreState) (own : Option 
   pub comes : tenant_in (shared_run rules shared steps).tenants t ≡ alone_from rules own mine
   pub there : IsThere (alone_from rules own mine)
 
--- a step that was taken, by which the tenant stays
-abbrev Keeps : Came → Type 0
-Keeps (Ok outcome) = IsThere outcome.0
-Keeps (Err refusal) = Unit {0}
-
 -- a step of another tenant
 by-other : (t : ℕ) (shared : CoreState) (step : Step) (came : Came) → tenant_of step ≢ t → tenant_in (shared_after shared step came).tenants t ≡ tenant_in shared.tenants t
 by-other t shared step came other = grind (arith, tenant_in_other-with_outcome)
@@ -117,15 +112,15 @@ by-own : (rules : Rules) (t : ℕ) (shared : CoreState) (own : Tenant) (step : S
 by-own rules t shared own step steps same at goes none legal go again =
     let found : tenant_in shared.tenants (tenant_of step) ≡ Some own = ap (λ n. tenant_in shared.tenants n) same ∙ at in
     let result : step_result rules shared step ≡ lone rules (Some own) step = own-result rules shared step goes.0 none ∙ ap (λ (o : Option Tenant). lone rules o step) found in
-    let r = by (lone rules (Some own) step) (ap (λ (c : Came). refusal_in c) (sym result) ∙ none) (lone_keeps rules (Some own) step goes.1) (subst (λ (c : Came). AreTaken rules (shared_after shared step c) steps) result legal) in
+    let r = by (lone rules (Some own) step) refl (ap (λ (c : Came). refusal_in c) (sym result) ∙ none) (subst (λ (c : Came). AreTaken rules (shared_after shared step c) steps) result legal) in
     record { taken = (r.0, r.1); comes = ap (λ (c : Came). tenant_in (shared_run rules (shared_after shared step c) steps).tenants t) result ∙ r.2; there = r.3 }
   where
-    by : (came : Came) → refusal_in came ≡ None → Keeps came → AreTaken rules (shared_after shared step came) steps →
+    by : (came : Came) → lone rules (Some own) step ≡ came → refusal_in came ≡ None → AreTaken rules (shared_after shared step came) steps →
         StaysTaken came × AreTakenFrom rules (state_after (Some own) came) (only t steps) × (tenant_in (shared_run rules (shared_after shared step came) steps).tenants t ≡ alone_from rules (state_after (Some own) came) (only t steps))
         × IsThere (alone_from rules (state_after (Some own) came) (only t steps))
-    by (Err refusal) none keeps legal = absurd (cc none)
-    by (Ok (None, did)) none keeps legal = absurd keeps
-    by (Ok (Some next, did)) none keeps legal =
+    by (Err refusal) is none legal = absurd (cc none)
+    by (Ok (None, did)) is none legal = absurd (lone_keeps rules (Some own) step (None, did) goes.1 is)
+    by (Ok (Some next, did)) is none legal =
         let here : tenant_in (with_outcome (tenant_of step) (Some next) shared.tenants) t ≡ Some next =
         subst (λ n. tenant_in (with_outcome (tenant_of step) (Some next) shared.tenants) n ≡ Some next) same (tenant_in-with_outcome (tenant_of step) (Some next) shared.tenants) in
         let f = again (shared_with shared step (Some next)) next here legal go in

@@ -1,140 +1,109 @@
 -- What each change of the slots does to the frames, and that the slots stay sound.
-use Rattle.std.proofs.Common.{◌≡◌, ℕ, zero, suc, ◌+◌, ◌<◌, Bool, true, false, not, ◌||◌, eqb, List, [], ◌∷◌, ◌++◌, Option, Some, None, length, get_or, set}
-use Rattle.std.proofs.Common.{slice_index, cond, refl, ap, sym, ◌∙◌, inl, inr, arith, subst, ◌≤◌, IsTrue, nat_lt, length-set}
-use Rattle.frame_tree.proofs.Common.{Slot, State, filter, remove, cases_eq, cases_Bool, false≢true, eq-eqb, ne_eqb}
-use Rattle.frame_tree.specs.Frames.{Frame, has_frame, path_in, path_under, AllBelow, is_ready, with_state, frames_without, has_parent, children_of, aborted}
-use Rattle.frame_tree.specs.Frames.{frames_under, values_of, new_frame}
-use Rattle.frame_tree.specs.Slots.{frame_of_slot, frames_from, has_parent_slot, CountsAtParent, children_at, IsNextSlot, IsLinked, has_slot, serials_of}
-use Rattle.frame_tree.specs.Slots.{AllAbove, Rises, is_serial, child_slots, ready_slots, CountsAre, AreSoundSlots, with_slot, with_child, without_child}
-use Rattle.frame_tree.specs.Slots.{kept_slots, AllCountsBelow, gone_values}
-use Rattle.frame_tree.proofs.Forest.{next_to, stays_in, AllBelow-append, AllBelow-left, AllBelow-right, has_frame-append, path_in-left, path_in-right}
-use Rattle.frame_tree.proofs.Forest.{frames_from-append, IsLinked-append, linked_rises, above_at, with_slot-set, IsClosed, Keeps-none, frames_from-kept}
-use Rattle.frame_tree.proofs.Forest.{IsLinked-kept, kept_slots-linked, kept_follows, has_slot-filter, serial_read, kept_slots-frames, gone_values-frames}
+use Rattle.frame_tree.proofs.Common.{◌≡◌, ℕ, zero, suc, ◌+◌, ◌<◌, Bool, true, false, not, ◌||◌, eqb, List, [], ◌∷◌, ◌++◌, Option, Some, None, length, get_or}
+use Rattle.frame_tree.proofs.Common.{set, slice_index, cond, refl, ap, sym, ◌∙◌, inl, inr, arith, subst, ◌≤◌, length-set, ◌-◌, Slot, State, filter, remove}
+use Rattle.frame_tree.proofs.Common.{cases_eq, false≢true, eq-eqb, ne_eqb, ready_in, Frame, has_frame, AllBelow, is_ready, with_state, frames_without}
+use Rattle.frame_tree.proofs.Common.{has_parent, children_of, aborted, frames_under, values_of, new_frame, frame_of_slot, frames_from, IsLinked, has_slot}
+use Rattle.frame_tree.proofs.Common.{serials_of, AllAbove, Rises, child_slots, ready_slots, AreSoundSlots, with_slot, with_child, without_child, kept_slots}
+use Rattle.frame_tree.proofs.Common.{AllCountsBelow, gone_values, IsSeenAt, length-map}
+use Rattle.frame_tree.specs.Slots.{has_parent_slot, CountsAtParent, children_at, IsNextSlot, is_serial, CountsAre}
+use Rattle.frame_tree.proofs.Forest.{next_to, stays_in, has_frame-append, linked_rises, above_at, with_slot-set, IsClosed, Keeps-none, frames_from-kept}
+use Rattle.frame_tree.proofs.Forest.{IsLinked-kept, kept_slots-linked, has_slot-filter, serial_read, kept_slots-frames, gone_values-frames, frames_from-push}
+use Rattle.frame_tree.proofs.Forest.{IsLinked-push, Keeps, Keeps-next, path_under-kept, has_parent-kept, abort_follows, has_frame-frames_from}
 use Rattle.frame_tree.proofs.Places.{filter_not-above, length-filter_push, length-filter-le}
 use Rattle.frame_tree.proofs.Finds.{count_in, CountsAre-same, CountsAre-append, CountsAre-with_slot, CountsAre-filter, length-filter_with_slot}
 use Rattle.frame_tree.proofs.Finds.{length-filter_set, length-filter_remove, CountsAre-with_child, CountsAre-without_child, no_child_of_new, no_child_stays}
-use Rattle.frame_tree.proofs.Finds.{children_stay, counts_below, counted_at, root_under-path, children_of-length, frames_from-length, no_children}
-use Rattle.frame_tree.proofs.Finds.{none_of_length}
-use Rattle.frame_tree.specs.SlotStores.{IsSeenAt, new_slot}
+use Rattle.frame_tree.proofs.Finds.{children_stay, counts_below, counted_at, root_under-path, children_of-length, frames_from-length, none_of_length}
+use Rattle.frame_tree.specs.SlotStores.{new_slot}
+use Rattle.frame_tree.proofs.TreeLaws.{missing}
 
--- a change that no frame shows
-pub frames_from-with_slot : {T : Type 0} (p : ℕ) (change : Slot T → Slot T) (frames : List (Frame T)) (xs : List (Slot T)) →
-    ((fs : List (Frame T)) (x : Slot T) → frame_of_slot fs (change x) ≡ frame_of_slot fs x) → frames_from frames (with_slot p change xs) ≡ frames_from frames xs
-frames_from-with_slot p change frames [] e = refl
-frames_from-with_slot p change frames (x ∷ xs) e = grind (arith, frames_from-with_slot p change (next_to frames x) xs e)
+-- a change that keeps the serial, parent and root of each slot
+module _ {T : Type 0} (n : ℕ) (change : Slot T → Slot T) (serial : (x : Slot T) → (change x).serial ≡ x.serial)
+    (parent : (x : Slot T) → (change x).parent ≡ x.parent) (root : (x : Slot T) → (change x).root ≡ x.root) where
+  pub IsLinked-with_slot : (frames others : List (Frame T)) (xs : List (Slot T)) → Keeps (λ p. true) frames others → IsLinked frames xs →
+      IsLinked others (with_slot n change xs)
+  IsLinked-with_slot frames others [] k l = tt
+  IsLinked-with_slot frames others (x ∷ xs) k l =
+      let rest = λ (y : Slot T). IsLinked-with_slot (next_to frames x) (others ++ frame_of_slot others y ∷ []) xs in
+      grind (arith, rest x, rest (change x), serial x, parent x, root x, path_under-kept, has_parent-kept, Keeps-next)
 
-pub IsNextSlot-with : {T : Type 0} (frames : List (Frame T)) (x y : Slot T) → y.serial ≡ x.serial → y.parent ≡ x.parent → y.root ≡ x.root → IsNextSlot frames x → IsNextSlot frames y
-IsNextSlot-with frames x y serial parent root n = grind arith
+-- the same slots, with other counts of children
+pub record IsRecounted {T : Type 0} (xs ys : List (Slot T)) : Type 0 where
+  pub frames : frames_from [] ys ≡ frames_from [] xs
+  pub linked : IsLinked [] xs → IsLinked [] ys
+  pub chosen : (test : Slot T → Bool) → ((x : Slot T) (k : ℕ) → test (record x { children = k }) ≡ test x) → length (filter test ys) ≡ length (filter test xs)
+  pub serials : serials_of ys ≡ serials_of xs
+  pub long : length ys ≡ length xs
+  pub ready : ready_in ys ≡ ready_in xs
 
--- slots are linked as before
-pub IsLinked-with_slot : {T : Type 0} (p : ℕ) (change : Slot T → Slot T) (frames : List (Frame T)) (xs : List (Slot T)) →
-    ((fs : List (Frame T)) (x : Slot T) → frame_of_slot fs (change x) ≡ frame_of_slot fs x) → ((x : Slot T) → (change x).parent ≡ x.parent) →
-    ((x : Slot T) → (change x).root ≡ x.root) → IsLinked frames xs → IsLinked frames (with_slot p change xs)
-IsLinked-with_slot p change frames [] e parent root l = tt
-IsLinked-with_slot {T} p change frames (x ∷ xs) e parent root l =
-    let rest = IsLinked-with_slot p change (next_to frames x) xs e parent root l.1 in
-    let P : Frame T → Type 0 = λ f. IsLinked (frames ++ f ∷ []) (with_slot p change xs) in
-    elim (cases_Bool (eqb x.serial p)) [
-      | inl same ↦ rw same (IsNextSlot-with frames x (change x) (ap (λ f. f.serial) (e frames x)) (parent x) (root x) l.0, subst P (sym (e frames x)) rest)
-      | inr differs ↦ rw differs (l.0, rest)
-    ]
+-- one count was changed
+module _ {T : Type 0} (n : ℕ) (count : ℕ → ℕ) where
+  abbrev recounted : Slot T → Slot T
+  recounted x = record x { children = count x.children }
 
--- one more child of a parent
-pub frames_from-with_child : {T : Type 0} (parent : Option ℕ) (xs : List (Slot T)) → frames_from [] (with_child parent xs) ≡ frames_from [] xs
-frames_from-with_child None xs = refl
-frames_from-with_child (Some p) xs = frames_from-with_slot p (λ s. record s { children = s.children + 1 }) [] xs (λ fs x. refl)
+  frames_same : (frames : List (Frame T)) (xs : List (Slot T)) → frames_from frames (with_slot n recounted xs) ≡ frames_from frames xs
+  frames_same frames [] = refl
+  frames_same frames (x ∷ xs) = grind (arith, frames_same (next_to frames x) xs)
 
-module _ {T : Type 0} (parent : Option ℕ) (xs : List (Slot T)) where
-  pub IsLinked-with_child : IsLinked [] xs → IsLinked [] (with_child parent xs)
-  IsLinked-with_child h3 = grind (arith, IsLinked-with_slot)
+  serials_same : (xs : List (Slot T)) → serials_of (with_slot n recounted xs) ≡ serials_of xs
+  serials_same [] = refl
+  serials_same (x ∷ xs) = grind (arith, serials_same xs)
 
-  pub count-with_child : (n : ℕ) → count_in (with_child parent xs) n ≡ count_in xs n
-  count-with_child n = grind (arith, length-filter_with_slot)
+  ready_same : (xs : List (Slot T)) → ready_in (with_slot n recounted xs) ≡ ready_in xs
+  ready_same [] = refl
+  ready_same (x ∷ xs) = grind (arith, ready_same xs)
 
-  pub ready-with_child : length (ready_slots (with_child parent xs)) ≡ length (ready_slots xs)
-  ready-with_child = grind (arith, length-filter_with_slot)
+  pub recount : (xs : List (Slot T)) → IsRecounted xs (with_slot n recounted xs)
+  recount xs = record {
+    frames = frames_same [] xs;
+    linked = IsLinked-with_slot n recounted (λ x. refl) (λ x. refl) (λ x. refl) [] [] xs (Keeps-none (λ p. true));
+    chosen = λ test e. length-filter_with_slot test n recounted xs (λ x. e x (count x.children));
+    serials = serials_same xs;
+    long = sym (length-map (with_slot n recounted xs) (λ x. x.serial)) ∙ (ap length (serials_same xs) ∙ length-map xs (λ x. x.serial));
+    ready = ready_same xs;
+  }
 
-  -- one child less of a parent
-  pub frames_from-without_child : frames_from [] (without_child parent xs) ≡ frames_from [] xs
-  frames_from-without_child = grind (arith, frames_from-with_slot)
+-- no count was changed, or one at a parent
+module _ {T : Type 0} where
+  recount_none : (xs : List (Slot T)) → IsRecounted xs xs
+  recount_none xs = record { frames = refl; linked = λ l. l; chosen = λ test e. refl; serials = refl; long = refl; ready = refl }
 
-  pub IsLinked-without_child : IsLinked [] xs → IsLinked [] (without_child parent xs)
-  IsLinked-without_child h3 = grind (arith, IsLinked-with_slot)
+  pub recount_more : (parent : Option ℕ) (xs : List (Slot T)) → IsRecounted xs (with_child parent xs)
+  recount_more None xs = recount_none xs
+  recount_more (Some p) xs = recount p (λ k. k + 1) xs
 
-  pub count-without_child : (n : ℕ) → count_in (without_child parent xs) n ≡ count_in xs n
-  count-without_child n = grind (arith, length-filter_with_slot)
-
-  pub ready-without_child : length (ready_slots (without_child parent xs)) ≡ length (ready_slots xs)
-  ready-without_child = grind (arith, length-filter_with_slot)
-
--- a new slot at the end
-pub sound_add : {T : Type 0} (xs : List (Slot T)) (ready : ℕ) (slot : Slot T) → AreSoundSlots xs ready → IsNextSlot (frames_from [] xs) slot →
-    slot.children ≡ 0 → is_ready slot.state ≡ true → AreSoundSlots (with_child slot.parent xs ++ slot ∷ []) (ready + 1)
-sound_add {T} xs ready slot s next none is =
-    let ys = with_child slot.parent xs in
-    let frames : frames_from [] ys ≡ frames_from [] xs = frames_from-with_child slot.parent xs in
-    let P : List (Frame T) → Type 0 = λ fs. IsNextSlot fs slot in
-    let count : (n : ℕ) → count_in (ys ++ slot ∷ []) n ≡ count_in xs n + cond (is_serial n slot.parent) 1 0 = λ n. length-filter_push (λ x. is_serial n x.parent) ys slot ∙ ap (λ k. k + cond (is_serial n slot.parent) 1 0) (count-with_child slot.parent xs n) in
-    record {
-      linked = IsLinked-append [] ys (slot ∷ []) (IsLinked-with_child slot.parent xs s.linked) (subst P (sym frames) next, tt);
-      counted = CountsAre-append _ ys (slot ∷ [])
-          (CountsAre-same (λ n. count_in xs n + cond (is_serial n slot.parent) 1 0) (λ n. count_in (ys ++ slot ∷ []) n) ys (λ n. sym (count n)) (CountsAre-with_child (λ n. count_in xs n) slot.parent xs s.counted))
-          (none ∙ sym (count slot.serial ∙ no_child_of_new xs slot.serial slot.parent s.linked next.above next.parent), tt);
-      ready_count = (let push = length-filter_push (λ x. is_ready x.state) ys slot in let e = rw is at push in let r = ready-with_child slot.parent xs in omega (arith, e, r, s.ready_count));
-    }
-
--- frames that are as before to those under them
-pub record Same {T : Type 0} (frames others : List (Frame T)) : Type 0 where
-  pub paths : (p : ℕ) → path_in others p ≡ path_in frames p
-  pub has : (p : ℕ) → has_frame others p ≡ has_frame frames p
-  pub below : (m : ℕ) → AllBelow m frames → AllBelow m others
-
-pub Same-none : {T : Type 0} → Same {T = T} [] []
-Same-none = record { paths = λ p. refl; has = λ p. refl; below = λ m b. b }
-
-module _ {T : Type 0} (frames others : List (Frame T)) where
-  pub Same-next : (x y : Frame T) → x.serial ≡ y.serial → x.path ≡ y.path → Same frames others → Same (frames ++ x ∷ []) (others ++ y ∷ [])
-  Same-next x y serial path s = grind (arith, has_frame-append, AllBelow-append, AllBelow-left, AllBelow-right, path_in-left, path_in-right)
-
-  pub path_under-same : (parent : Option ℕ) (serial : ℕ) → Same frames others → path_under others parent serial ≡ path_under frames parent serial
-  path_under-same parent serial h5 = grind arith
-
-  pub has_parent-same : (parent : Option ℕ) → Same frames others → has_parent others parent ≡ has_parent frames parent
-  has_parent-same parent h4 = grind arith
+  pub recount_less : (parent : Option ℕ) (xs : List (Slot T)) → IsRecounted xs (without_child parent xs)
+  recount_less None xs = recount_none xs
+  recount_less (Some p) xs = recount p (λ k. k - 1) xs
 
 -- the slot of a frame in another state
 abbrev pub in_state : {T : Type 0} → State → Slot T → Slot T
 in_state state slot = record slot { state = state }
 
 -- frames in another state
-module _ {T : Type 0} (n : ℕ) (state : State) where
-  pub frames_from-state : (frames others : List (Frame T)) (xs : List (Slot T)) → Same frames others → frames_from others (with_slot n (in_state state) xs) ≡ with_state n state (frames_from frames xs)
-  frames_from-state frames others [] s = refl
-  frames_from-state frames others (x ∷ xs) s =
-      let rest = λ (y : Slot T). frames_from-state (next_to frames x) (others ++ frame_of_slot others y ∷ []) xs in
-      grind (arith, rest x, rest (in_state state x), path_under-same, Same-next)
-
-  pub IsLinked-state : (frames others : List (Frame T)) (xs : List (Slot T)) → Same frames others → IsLinked frames xs → IsLinked others (with_slot n (in_state state) xs)
-  IsLinked-state frames others [] s l = tt
-  IsLinked-state frames others (x ∷ xs) s l =
-      let rest = λ (y : Slot T). IsLinked-state (next_to frames x) (others ++ frame_of_slot others y ∷ []) xs in
-      grind (arith, rest x, rest (in_state state x), path_under-same, has_parent-same, Same-next)
+pub frames_from-state : {T : Type 0} (n : ℕ) (state : State) (frames others : List (Frame T)) (xs : List (Slot T)) → Keeps (λ p. true) frames others →
+    frames_from others (with_slot n (in_state state) xs) ≡ with_state n state (frames_from frames xs)
+frames_from-state n state frames others [] k = refl
+frames_from-state {T} n state frames others (x ∷ xs) k =
+    let rest = λ (y : Slot T). frames_from-state n state (next_to frames x) (others ++ frame_of_slot others y ∷ []) xs in
+    grind (arith, rest x, rest (in_state state x), path_under-kept, Keeps-next)
 
 -- the slot that was read, in another state
 module _ {T : Type 0} {xs : List (Slot T)} {ready i n : ℕ} {slot : Slot T} (s : AreSoundSlots xs ready) (seen : IsSeenAt xs n i slot) where
   seen_set : (change : Slot T → Slot T) → set xs i (change slot) ≡ with_slot n change xs
-  seen_set change = with_slot-set xs i n change slot (linked_rises [] xs s.linked) seen.within seen.named seen.read
+  seen_set change = with_slot-set xs i n change slot (linked_rises [] xs s.linked) seen
 
   -- the counts of ready slots before and after
-  pub ready_state : (state : State) → length (ready_slots (set xs i (in_state state slot))) + cond (is_ready slot.state) 1 0 ≡ length (ready_slots xs) + cond (is_ready state) 1 0
+  pub ready_state : (state : State) →
+      length (ready_slots (set xs i (in_state state slot))) + cond (is_ready slot.state) 1 0 ≡ length (ready_slots xs) + cond (is_ready state) 1 0
   ready_state state = length-filter_set (λ x. is_ready x.state) xs i slot (in_state state slot) seen.within seen.read
 
-  pub sound_state : (state : State) (now : ℕ) → now + cond (is_ready slot.state) 1 0 ≡ ready + cond (is_ready state) 1 0 → AreSoundSlots (set xs i (in_state state slot)) now
+  pub sound_state : (state : State) (now : ℕ) → now + cond (is_ready slot.state) 1 0 ≡ ready + cond (is_ready state) 1 0 →
+      AreSoundSlots (set xs i (in_state state slot)) now
   sound_state state now count =
       let P : List (Slot T) → Type 0 = λ ys. IsLinked [] ys in
       let Q : List (Slot T) → Type 0 = λ ys. CountsAre (λ m. count_in ys m) ys in
       record {
-        linked = subst P (sym (seen_set (in_state state))) (IsLinked-state n state [] [] xs Same-none s.linked);
+        linked = subst P (sym (seen_set (in_state state))) (IsLinked-with_slot n (in_state state) (λ x. refl) (λ x. refl) (λ x. refl) [] [] xs (Keeps-none (λ p. true)) s.linked);
         counted = subst Q (sym (seen_set (in_state state))) (CountsAre-with_slot (λ m. count_in xs m) (λ m. count_in (with_slot n (in_state state) xs) m) n (in_state state) xs
             (λ x. refl) (λ x e has. has ∙ sym (same_count n)) (λ m ne. sym (same_count m)) s.counted);
         ready_count = omega (arith, ready_state state, count, s.ready_count);
@@ -144,44 +113,15 @@ module _ {T : Type 0} {xs : List (Slot T)} {ready i n : ℕ} {slot : Slot T} (s 
       same_count m = length-filter_with_slot (λ x. is_serial m x.parent) n (in_state state) xs (λ x. refl)
 
   pub frames_state : (state : State) → frames_from [] (set xs i (in_state state slot)) ≡ with_state n state (frames_from [] xs)
-  frames_state state = rw (seen_set (in_state state)) (frames_from-state n state [] [] xs Same-none)
+  frames_state state = rw (seen_set (in_state state)) (frames_from-state n state [] [] xs (Keeps-none (λ p. true)))
 
--- an abort: the aborted frame's count is cleared, and then the others go
+-- the slot of a frame with no child counted
 abbrev pub childless : {T : Type 0} → Slot T → Slot T
 childless slot = record slot { children = 0 }
 
-module _ {T : Type 0} (n : ℕ) (xs : List (Slot T)) where
-  pub cleared-linked : IsLinked [] xs → IsLinked [] (with_slot n childless xs)
-  cleared-linked l = IsLinked-with_slot n childless [] xs (λ fs x. refl) (λ x. refl) (λ x. refl) l
-
-  pub cleared-frames : frames_from [] (with_slot n childless xs) ≡ frames_from [] xs
-  cleared-frames = frames_from-with_slot n childless [] xs (λ fs x. refl)
-
-  pub cleared-counts : CountsAre (λ m. count_in xs m) xs → CountsAre (λ m. cond (eqb m n) 0 (count_in (with_slot n childless xs) m)) (with_slot n childless xs)
-  cleared-counts c =
-      CountsAre-with_slot (λ m. count_in xs m) (λ m. cond (eqb m n) 0 (count_in (with_slot n childless xs) m)) n childless xs (λ x. refl)
-      (λ x e has. rw (eq-eqb n n refl) refl)
-      (λ m ne. rw (ne_eqb m n ne) (sym (length-filter_with_slot (λ x. is_serial m x.parent) n childless xs (λ x. refl)))) c
-
-  pub sound_cut : (ys : List (Slot T)) (ready now : ℕ) → AreSoundSlots xs ready → ys ≡ with_slot n childless xs → now ≡ length (ready_slots (kept_slots n ys)) → AreSoundSlots (kept_slots n ys) now
-  sound_cut ys ready now s is count =
-      let P : List (Slot T) → Type 0 = λ zs. IsLinked [] zs in
-      let linked : IsLinked [] ys = subst P (sym is) (cleared-linked s.linked) in
-      let Q : List (Slot T) → Type 0 = λ zs. CountsAre (λ m. cond (eqb m n) 0 (count_in zs m)) zs in
-      let counts : CountsAre (λ m. cond (eqb m n) 0 (count_in ys m)) ys = subst Q (sym is) (cleared-counts s.counted) in
-      let follows = kept_follows n (frames_from [] ys) [] ys refl linked tt in
-      record {
-        linked = kept_slots-linked n ys linked;
-        counted = CountsAre-filter (λ m. cond (eqb m n) 0 (count_in ys m)) (λ m. count_in (kept_slots n ys) m) (stays_in n ys) ys
-            (λ m kept. elim (cases_eq m n) [
-              | inl e ↦ rw (eq-eqb m n e, e) (sym (no_child_stays (stays_in n ys) n ys follows))
-              | inr ne ↦ rw (ne_eqb m n ne) (sym (children_stay (stays_in n ys) n m ys follows ne kept))
-            ]) counts;
-        ready_count = count;
-      }
-
 -- a removal is a filter
-pub remove-filter : {T : Type 0} (xs : List (Slot T)) (i n : ℕ) → Rises xs → i < length xs → slice_index (serials_of xs) i ≡ n → remove xs i ≡ filter (λ x. not (eqb x.serial n)) xs
+pub remove-filter : {T : Type 0} (xs : List (Slot T)) (i n : ℕ) → Rises xs → i < length xs → slice_index (serials_of xs) i ≡ n →
+    remove xs i ≡ filter (λ x. not (eqb x.serial n)) xs
 remove-filter [] i n r lt at = absurd (omega arith)
 remove-filter (x ∷ xs) zero n r lt at =
     rw (eq-eqb x.serial n at) (sym (filter_not-above (λ s. s.serial) n xs (let P : ℕ → Type 0 = λ s. AllAbove s xs in subst P at r.0)))
@@ -198,7 +138,6 @@ pub record HasLost {T : Type 0} (xs ys : List (Slot T)) (slot : Slot T) : Type 0
   pub linked : IsLinked [] ys
   pub counted : CountsAre (λ m. count_in xs m) ys
   pub counts : (m : ℕ) → count_in ys m + cond (is_serial m slot.parent) 1 0 ≡ count_in xs m
-  pub ready : length (ready_slots ys) + cond (is_ready slot.state) 1 0 ≡ length (ready_slots xs)
   pub parent : has_parent_slot ys slot.parent ≡ true
 
 -- what is below all of a list's bound
@@ -224,61 +163,86 @@ lost_counted xs ys slot h = grind (arith, children_at-counts)
 
 -- What the methods of a tenant's frames need, over plain lists.
 
--- whether there is a child, by the count that is kept
-module _ {T : Type 0} {xs : List (Slot T)} {ready i n : ℕ} {slot : Slot T} (s : AreSoundSlots xs ready) (seen : IsSeenAt xs n i slot) where
-  pub counted_children : (IsTrue (nat_lt 0 slot.children) → 0 < length (children_of (frames_from [] xs) n)) × (0 < length (children_of (frames_from [] xs) n) → IsTrue (nat_lt 0 slot.children))
-  counted_children = grind (arith, counted_at, children_of-length)
+-- how many children there are, by the count that is kept
+pub counted_children : {T : Type 0} {xs : List (Slot T)} {ready i n : ℕ} {slot : Slot T} → AreSoundSlots xs ready → IsSeenAt xs n i slot →
+    slot.children ≡ length (children_of (frames_from [] xs) n)
+counted_children {xs = xs} {n = n} s seen = counted_at (λ m. count_in xs m) xs _ _ _ s.counted seen ∙ sym (children_of-length xs n s.linked)
 
-  pub counted_leaf : nat_lt 0 slot.children ≡ false → children_of (frames_from [] xs) n ≡ []
-  counted_leaf none = grind (arith, counted_at, children_of-length, none_of_length)
-
--- where there is no slot, there is none
-module _ {T : Type 0} {xs : List (Slot T)} {ready : ℕ} (serial : ℕ) (s : AreSoundSlots xs ready) (none : has_slot xs serial ≡ false) where
-  pub no_counted_leaf : children_of (frames_from [] xs) serial ≡ []
-  no_counted_leaf = none_of_length (children_of (frames_from [] xs) serial) (children_of-length xs serial s.linked ∙ ap length (no_children [] xs serial refl none s.linked))
-
-  pub no_counted_children : (IsTrue false → 0 < length (children_of (frames_from [] xs) serial)) × (0 < length (children_of (frames_from [] xs) serial) → IsTrue false)
-  no_counted_children = (λ t. absurd (false≢true t), λ h. absurd (omega (arith, h, ap length no_counted_leaf)))
+-- and where there is no slot
+pub no_slot_children : {T : Type 0} (xs : List (Slot T)) (serial : ℕ) → has_slot xs serial ≡ false → children_of (frames_from [] xs) serial ≡ []
+no_slot_children xs serial none = rw (missing (frames_from [] xs) serial (has_frame-frames_from [] xs serial ∙ none)) refl
 
 -- no count reaches the places that there can be, and what a frame that was added leaves
 module _ {T : Type 0} {xs : List (Slot T)} {ready : ℕ} (s : AreSoundSlots xs ready) where
   pub few_counts : (limit : ℕ) → length (frames_from [] xs) < limit → AllCountsBelow limit xs
   few_counts limit few = grind (arith, frames_from-length, counts_below, length-filter-le)
 
+  -- a new slot at the end
   pub added_sound : (serial home : ℕ) (parent : Option ℕ) (value : T) → AllBelow serial (frames_from [] xs) → has_parent (frames_from [] xs) parent ≡ true →
       AreSoundSlots (with_child parent xs ++ new_slot xs serial parent home value ∷ []) (ready + 1)
   added_sound serial home parent value above there =
-      sound_add xs ready (new_slot xs serial parent home value) s (record { above = above; parent = there; root = root_under-path xs parent serial s.linked there }) refl refl
+      let slot = new_slot xs serial parent home value in
+      let ys = with_child parent xs in
+      let same = recount_more parent xs in
+      let next : IsNextSlot (frames_from [] xs) slot = record { above = above; parent = there; root = root_under-path xs parent serial s.linked there } in
+      let one : ℕ → ℕ = λ n. cond (is_serial n parent) 1 0 in
+      let old : ℕ → ℕ = λ n. count_in xs n + one n in
+      let now : ℕ → ℕ = λ n. count_in (ys ++ slot ∷ []) n in
+      let count : (n : ℕ) → now n ≡ old n =
+      λ n. length-filter_push (λ x. is_serial n x.parent) ys slot ∙ ap (λ k. k + one n) (same.chosen (λ x. is_serial n x.parent) (λ x k. refl)) in
+      let kept = CountsAre-same old now ys (λ n. sym (count n)) (CountsAre-with_child (λ n. count_in xs n) parent xs s.counted) in
+      let more : length (ready_slots (ys ++ slot ∷ [])) ≡ length (ready_slots ys) + 1 = length-filter_push (λ x. is_ready x.state) ys slot in
+      record {
+        linked = IsLinked-push [] ys slot (same.linked s.linked) (subst (λ (fs : List (Frame T)). IsNextSlot fs slot) (sym same.frames) next);
+        counted = CountsAre-append now ys (slot ∷ []) kept (sym (count serial ∙ no_child_of_new xs serial parent s.linked above there), tt);
+        ready_count = omega (arith, more, same.chosen (λ x. is_ready x.state) (λ x k. refl), s.ready_count);
+      }
 
 module _ {T : Type 0} (xs : List (Slot T)) (serial : ℕ) where
   pub added_frames : (home : ℕ) (parent : Option ℕ) (value : T) → frames_from [] (with_child parent xs ++ new_slot xs serial parent home value ∷ []) ≡ frames_from [] xs ++ new_frame (frames_from [] xs) serial parent home value ∷ []
-  added_frames home parent value = grind (arith, frames_from-with_child, frames_from-append)
+  added_frames home parent value = rw (frames_from-push [] (with_child parent xs) (new_slot xs serial parent home value), (recount_more parent xs).frames) refl
 
   -- a leaf has no child slot
   pub leaf_slots : IsLinked [] xs → children_of (frames_from [] xs) serial ≡ [] → child_slots serial xs ≡ []
   leaf_slots l none = none_of_length (child_slots serial xs) (sym (children_of-length xs serial l) ∙ ap length none)
 
--- an abort at the slot that was read
+-- an abort at the slot that was read: its count is cleared, and then the others go
 module _ {T : Type 0} {xs : List (Slot T)} {ready i n : ℕ} {slot : Slot T} (s : AreSoundSlots xs ready) (seen : IsSeenAt xs n i slot) where
   changed : set xs i (childless slot) ≡ with_slot n childless xs
   changed = seen_set s seen childless
 
+  pub cleared : IsRecounted xs (set xs i (childless slot))
+  cleared = subst (λ (ys : List (Slot T)). IsRecounted xs ys) (sym changed) (recount n (λ k. 0) xs)
+
   pub cut_linked : IsLinked [] (set xs i (childless slot))
-  cut_linked = let P : List (Slot T) → Type 0 = λ ys. IsLinked [] ys in subst P (sym changed) (cleared-linked n xs s.linked)
+  cut_linked = cleared.linked s.linked
 
-  pub cut_sound : (now : ℕ) (zs : List (Slot T)) → zs ≡ kept_slots n (set xs i (childless slot)) → now ≡ length (ready_slots zs) → AreSoundSlots zs now
-  cut_sound now zs kept count =
-      let P : List (Slot T) → Type 0 = λ ws. AreSoundSlots ws now in
-      subst P (sym kept) (sound_cut n xs (set xs i (childless slot)) ready now s changed (count ∙ ap (λ ws. length (ready_slots ws)) kept))
+  pub cut_sound : AreSoundSlots (kept_slots n (set xs i (childless slot))) (length (ready_slots (kept_slots n (set xs i (childless slot)))))
+  cut_sound =
+      let ys : List (Slot T) = set xs i (childless slot) in
+      let same : (m : ℕ) → count_in ys m ≡ count_in xs m = λ m. cleared.chosen (λ x. is_serial m x.parent) (λ x k. refl) in
+      let left : ℕ → ℕ = λ m. cond (eqb m n) 0 (count_in ys m) in
+      let counts : CountsAre left ys = subst (λ (zs : List (Slot T)). CountsAre left zs) (sym changed) (CountsAre-with_slot (λ m. count_in xs m) left n childless xs
+      (λ x. refl) (λ x e has. rw (eq-eqb n n refl) refl) (λ m ne. rw (ne_eqb m n ne) (sym (same m))) s.counted) in
+      let follows = abort_follows n ys cut_linked in
+      record {
+        linked = kept_slots-linked n ys cut_linked;
+        counted = CountsAre-filter left (λ m. count_in (kept_slots n ys) m) (stays_in n ys) ys
+            (λ m kept. elim (cases_eq m n) [
+              | inl e ↦ rw (eq-eqb m n e, e) (sym (no_child_stays (stays_in n ys) n ys follows))
+              | inr ne ↦ rw (ne_eqb m n ne) (sym (children_stay (stays_in n ys) n m ys follows ne kept))
+            ]) counts;
+        ready_count = refl;
+      }
 
-  pub cut_frames : (zs : List (Slot T)) → zs ≡ kept_slots n (set xs i (childless slot)) → frames_from [] zs ≡ aborted n (frames_from [] xs)
-  cut_frames zs kept = rw (kept, changed) (kept_slots-frames n (with_slot n childless xs) (cleared-linked n xs s.linked) ∙ ap (λ fs. aborted n fs) (cleared-frames n xs))
+  pub cut_frames : frames_from [] (kept_slots n (set xs i (childless slot))) ≡ aborted n (frames_from [] xs)
+  cut_frames = kept_slots-frames n (set xs i (childless slot)) cut_linked ∙ ap (λ fs. aborted n fs) cleared.frames
 
   pub cut_values : gone_values n (set xs i (childless slot)) ≡ values_of (frames_under n (frames_from [] xs))
-  cut_values = rw changed (gone_values-frames n (with_slot n childless xs) (cleared-linked n xs s.linked) ∙ ap (λ fs. values_of (frames_under n fs)) (cleared-frames n xs))
+  cut_values = gone_values-frames n (set xs i (childless slot)) cut_linked ∙ ap (λ fs. values_of (frames_under n fs)) cleared.frames
 
-  pub cut_length : (zs : List (Slot T)) → zs ≡ kept_slots n (set xs i (childless slot)) → length zs ≤ length xs
-  cut_length zs kept = grind (arith, length-filter-le, length-set)
+  pub cut_length : length (kept_slots n (set xs i (childless slot))) ≤ length xs
+  cut_length = grind (arith, length-filter-le, length-set)
 
 -- a leaf that was removed, and what it leaves
 module _ {T : Type 0} {xs : List (Slot T)} {ready i n : ℕ} {slot : Slot T} (s : AreSoundSlots xs ready) (seen : IsSeenAt xs n i slot)
@@ -301,7 +265,6 @@ module _ {T : Type 0} {xs : List (Slot T)} {ready i n : ℕ} {slot : Slot T} (s 
         linked = subst P (sym gone) (IsLinked-kept keep [] [] xs (Keeps-none keep) closed s.linked);
         counted = subst Q (sym gone) (CountsAre-filter (λ m. count_in xs m) (λ m. count_in xs m) keep xs (λ m kept. refl) s.counted);
         counts = λ m. length-filter_remove (λ x. is_serial m x.parent) xs i slot seen.within seen.read;
-        ready = length-filter_remove (λ x. is_ready x.state) xs i slot seen.within seen.read;
         parent = rw gone (parent_stays slot.parent refl);
       }
     where
@@ -314,30 +277,34 @@ module _ {T : Type 0} {xs : List (Slot T)} {ready i n : ℕ} {slot : Slot T} (s 
   pub lost_sound : AreSoundSlots (without_child slot.parent (remove xs i)) (length (ready_slots (remove xs i)))
   lost_sound =
       let ys = remove xs i in
+      let same = recount_less slot.parent ys in
+      let now : ℕ → ℕ = λ m. count_in (without_child slot.parent ys) m in
       record {
-        linked = IsLinked-without_child slot.parent ys lost.linked;
-        counted = CountsAre-same (λ m. count_in ys m) (λ m. count_in (without_child slot.parent ys) m) (without_child slot.parent ys) (λ m. sym (count-without_child slot.parent ys m))
+        linked = same.linked lost.linked;
+        counted = CountsAre-same (λ m. count_in ys m) now (without_child slot.parent ys) (λ m. sym (same.chosen (λ x. is_serial m x.parent) (λ x k. refl)))
             (CountsAre-without_child (λ m. count_in xs m) (λ m. count_in ys m) slot.parent ys lost.counts lost.counted);
-        ready_count = sym (ready-without_child slot.parent ys);
+        ready_count = sym (same.chosen (λ x. is_ready x.state) (λ x k. refl));
       }
 
   pub lost_frames : frames_from [] (without_child slot.parent (remove xs i)) ≡ frames_without n (frames_from [] xs)
-  lost_frames = frames_from-without_child slot.parent (remove xs i) ∙ lost.frames ∙ ap (λ m. frames_without m (frames_from [] xs)) own
+  lost_frames = (recount_less slot.parent (remove xs i)).frames ∙ lost.frames ∙ ap (λ m. frames_without m (frames_from [] xs)) own
 
 -- a serial above the last slot's is above all
-pub last_below : {T : Type 0} (frames : List (Frame T)) (xs : List (Slot T)) (i n : ℕ) (slot : Slot T) → IsLinked frames xs → length xs ≡ i + 1 → slot ≡ get_or xs i slot → slot.serial < n → AllBelow n (frames_from frames xs)
+pub last_below : {T : Type 0} (frames : List (Frame T)) (xs : List (Slot T)) (i n : ℕ) (slot : Slot T) → IsLinked frames xs → length xs ≡ i + 1 →
+    slot ≡ get_or xs i slot → slot.serial < n → AllBelow n (frames_from frames xs)
 last_below frames [] i n slot l long is lt = absurd (omega (arith, long))
-last_below frames (x ∷ []) zero n slot l long is lt = (let e = ap (λ s. s.serial) is in omega (arith, e, lt), tt)
-last_below frames (x ∷ []) (suc i) n slot l long is lt = absurd (omega (arith, long))
-last_below frames (x ∷ y ∷ xs) zero n slot l long is lt = absurd (omega (arith, long))
-last_below frames (x ∷ y ∷ xs) (suc i) n slot l long is lt =
-    let rise = linked_rises frames (x ∷ y ∷ xs) l in
-    let within : i < length (y ∷ xs) = omega (arith, long) in
-    let above = above_at (y ∷ xs) x.serial i rise.0 within in
-    let e = serial_read (y ∷ xs) i slot within is in
-    (omega (arith, above, e, lt), last_below (next_to frames x) (y ∷ xs) i n slot l.1 (omega (arith, long)) is lt)
+last_below frames (x ∷ xs) zero n slot l long is lt =
+    let none = none_of_length xs (omega (arith, long)) in
+    let e = ap (λ s. s.serial) is in
+    rw none (omega (arith, e, lt), tt)
+last_below frames (x ∷ xs) (suc i) n slot l long is lt =
+    let within : i < length xs = omega (arith, long) in
+    let above = above_at xs x.serial i (linked_rises frames (x ∷ xs) l).0 within in
+    let e = serial_read xs i slot within is in
+    (omega (arith, above, e, lt), last_below (next_to frames x) xs i n slot l.1 (omega (arith, long)) is lt)
 
-pub below_at : {T : Type 0} (frames : List (Frame T)) (xs : List (Slot T)) (i n : ℕ) (slot : Slot T) → i < length xs → slot ≡ get_or xs i slot → AllBelow n (frames_from frames xs) → slot.serial < n
+pub below_at : {T : Type 0} (frames : List (Frame T)) (xs : List (Slot T)) (i n : ℕ) (slot : Slot T) → i < length xs → slot ≡ get_or xs i slot →
+    AllBelow n (frames_from frames xs) → slot.serial < n
 below_at frames [] i n slot lt is below = absurd (omega arith)
 below_at frames (x ∷ xs) zero n slot lt is below = let e = ap (λ s. s.serial) is in omega (arith, e, below.0)
 below_at frames (x ∷ xs) (suc i) n slot lt is below = below_at (next_to frames x) xs i n slot (omega arith) is below.1

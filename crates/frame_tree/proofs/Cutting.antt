@@ -1,15 +1,15 @@
 -- A slot store of which some slots went.
-use Rattle.std.proofs.Common.{◌≡◌, ◌≢◌, ℕ, zero, suc, ◌+◌, ◌<◌, ◌≤◌, Bool, true, false, not, ◌||◌, eqb, List, [], ◌∷◌, ◌++◌, Option, Some, None, IsSome}
-use Rattle.std.proofs.Common.{get_or, slice_index, take, length, append-nil, map, refl, ap, sym, ◌∙◌, inl, inr, arith, subst}
-use Rattle.frame_tree.proofs.Common.{StoredSlot, has_number, filter-append, filter, remove, Slot as TenantSlot, Slab, get, slab_len, cases_eq, cases_Bool}
-use Rattle.frame_tree.proofs.Common.{false≢true, eq-eqb, ne_eqb, not-true, or_right, eqb-true, frames_from, IsLinked, kept_slots, gone_values, child_slots}
-use Rattle.frame_tree.proofs.Common.{AllAbove, Rises, serials_of, with_found, slots_in, AreApartKeys, HasSerial, KnowsParent, IsHere, AllHere, IsSlotStore}
-use Rattle.frame_tree.proofs.Common.{AreThere, is_marked, marked_in, swept_in, values_in, Marks, AreKeys, IsKeyAt}
-use Rattle.frame_tree.proofs.Forest.{stays_in, IsClosed, IsClosed-from_follows, kept_follows, serial_read}
+use Rattle.frame_tree.proofs.Common.{◌≡◌, ◌≢◌, ℕ, zero, suc, ◌+◌, ◌<◌, ◌≤◌, Bool, true, false, not, eqb, List, [], ◌∷◌, ◌++◌, Option, Some, None, get_or}
+use Rattle.frame_tree.proofs.Common.{slice_index, take, length, append-nil, map, refl, ap, sym, ◌∙◌, arith, subst, StoredSlot, has_number, filter-append}
+use Rattle.frame_tree.proofs.Common.{filter, remove, Slot as TenantSlot, Slab, get, slab_len, false≢true, eq-eqb, ne_eqb, not-true, or_right, eqb-true}
+use Rattle.frame_tree.proofs.Common.{IsLinked, kept_slots, gone_values, child_slots, AllAbove, Rises, serials_of, with_found, slots_in, AreApartKeys, HasSerial}
+use Rattle.frame_tree.proofs.Common.{KnowsParent, IsHere, AllHere, IsSlotStore, AreThere, is_marked, swept_in, values_in, Marks, AreKeys, IsKeyAt, Updates}
+use Rattle.frame_tree.proofs.Forest.{stays_in, IsClosed, serial_read, abort_closed}
 use Rattle.frame_tree.proofs.Places.{length-filter-le, rises_by-filter}
 use Rattle.frame_tree.proofs.SlotStores.{has_number-append, has_number-at, here_read, slots_in-length, slot_read, here_found, here_contains}
 use Rattle.frame_tree.proofs.Keys.{key_found, knows_key}
 use Rattle.frame_tree.proofs.Changes.{parent_below, remove-filter, leaf-closed}
+use Rattle.std.proofs.Math.Bool.{not-not}
 
 -- the slot of a serial
 pub named_slot : {T : Type 0} (p : ℕ) (o : Option (StoredSlot T)) → HasSerial p o → (y : StoredSlot T) × (o ≡ Some y) × (y.slot.serial ≡ p)
@@ -44,9 +44,9 @@ module _ (k : ℕ) where
 abbrev pub AreAmong : List ℕ → List ℕ → Type 0
 AreAmong some all = (k : ℕ) → has_number some k ≡ true → has_number all k ≡ true
 
--- a choice of keys is that of the serials of the slots under them
-abbrev pub Agree : {T : Type 0} → Slab (StoredSlot T) → (ℕ → Bool) → (ℕ → Bool) → List ℕ → Type 0
-Agree slab by_key by_serial keys = (k : ℕ) (x : StoredSlot _) → has_number keys k ≡ true → get slab k ≡ Some x → by_key k ≡ by_serial x.slot.serial
+-- P holds of each of these keys and the slot under it
+abbrev pub OfEach : {T : Type 0} → Slab (StoredSlot T) → List ℕ → (ℕ → StoredSlot T → Type 0) → Type 0
+OfEach slab keys P = (k : ℕ) (x : StoredSlot _) → has_number keys k ≡ true → get slab k ≡ Some x → P k x
 
 -- which keys a sweep passes, and which it leaves
 abbrev pub is_gone : {T : Type 0} → Slab (StoredSlot T) → ℕ → Bool
@@ -61,62 +61,60 @@ is_not n k = not (eqb k n)
 
 -- which slots stay, by key and by serial, and how those are kept
 pub record Stays {T : Type 0} (old new : Slab (StoredSlot T)) (by_key by_serial : ℕ → Bool) (keys : List ℕ) : Type 0 where
-  pub agree : Agree old by_key by_serial keys
-  pub renew : (k : ℕ) (x : StoredSlot T) → has_number keys k ≡ true → get old k ≡ Some x → by_key k ≡ true → get new k ≡ Some (record x { marked = false })
+  pub agree : OfEach old keys (λ k x. by_key k ≡ by_serial x.slot.serial)
+  pub renew : OfEach old keys (λ k x. by_key k ≡ true → get new k ≡ Some (record x { marked = false }))
 
--- those that stay are here as before
-module _ {T : Type 0} (old new : Slab (StoredSlot T)) (by_key by_serial : ℕ → Bool) (all : List ℕ) where
-  pub here-filter : (before keys : List ℕ) → Stays old new by_key by_serial all → AreAmong before all → AreAmong keys all →
-      IsClosed by_serial (slots_in old keys) → AllHere old before keys → AllHere new (filter by_key before) (filter by_key keys)
-  here-filter before [] s b w c h = tt
-  here-filter before (k ∷ keys) s b w c h =
+among_more : (some all : List ℕ) (k : ℕ) → AreAmong some all → has_number all k ≡ true → AreAmong (some ++ k ∷ []) all
+among_more some all k a there j has = grind (arith, has_number-append, eqb-true)
+
+-- those slots are the chosen ones
+slots-filter : {T : Type 0} (old new : Slab (StoredSlot T)) (by_key by_serial : ℕ → Bool) (all before keys : List ℕ) →
+    OfEach old all (λ k x. by_key k ≡ by_serial x.slot.serial) →
+    OfEach old all (λ k x. by_key k ≡ true → with_found (get new k) [] ≡ x.slot ∷ []) → AreAmong keys all → AllHere old before keys →
+    slots_in new (filter by_key keys) ≡ filter (λ slot. by_serial slot.serial) (slots_in old keys)
+slots-filter old new by_key by_serial all before [] agree same w h = refl
+slots-filter old new by_key by_serial all before (k ∷ keys) agree same w h =
+    let found = here_found old before (get old k) h.0 in
+    let there = w k (head_key k keys) in
+    let chosen = agree k found.0 there found.1 in
+    let one = same k found.0 there found.1 in
+    let rest = slots-filter old new by_key by_serial all (before ++ k ∷ []) keys agree same (λ j has. w j (tail_key k j keys has)) h.1 in
+    grind (arith, found.1, chosen, one, rest)
+
+-- those that stay are here as before, and stand for the same slots
+module _ {T : Type 0} {old new : Slab (StoredSlot T)} {by_key by_serial : ℕ → Bool} {all : List ℕ} (s : Stays old new by_key by_serial all) where
+  parent_stays : (before : List ℕ) (parent above : Option ℕ) → AreAmong before all → ((p : ℕ) → parent ≡ Some p → by_serial p ≡ true) →
+      KnowsParent old before parent above → KnowsParent new (filter by_key before) parent above
+  parent_stays before None None b up k = tt
+  parent_stays before None (Some a) b up k = absurd k
+  parent_stays before (Some p) None b up k = absurd k
+  parent_stays before (Some p) (Some a) b up k =
+      let y = named_slot p (get old a) k.1 in
+      let stays : by_key a ≡ true = s.agree a y.0 (b a k.0) y.1 ∙ (ap by_serial y.2 ∙ up p refl) in
+      (has_number-filter by_key before a k.0 stays, rw (s.renew a y.0 (b a k.0) y.1 stays) y.2)
+
+  here-filter : (before keys : List ℕ) → AreAmong before all → AreAmong keys all → IsClosed by_serial (slots_in old keys) → AllHere old before keys →
+      AllHere new (filter by_key before) (filter by_key keys)
+  here-filter before [] b w c h = tt
+  here-filter before (k ∷ keys) b w c h =
       let found = here_found old before (get old k) h.0 in
       let x = found.0 in
       let closed : IsClosed by_serial (x.slot ∷ slots_in old keys) = subst (λ o. IsClosed by_serial (with_found o (slots_in old keys))) found.1 c in
       let here : IsHere old before (Some x) = subst (λ o. IsHere old before o) found.1 h.0 in
       let there = w k (head_key k keys) in
       let agree = s.agree k x there found.1 in
-      let rest = here-filter (before ++ k ∷ []) keys s (λ j has. in_either j b there (sym (has_number-append before (k ∷ []) j) ∙ has)) (λ j has. w j (tail_key k j keys has)) closed.1 h.1 in
-      elim (cases_Bool (by_key k)) [
-        | inl stays ↦ (let more : filter by_key (before ++ k ∷ []) ≡ filter by_key before ++ k ∷ [] = filter-append by_key before (k ∷ []) ∙ (rw stays refl) in
-            let last : IsHere new (filter by_key before) (get new k) = rw (s.renew k x there found.1 stays) (refl, parent x.slot.parent x.above s b (λ p is. closed.0 p is (sym agree ∙ stays)) here.1) in
-            rw stays (last, subst (λ bs. AllHere new bs (filter by_key keys)) more rest))
-        | inr goes ↦ (let more : filter by_key (before ++ k ∷ []) ≡ filter by_key before = filter-append by_key before (k ∷ []) ∙ (rw goes (append-nil (filter by_key before))) in
-            rw goes (subst (λ bs. AllHere new bs (filter by_key keys)) more rest))
-      ]
-    where
-      in_either : (j : ℕ) → AreAmong before all → has_number all k ≡ true → (has_number before j || (eqb k j || false)) ≡ true → has_number all j ≡ true
-      in_either j b there h = grind (arith, eqb-true)
+      let renew = s.renew k x there found.1 in
+      let knows : by_key k ≡ true → KnowsParent new (filter by_key before) x.slot.parent x.above =
+      λ stays. parent_stays before x.slot.parent x.above b (λ p is. closed.0 p is (sym agree ∙ stays)) here.1 in
+      let rest = here-filter (before ++ k ∷ []) keys (among_more before all k b there) (λ j has. w j (tail_key k j keys has)) closed.1 h.1 in
+      let more = filter-append by_key before (k ∷ []) in
+      grind (arith, renew, knows, rest, more, append-nil)
 
-      parent : (parent above : Option ℕ) → Stays old new by_key by_serial all → AreAmong before all → ((p : ℕ) → parent ≡ Some p → by_serial p ≡ true) →
-          KnowsParent old before parent above → KnowsParent new (filter by_key before) parent above
-      parent None None s b up k = tt
-      parent None (Some a) s b up k = absurd k
-      parent (Some p) None s b up k = absurd k
-      parent (Some p) (Some a) s b up k =
-          let y = named_slot p (get old a) k.1 in
-          let stays : by_key a ≡ true = s.agree a y.0 (b a k.0) y.1 ∙ (ap by_serial y.2 ∙ up p refl) in
-          (has_number-filter by_key before a k.0 stays, rw (s.renew a y.0 (b a k.0) y.1 stays) y.2)
+  pub stays_here : IsClosed by_serial (slots_in old all) → AllHere old [] all → AllHere new [] (filter by_key all)
+  stays_here closed h = here-filter [] all (λ k has. absurd (false≢true has)) (λ k has. has) closed h
 
-  -- and stand for the same slots
-  pub slots-filter : (before keys : List ℕ) → Agree old by_key by_serial all →
-      ((k : ℕ) (x : StoredSlot T) → has_number all k ≡ true → get old k ≡ Some x → by_key k ≡ true → with_found (get new k) [] ≡ x.slot ∷ []) →
-      AreAmong keys all → AllHere old before keys → slots_in new (filter by_key keys) ≡ filter (λ slot. by_serial slot.serial) (slots_in old keys)
-  slots-filter before [] agree same w h = refl
-  slots-filter before (k ∷ keys) agree same w h =
-      let found = here_found old before (get old k) h.0 in
-      let x = found.0 in
-      let there = w k (head_key k keys) in
-      let rest = slots-filter (before ++ k ∷ []) keys agree same (λ j has. w j (tail_key k j keys has)) h.1 in
-      let at = agree k x there found.1 in
-      rw found.1 (elim (cases_Bool (by_key k)) [
-        | inl stays ↦ rw (stays, sym at ∙ stays) (one (get new k) x.slot (slots_in new (filter by_key keys)) (same k x there found.1 stays) ∙ ap (λ xs. x.slot ∷ xs) rest)
-        | inr goes ↦ rw (goes, sym at ∙ goes) rest
-      ])
-    where
-      one : (o : Option (StoredSlot T)) (s : TenantSlot T) (xs : List (TenantSlot T)) → with_found o [] ≡ s ∷ [] → with_found o xs ≡ s ∷ xs
-      one None s xs e = absurd (cc)
-      one (Some y) s xs e = ap (λ ys. ys ++ xs) e
+  pub stays_slots : AllHere old [] all → slots_in new (filter by_key all) ≡ filter (λ slot. by_serial slot.serial) (slots_in old all)
+  stays_slots h = slots-filter old new by_key by_serial all [] all s.agree (λ k x has is stays. rw (s.renew k x has is stays) refl) (λ k has. has) h
 
 -- what an abort leaves of a slot store
 pub record HasCut {T : Type 0} (under : ℕ) (old marked new : Slab (StoredSlot T)) (order left : List ℕ) : Type 0 where
@@ -124,21 +122,16 @@ pub record HasCut {T : Type 0} (under : ℕ) (old marked new : Slab (StoredSlot 
   pub kept : left ≡ filter (is_left marked) order
   pub swept : (key : ℕ) → get new key ≡ swept_in marked order key
 
-not_not : (b : Bool) → not (not b) ≡ b
-not_not b = grind arith
-
 module _ {T : Type 0} {under : ℕ} {old marked new : Slab (StoredSlot T)} {order left : List ℕ} (c : HasCut under old marked new order left) where
-  pub cut_marks : (k : ℕ) (x : StoredSlot T) → has_number order k ≡ true → get old k ≡ Some x → get marked k ≡ Some (record x { marked = not (stays_in under (slots_in old order) x.slot.serial) })
+  pub cut_marks : OfEach old order (λ k x. get marked k ≡ Some (record x { marked = not (stays_in under (slots_in old order) x.slot.serial) }))
   cut_marks k x has is = c.marks k ∙ (rw (is, has) refl)
 
   pub cut_stays : Stays old new (is_left marked) (stays_in under (slots_in old order)) order
-  cut_stays = grind (arith, cut_marks, not_not, not-true)
+  cut_stays = grind (arith, cut_marks, not-not, not-true)
 
   -- the slots that stay
   pub cut_slots : AllHere old [] order → slots_in new left ≡ kept_slots under (slots_in old order)
-  cut_slots h =
-      ap (slots_in new) c.kept
-      ∙ slots-filter old new (is_left marked) (stays_in under (slots_in old order)) order [] order cut_stays.agree (λ k x has is stays. rw (cut_stays.renew k x has is stays) refl) (λ k has. has) h
+  cut_slots h = ap (slots_in new) c.kept ∙ stays_slots cut_stays h
 
   -- the values of those that went
   pub cut_values : AllHere old [] order → values_in marked (filter (is_gone marked) order) ≡ gone_values under (slots_in old order)
@@ -148,15 +141,12 @@ module _ {T : Type 0} {under : ℕ} {old marked new : Slab (StoredSlot T)} {orde
       (λ k x has is. rw (cut_marks k x has is) refl) (λ k x has is goes. rw (cut_marks k x has is) refl) (λ k has. has) h)
 
   -- the slot store
-  pub cut_store : {room places : ℕ} → IsSlotStore old order room places → IsLinked [] (slots_in old order) → slab_len new + length order ≡ slab_len old + length left → new.capacity ≡ old.capacity →
-      IsSlotStore new left room places
+  pub cut_store : {room places : ℕ} → IsSlotStore old order room places → IsLinked [] (slots_in old order) →
+      slab_len new + length order ≡ slab_len old + length left → new.capacity ≡ old.capacity → IsSlotStore new left room places
   cut_store s l len capacity =
-      let xs = slots_in old order in
-      let closed = IsClosed-from_follows (stays_in under xs) under xs (kept_follows under (frames_from [] xs) [] xs refl l tt) in
-      let here = here-filter old new (is_left marked) (stays_in under xs) order [] order cut_stays (λ k has. absurd (false≢true has)) (λ k has. has) closed s.here in
       let fewer : length left ≤ length order = omega (arith, ap length c.kept, length-filter-le (is_left marked) order) in
       record {
-        here = rw c.kept here;
+        here = rw c.kept (stays_here cut_stays (abort_closed under (slots_in old order) l) s.here);
         apart = rw c.kept (apart-filter (is_left marked) order s.apart);
         counted = omega (arith, len, s.counted);
         within = omega (arith, fewer, s.within);
@@ -165,13 +155,10 @@ module _ {T : Type 0} {under : ℕ} {old marked new : Slab (StoredSlot T)} {orde
       }
 
 -- each key has a slot, marked or not
-pub marked_there : {T : Type 0} (under : ℕ) (slots : List (TenantSlot T)) (all : List ℕ) (old marked : Slab (StoredSlot T)) (keys : List ℕ) → Marks under slots all old marked → AreThere old keys → AreThere marked keys
-marked_there under slots all old marked [] m t = tt
-marked_there under slots all old marked (k ∷ keys) m t = (subst (λ o. IsSome o) (sym (m k)) (some slots (get old k) t.0), marked_there under slots all old marked keys m t.1)
-  where
-    some : {T : Type 0} (slots : List (TenantSlot T)) (o : Option (StoredSlot T)) → IsSome o → IsSome (marked_in under slots all k o)
-    some slots None t = t
-    some slots (Some x) t = refl
+module _ {T : Type 0} (under : ℕ) (slots : List (TenantSlot T)) (all : List ℕ) (old marked : Slab (StoredSlot T)) (m : Marks under slots all old marked) where
+  pub marked_there : (keys : List ℕ) → AreThere old keys → AreThere marked keys
+  marked_there [] t = tt
+  marked_there (k ∷ keys) t = let is = m k in grind (arith, is, marked_there keys)
 
 -- what is there is one slot
 by_one : {T : Type 0} (o : Option (StoredSlot T)) (x y : StoredSlot T) → o ≡ Some x → o ≡ Some y → x.slot.serial ≡ y.slot.serial
@@ -183,16 +170,6 @@ pub record HasTaken {T : Type 0} (old new : Slab (StoredSlot T)) (order : List �
   pub read : key ≡ get_or order at key
   pub was : get old key ≡ Some kept
   pub others : (k : ℕ) → k ≢ key → get new k ≡ get old k
-
--- no slot's parent has this serial
-module _ {T : Type 0} (n : ℕ) where
-  abbrev pub NoParent : List (TenantSlot T) → Type 0
-  NoParent [] = Unit {0}
-  NoParent (x ∷ xs) = (x.parent ≢ Some n) × NoParent xs
-
-  pub no_parent : (xs : List (TenantSlot T)) → child_slots n xs ≡ [] → NoParent xs
-  no_parent [] none = tt
-  no_parent (x ∷ xs) none = grind (arith, no_parent xs)
 
 -- the list without the key at a place
 pub remove_key : (keys : List ℕ) (i d : ℕ) → AreApartKeys keys → i < length keys → remove keys i ≡ filter (λ k. not (eqb k (get_or keys i d))) keys
@@ -206,16 +183,20 @@ remove_key (k ∷ keys) (suc i) d a lt =
     let other : k ≢ get_or keys i d = λ e. false≢true (sym a.0 ∙ (ap (has_number keys) e ∙ has_number-at keys i d (omega arith))) in
     rw (ne_eqb k (get_or keys i d) other) (ap (λ ks. k ∷ ks) (remove_key keys i d a.1 (omega arith)))
 
+pub has_taken : {T : Type 0} {old new : Slab (StoredSlot T)} {order : List ℕ} {at key : ℕ} {kept : StoredSlot T} → at < length order →
+    key ≡ get_or order at key → get old key ≡ Some kept → Updates old new key None → HasTaken old new order at key kept
+has_taken within read was u = record { within = within; read = read; was = was; others = u.others }
+
 -- no slot is marked
 module _ {T : Type 0} (slab : Slab (StoredSlot T)) where
-  pub unmarked : (before keys : List ℕ) (k : ℕ) (x : StoredSlot T) → AllHere slab before keys → has_number keys k ≡ true → get slab k ≡ Some x → x.marked ≡ false
-  unmarked before [] k x h has is = absurd (false≢true has)
-  unmarked before (j ∷ keys) k x h has is = grind (arith, unmarked (before ++ j ∷ []) keys k x)
+  pub unmarked : (before keys : List ℕ) → AllHere slab before keys → OfEach slab keys (λ k x. x.marked ≡ false)
+  unmarked before [] h k x has is = absurd (false≢true has)
+  unmarked before (j ∷ keys) h k x has is = grind (arith, unmarked (before ++ j ∷ []) keys)
 
   -- a serial above another, by its key
-  above_key : (before keys : List ℕ) (n k : ℕ) (x : StoredSlot T) → AllHere slab before keys → AllAbove n (slots_in slab keys) → has_number keys k ≡ true → get slab k ≡ Some x → n < x.slot.serial
-  above_key before [] n k x h above has is = absurd (false≢true has)
-  above_key before (j ∷ keys) n k x h above has is = grind (arith, above_key (before ++ j ∷ []) keys n k x, here_found)
+  above_key : (before keys : List ℕ) (n : ℕ) → AllHere slab before keys → AllAbove n (slots_in slab keys) → OfEach slab keys (λ k x. n < x.slot.serial)
+  above_key before [] n h above k x has is = absurd (false≢true has)
+  above_key before (j ∷ keys) n h above k x has is = grind (arith, above_key (before ++ j ∷ []) keys n, here_found)
 
   -- slots of one serial stand under one key
   pub same_key : (before keys : List ℕ) (k j : ℕ) (x y : StoredSlot T) → AllHere slab before keys → Rises (slots_in slab keys) → has_number keys k ≡ true →
@@ -224,35 +205,23 @@ module _ {T : Type 0} (slab : Slab (StoredSlot T)) where
   same_key before (i ∷ keys) k j x y h rise has_k has_j is_k is_j same =
       let found = here_found slab before (get slab i) h.0 in
       let both : Rises (found.0.slot ∷ slots_in slab keys) = subst (λ o. Rises (with_found o (slots_in slab keys))) found.1 rise in
-      elim (cases_eq i k) [
-        | inl at_k ↦ elim (cases_eq i j) [
-          | inl at_j ↦ sym at_k ∙ at_j
-          | inr not_j ↦ (let e = serial_at k found.0 x found.1 at_k is_k in
-              absurd (omega (arith, above_key (before ++ i ∷ []) keys found.0.slot.serial j y h.1 both.0 (rw (ne_eqb i j not_j) at has_j) is_j, e, same)))
-        ]
-        | inr not_k ↦ elim (cases_eq i j) [
-          | inl at_j ↦ (let e = serial_at j found.0 y found.1 at_j is_j in
-              absurd (omega (arith, above_key (before ++ i ∷ []) keys found.0.slot.serial k x h.1 both.0 (rw (ne_eqb i k not_k) at has_k) is_k, e, same)))
-          | inr not_j ↦ same_key (before ++ i ∷ []) keys k j x y h.1 both.1 (rw (ne_eqb i k not_k) at has_k) (rw (ne_eqb i j not_j) at has_j) is_k is_j same
-        ]
-      ]
-    where
-      serial_at : (k : ℕ) (a x : StoredSlot T) → get slab i ≡ Some a → i ≡ k → get slab k ≡ Some x → a.slot.serial ≡ x.slot.serial
-      serial_at k a x is_i same is_k = by_one (get slab i) a x is_i (ap (get slab) same ∙ is_k)
+      let above = above_key (before ++ i ∷ []) keys found.0.slot.serial h.1 both.0 in
+      grind (arith, found.1, both, above j y, above k x, same_key (before ++ i ∷ []) keys k j x y)
 
 -- what is left when a leaf is taken away
-module _ {T : Type 0} {old new : Slab (StoredSlot T)} {order : List ℕ} {at key : ℕ} {kept : StoredSlot T} (t : HasTaken old new order at key kept) (h : AllHere old [] order) where
+module _ {T : Type 0} {old new : Slab (StoredSlot T)} {order : List ℕ} {at key : ℕ} {kept : StoredSlot T} (t : HasTaken old new order at key kept)
+    (h : AllHere old [] order) where
   pub taken_stays : Rises (slots_in old order) → Stays old new (is_not key) (is_not kept.slot.serial) order
   taken_stays rise = grind (arith, has_number-at, by_one, eq-eqb, ne_eqb, same_key, false≢true, unmarked)
 
   within : at < length (slots_in old order)
   within = rw (slots_in-length old [] order h) t.within
 
-  read : kept.slot ≡ get_or (slots_in old order) at kept.slot
-  read = sym (slot_read old order at key kept kept.slot h t.within t.read t.was)
+  pub taken_read : kept.slot ≡ get_or (slots_in old order) at kept.slot
+  taken_read = sym (slot_read old order at key kept kept.slot h t.within t.read t.was)
 
   named : slice_index (serials_of (slots_in old order)) at ≡ kept.slot.serial
-  named = serial_read (slots_in old order) at kept.slot within read
+  named = serial_read (slots_in old order) at kept.slot within taken_read
 
   left_keys : AreApartKeys order → remove order at ≡ filter (is_not key) order
   left_keys a = remove_key order at key a t.within ∙ ap (λ j. filter (λ k. not (eqb k j)) order) (sym t.read)
@@ -260,18 +229,16 @@ module _ {T : Type 0} {old new : Slab (StoredSlot T)} {order : List ℕ} {at key
   pub taken_slots : AreApartKeys order → Rises (slots_in old order) → slots_in new (remove order at) ≡ remove (slots_in old order) at
   taken_slots a rise =
       let s = taken_stays rise in
-      ap (slots_in new) (left_keys a)
-      ∙ (slots-filter old new (is_not key) (is_not kept.slot.serial) order [] order s.agree (λ k x has is stays. rw (s.renew k x has is stays) refl) (λ k has. has) h
-      ∙ sym (remove-filter (slots_in old order) at kept.slot.serial rise within named))
+      ap (slots_in new) (left_keys a) ∙ (stays_slots s h ∙ sym (remove-filter (slots_in old order) at kept.slot.serial rise within named))
 
-  pub taken_store : {room places : ℕ} → IsSlotStore old order room places → Rises (slots_in old order) → child_slots (slice_index (serials_of (slots_in old order)) at) (slots_in old order) ≡ [] →
+  pub taken_store : {room places : ℕ} → IsSlotStore old order room places → Rises (slots_in old order) →
+      child_slots (slice_index (serials_of (slots_in old order)) at) (slots_in old order) ≡ [] →
       length (remove order at) + 1 ≡ length order → slab_len new + 1 ≡ slab_len old → new.capacity ≡ old.capacity → IsSlotStore new (remove order at) room places
   taken_store s rise leaf long len capacity =
       let none : child_slots kept.slot.serial (slots_in old order) ≡ [] = ap (λ n. child_slots n (slots_in old order)) (sym named) ∙ leaf in
       let closed = leaf-closed kept.slot.serial (slots_in old order) none in
-      let here = here-filter old new (is_not key) (is_not kept.slot.serial) order [] order (taken_stays rise) (λ k has. absurd (false≢true has)) (λ k has. has) closed h in
       record {
-        here = rw (left_keys s.apart) here;
+        here = rw (left_keys s.apart) (stays_here (taken_stays rise) closed h);
         apart = rw (left_keys s.apart) (apart-filter (is_not key) order s.apart);
         counted = omega (arith, len, s.counted, long);
         within = omega (arith, long, s.within);
@@ -283,9 +250,10 @@ module _ {T : Type 0} {old new : Slab (StoredSlot T)} {order : List ℕ} {at key
   pub taken_knows : IsLinked [] (slots_in old order) → AreKeys new (remove order at) → KnowsParent new (remove order at) kept.slot.parent kept.above
   taken_knows linked are =
       let here : IsHere old (take at order) (Some kept) = subst (λ o. IsHere old (take at order) o) t.was (here_read old order at key h t.within t.read) in
-      still (take at order) kept.slot.parent kept.above (λ p is. (parent_below [] (slots_in old order) at kept.slot p linked within read is).0) here.1
+      still (take at order) kept.slot.parent kept.above (λ p is. (parent_below [] (slots_in old order) at kept.slot p linked within taken_read is).0) here.1
     where
-      still : (before : List ℕ) (parent above : Option ℕ) → ((p : ℕ) → parent ≡ Some p → p < kept.slot.serial) → KnowsParent old before parent above → KnowsParent new (remove order at) parent above
+      still : (before : List ℕ) (parent above : Option ℕ) → ((p : ℕ) → parent ≡ Some p → p < kept.slot.serial) → KnowsParent old before parent above →
+          KnowsParent new (remove order at) parent above
       still before None None below k = tt
       still before None (Some a) below k = absurd k
       still before (Some p) None below k = absurd k
@@ -293,7 +261,7 @@ module _ {T : Type 0} {old new : Slab (StoredSlot T)} {order : List ℕ} {at key
           let y = named_slot p (get old a) k.1 in
           let other : a ≢ key = λ e. omega (arith, below p refl, y.2, by_one (get old a) y.0 kept y.1 (ap (get old) e ∙ t.was)) in
           let found : get new a ≡ Some y.0 = t.others a other ∙ y.1 in
-          let place = key_found new (remove order at) p a y.0 are found y.2 in
+          let place = key_found are found y.2 in
           knows_key new (remove order at) (Some p) p place.0 a refl are place.1
 
 -- what stands under a parent's key
@@ -313,7 +281,7 @@ module _ {T : Type 0} (slab : Slab (StoredSlot T)) (keys : List ℕ) (parent abo
       of None are k = absurd k
       of (Some p) are k =
           let y = named_slot p (get slab key) k.1 in
-          let place = key_found slab keys p key y.0 are y.1 y.2 in
+          let place = key_found are y.1 y.2 in
           record { name = p; at = place.0; kept = y.0; is = refl; key_at = place.1; found = y.1 }
 
   -- no key is a root's
@@ -322,4 +290,6 @@ module _ {T : Type 0} (slab : Slab (StoredSlot T)) (keys : List ℕ) (parent abo
 
 -- slots rise without the one at a place
 pub rises_remove : {T : Type 0} (xs : List (TenantSlot T)) (i : ℕ) → Rises xs → i < length xs → Rises (remove xs i)
-rises_remove xs i rise lt = rw (remove-filter xs i (slice_index (serials_of xs) i) rise lt refl) (rises_by-filter (λ x. x.serial) (λ x. not (eqb x.serial (slice_index (serials_of xs) i))) xs rise)
+rises_remove xs i rise lt =
+    let n = slice_index (serials_of xs) i in
+    rw (remove-filter xs i n rise lt refl) (rises_by-filter (λ x. x.serial) (λ x. not (eqb x.serial n)) xs rise)

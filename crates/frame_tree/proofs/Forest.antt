@@ -1,11 +1,12 @@
 -- The frames that slots stand for: paths, and what a change of the slots does to the frames.
-use Rattle.std.proofs.Common.{◌≡◌, ℕ, ◌<◌, Bool, true, false, ◌||◌, eqb, List, [], ◌∷◌, ◌++◌, Option, Some, refl, ap, sym, ◌∙◌, arith, append_assoc}
-use Rattle.std.proofs.Common.{append-nil, subst, zero, suc, ◌+◌, ◌-◌, ◌≤◌, length, get_or, set, slice_index, not, ◌&&◌, None, map, cond}
-use Rattle.frame_tree.proofs.Common.{Slot, filter, false≢true, eqb-true, Frame, has_frame, path_in, path_under, parent_of, goes_under, AllBelow, aborted}
-use Rattle.frame_tree.proofs.Common.{frames_under, values_of, has_parent}
-use Rattle.frame_tree.specs.Slots.{frame_of_slot, frames_from, IsLinked, has_slot, AllAbove, Rises, serials_of, with_slot, with_child, root_at, root_under}
-use Rattle.frame_tree.specs.Slots.{AllCountsBelow, CountsAtParent, children_at, without_child, is_kept, kept_slots, gone_values, slot_values}
-use Rattle.frame_tree.specs.SlotStores.{IsSeenAt}
+use Rattle.frame_tree.proofs.Common.{◌≡◌, ℕ, ◌<◌, Bool, true, false, ◌||◌, eqb, List, [], ◌∷◌, ◌++◌, Option, Some, refl, ap, sym, ◌∙◌, arith, append_assoc}
+use Rattle.frame_tree.proofs.Common.{append-nil, zero, suc, length, get_or, set, slice_index, not, None, map, cond, Slot, filter, false≢true, eqb-true, Frame}
+use Rattle.frame_tree.proofs.Common.{has_frame, path_in, path_under, parent_of, goes_under, AllBelow, aborted, frames_under, values_of, has_parent}
+use Rattle.frame_tree.proofs.Common.{frame_of_slot, frames_from, IsLinked, has_slot, AllAbove, Rises, serials_of, with_slot, AllCountsBelow, kept_slots}
+use Rattle.frame_tree.proofs.Common.{gone_values, slot_values, IsSeenAt, root_of}
+use Rattle.std.proofs.Common.{◌&&◌}
+use Rattle.frame_tree.specs.Slots.{root_at, children_at, is_kept, IsNextSlot}
+use Rattle.std.proofs.Math.Bool.{not-not}
 
 -- these frames, and the one that a slot after them stands for
 abbrev pub next_to : {T : Type 0} → List (Frame T) → Slot T → List (Frame T)
@@ -53,20 +54,16 @@ module _ {T : Type 0} where
   path_in-right [] ys serial h = refl
   path_in-right (x ∷ xs) ys serial h = grind (arith, path_in-right xs ys serial)
 
-  -- the frames of slots, and one more
-  pub frames_from-append : (frames : List (Frame T)) (xs ys : List (Slot T)) → frames_from frames (xs ++ ys) ≡ frames_from frames xs ++ frames_from (frames ++ frames_from frames xs) ys
-  frames_from-append frames [] ys = rw append-nil refl
-  frames_from-append frames (x ∷ xs) ys =
-      let next = frame_of_slot frames x in
-      ap (λ fs. next ∷ fs) (frames_from-append (frames ++ next ∷ []) xs ys ∙ ap (λ fs. frames_from (frames ++ next ∷ []) xs ++ frames_from fs ys) (append_assoc frames (next ∷ []) (frames_from (frames ++ next ∷ []) xs)))
+  -- one more slot at the end: the frames, and that it is linked
+  pub frames_from-push : (frames : List (Frame T)) (xs : List (Slot T)) (x : Slot T) →
+      frames_from frames (xs ++ x ∷ []) ≡ frames_from frames xs ++ frame_of_slot (frames ++ frames_from frames xs) x ∷ []
+  frames_from-push frames [] x = rw append-nil refl
+  frames_from-push frames (y ∷ xs) x = grind (arith, frames_from-push (next_to frames y) xs x, append_assoc)
 
-  -- slots that are linked, and one more
-  pub IsLinked-append : (frames : List (Frame T)) (xs ys : List (Slot T)) → IsLinked frames xs → IsLinked (frames ++ frames_from frames xs) ys → IsLinked frames (xs ++ ys)
-  IsLinked-append frames [] ys p q = rw append-nil at q
-  IsLinked-append frames (x ∷ xs) ys p q =
-      let next = frame_of_slot frames x in
-      let P : List (Frame T) → Type 0 = λ fs. IsLinked fs ys in
-      (p.0, IsLinked-append (frames ++ next ∷ []) xs ys p.1 (subst P (sym (append_assoc frames (next ∷ []) (frames_from (frames ++ next ∷ []) xs))) q))
+  pub IsLinked-push : (frames : List (Frame T)) (xs : List (Slot T)) (x : Slot T) → IsLinked frames xs → IsNextSlot (frames ++ frames_from frames xs) x →
+      IsLinked frames (xs ++ x ∷ [])
+  IsLinked-push frames [] x l next = (rw append-nil at next, tt)
+  IsLinked-push frames (y ∷ xs) x l next = grind (arith, IsLinked-push (next_to frames y) xs x, append_assoc)
 
   -- a frame is there where its slot is
   pub has_frame-frames_from : (frames : List (Frame T)) (xs : List (Slot T)) (serial : ℕ) → has_frame (frames_from frames xs) serial ≡ has_slot xs serial
@@ -74,7 +71,8 @@ module _ {T : Type 0} where
   has_frame-frames_from frames (x ∷ xs) serial = ap (λ b. eqb x.serial serial || b) (has_frame-frames_from (next_to frames x) xs serial)
 
   -- slots that are linked after frames above which a serial cannot be are above it
-  pub linked_above : (frames : List (Frame T)) (xs : List (Slot T)) (serial : ℕ) → ((m : ℕ) → AllBelow m frames → serial < m) → IsLinked frames xs → AllAbove serial xs
+  pub linked_above : (frames : List (Frame T)) (xs : List (Slot T)) (serial : ℕ) → ((m : ℕ) → AllBelow m frames → serial < m) → IsLinked frames xs →
+      AllAbove serial xs
   linked_above frames [] serial p l = tt
   linked_above frames (x ∷ xs) serial p l =
       (p x.serial l.0.above, linked_above (next_to frames x) xs serial (λ m b. p m (AllBelow-left m frames _ b)) l.1)
@@ -106,8 +104,14 @@ parent_of-append (x ∷ []) last serial e = ap Some e
 parent_of-append (x ∷ y ∷ []) last serial e = ap Some e
 parent_of-append (x ∷ y ∷ z ∷ path) last serial e = parent_of-append (y ∷ z ∷ path) last serial e
 
+-- and its root is that of the path
+pub root_of-append : (path : List ℕ) (s last : ℕ) → EndsIn path last → root_of (path ++ s ∷ []) ≡ root_of path
+root_of-append [] s last ends = absurd ends
+root_of-append (x ∷ path) s last ends = refl
+
 -- a path with one more serial goes through what it ended in, and through what it went through
-pub goes_under-append : (under : ℕ) (path : List ℕ) (last serial : ℕ) → EndsIn path last → goes_under under (path ++ serial ∷ []) ≡ (eqb last under || goes_under under path)
+pub goes_under-append : (under : ℕ) (path : List ℕ) (last serial : ℕ) → EndsIn path last →
+    goes_under under (path ++ serial ∷ []) ≡ (eqb last under || goes_under under path)
 goes_under-append under [] last serial e = absurd e
 goes_under-append under (x ∷ []) last serial e = rw e refl
 goes_under-append under (x ∷ y ∷ path) last serial e = grind (arith, goes_under-append under (y ∷ path) last serial)
@@ -136,7 +140,8 @@ module _ {T : Type 0} where
   -- Looking a slot up by its serial.
 
   -- the serial of the slot that was read
-  pub serial_read : (slots : List (Slot T)) (i : ℕ) (slot : Slot T) → i < length slots → slot ≡ get_or slots i slot → slice_index (serials_of slots) i ≡ slot.serial
+  pub serial_read : (slots : List (Slot T)) (i : ℕ) (slot : Slot T) → i < length slots → slot ≡ get_or slots i slot →
+      slice_index (serials_of slots) i ≡ slot.serial
   serial_read [] i slot lt is = absurd (omega arith)
   serial_read (s ∷ slots) zero slot lt is = ap (λ s. s.serial) (sym is)
   serial_read (s ∷ slots) (suc i) slot lt is = serial_read slots i slot (omega arith) is
@@ -163,47 +168,38 @@ module _ {T : Type 0} where
   with_slot-absent [] serial change none = refl
   with_slot-absent (s ∷ slots) serial change none = grind (arith, with_slot-absent slots serial change)
 
-  -- a write at the place of a serial
-  pub with_slot-set : (slots : List (Slot T)) (i serial : ℕ) (change : Slot T → Slot T) (slot : Slot T) → Rises slots → i < length slots →
-      slice_index (serials_of slots) i ≡ serial → slot ≡ get_or slots i slot → set slots i (change slot) ≡ with_slot serial change slots
-  with_slot-set [] i serial change slot rise lt at is = absurd (omega arith)
-  with_slot-set (s ∷ slots) zero serial change slot rise lt at is = grind (arith, has_slot-below, with_slot-absent)
-  with_slot-set (s ∷ slots) (suc i) serial change slot rise lt at is = grind (arith, with_slot-set slots i serial change slot, above_at)
+  -- a slot that was seen, behind the first one
+  pub seen_next : {s : Slot T} {slots : List (Slot T)} {i serial : ℕ} {slot : Slot T} → IsSeenAt (s ∷ slots) serial (suc i) slot → IsSeenAt slots serial i slot
+  seen_next seen = record { within = omega (arith, seen.within); named = seen.named; read = seen.read }
 
-  -- what a slot that was found says of the root
-  pub root_at-found : (slots : List (Slot T)) (i serial : ℕ) (slot : Slot T) → Rises slots → i < length slots → slice_index (serials_of slots) i ≡ serial → slot ≡ get_or slots i slot → root_at slots serial ≡ slot.root
-  root_at-found [] i serial slot rise lt at is = absurd (omega arith)
-  root_at-found (s ∷ slots) zero serial slot rise lt at is = grind arith
-  root_at-found (s ∷ slots) (suc i) serial slot rise lt at is = grind (arith, root_at-found slots i serial slot, above_at)
+  -- a write at the place of a serial
+  pub with_slot-set : (slots : List (Slot T)) (i serial : ℕ) (change : Slot T → Slot T) (slot : Slot T) → Rises slots → IsSeenAt slots serial i slot →
+      set slots i (change slot) ≡ with_slot serial change slots
+  with_slot-set [] i serial change slot rise seen = absurd (omega (arith, seen.within))
+  with_slot-set (s ∷ slots) zero serial change slot rise seen = grind (arith, has_slot-below, with_slot-absent)
+  with_slot-set (s ∷ slots) (suc i) serial change slot rise seen =
+      let next = seen_next seen in grind (arith, with_slot-set slots i serial change slot rise.1 next, above_at slots s.serial i)
+
+  -- what a slot that was found says of the root, and of the count of children
+  pub root_at-found : (slots : List (Slot T)) (i serial : ℕ) (slot : Slot T) → Rises slots → IsSeenAt slots serial i slot → root_at slots serial ≡ slot.root
+  root_at-found [] i serial slot rise seen = absurd (omega (arith, seen.within))
+  root_at-found (s ∷ slots) zero serial slot rise seen = grind arith
+  root_at-found (s ∷ slots) (suc i) serial slot rise seen =
+      let next = seen_next seen in grind (arith, root_at-found slots i serial slot rise.1 next, above_at slots s.serial i)
+
+  pub children_at-found : (slots : List (Slot T)) (i serial : ℕ) (slot : Slot T) → Rises slots → IsSeenAt slots serial i slot →
+      children_at slots serial ≡ slot.children
+  children_at-found [] i serial slot rise seen = absurd (omega (arith, seen.within))
+  children_at-found (s ∷ slots) zero serial slot rise seen = grind arith
+  children_at-found (s ∷ slots) (suc i) serial slot rise seen =
+      let next = seen_next seen in grind (arith, children_at-found slots i serial slot rise.1 next, above_at slots s.serial i)
 
   -- a bound on all counts, at a place
-  pub count_at : (slots : List (Slot T)) (limit i : ℕ) (slot : Slot T) → AllCountsBelow limit slots → i < length slots → slot ≡ get_or slots i slot → slot.children < limit
+  pub count_at : (slots : List (Slot T)) (limit i : ℕ) (slot : Slot T) → AllCountsBelow limit slots → i < length slots → slot ≡ get_or slots i slot →
+      slot.children < limit
   count_at [] limit i slot few lt is = absurd (omega arith)
   count_at (s ∷ slots) limit zero slot few lt is = let e = ap (λ (s : Slot T). s.children) is in omega (arith, few.0, e)
   count_at (s ∷ slots) limit (suc i) slot few lt is = count_at slots limit i slot few.1 (omega arith) is
-
--- the slot of a parent that was read: one more child, one less, and the root under it
-module _ {T : Type 0} {slots : List (Slot T)} {parent : Option ℕ} {above i : ℕ} {slot : Slot T} (is_parent : parent ≡ Some above) (rise : Rises slots)
-    (seen : IsSeenAt slots above i slot) where
-  pub with_child-set : set slots i (record slot { children = slot.children + 1 }) ≡ with_child parent slots
-  with_child-set = rw is_parent (with_slot-set slots i above (λ s. record s { children = s.children + 1 }) slot rise seen.within seen.named seen.read)
-
-  pub without_child-set : set slots i (record slot { children = slot.children - 1 }) ≡ without_child parent slots
-  without_child-set = rw is_parent (with_slot-set slots i above (λ s. record s { children = s.children - 1 }) slot rise seen.within seen.named seen.read)
-
-  pub root_under-found : (serial : ℕ) → slot.root ≡ root_under slots parent serial
-  root_under-found serial = rw is_parent (sym (root_at-found slots i above slot rise seen.within seen.named seen.read))
-
-  -- the count in a slot that was found
-  pub children_at-found : CountsAtParent slots parent → 1 ≤ slot.children
-  children_at-found counts =
-      let here : 0 < children_at slots above = rw is_parent at counts in
-      omega (arith, here, found_children slots i above rise seen.within seen.named seen.read)
-    where
-      found_children : (slots : List (Slot T)) (i serial : ℕ) → Rises slots → i < length slots → slice_index (serials_of slots) i ≡ serial → slot ≡ get_or slots i slot → children_at slots serial ≡ slot.children
-      found_children [] i serial rise lt at is = absurd (omega arith)
-      found_children (s ∷ slots) zero serial rise lt at is = grind arith
-      found_children (s ∷ slots) (suc i) serial rise lt at is = grind (arith, found_children slots i serial, above_at)
 
 -- Slots of which some go: those that stay are linked as before, and stand for the frames that stay.
 
@@ -223,14 +219,10 @@ pub record Keeps {T : Type 0} (keep : ℕ → Bool) (frames left : List (Frame T
   pub has : (p : ℕ) → keep p ≡ true → has_frame left p ≡ has_frame frames p
   pub below : (m : ℕ) → AllBelow m frames → AllBelow m left
 
--- the path of a frame among one more
-pub path_next : {T : Type 0} (frames left : List (Frame T)) (x : Frame T) (p : ℕ) → path_in left p ≡ path_in frames p → has_frame left p ≡ has_frame frames p → path_in (left ++ x ∷ []) p ≡ path_in (frames ++ x ∷ []) p
-path_next frames left x p paths has = grind (arith, path_in-left, path_in-right)
-
--- one more frame that stays
+-- one more frame that stays, with another state or value
 module _ {T : Type 0} (keep : ℕ → Bool) (frames left : List (Frame T)) (x : Frame T) where
-  pub Keeps-next : Keeps keep frames left → Keeps keep (frames ++ x ∷ []) (left ++ x ∷ [])
-  Keeps-next k = grind (arith, path_next, has_frame-append, AllBelow-append, AllBelow-left, AllBelow-right)
+  pub Keeps-next : (y : Frame T) → x.serial ≡ y.serial → x.path ≡ y.path → Keeps keep frames left → Keeps keep (frames ++ x ∷ []) (left ++ y ∷ [])
+  Keeps-next y serial path k = grind (arith, path_in-left, path_in-right, has_frame-append, AllBelow-append, AllBelow-left, AllBelow-right)
 
   -- one more frame that goes
   pub Keeps-gone : keep x.serial ≡ false → Keeps keep frames left → Keeps keep (frames ++ x ∷ []) left
@@ -242,7 +234,8 @@ module _ {T : Type 0} (keep : ℕ → Bool) (frames left : List (Frame T)) (x : 
 
 -- the path under a parent that stays
 module _ {T : Type 0} (keep : ℕ → Bool) (frames left : List (Frame T)) (parent : Option ℕ) where
-  pub path_under-kept : (serial : ℕ) → Keeps keep frames left → ((p : ℕ) → parent ≡ Some p → keep p ≡ true) → path_under left parent serial ≡ path_under frames parent serial
+  pub path_under-kept : (serial : ℕ) → Keeps keep frames left → ((p : ℕ) → parent ≡ Some p → keep p ≡ true) →
+      path_under left parent serial ≡ path_under frames parent serial
   path_under-kept serial h6 h7 = grind arith
 
   pub has_parent-kept : Keeps keep frames left → ((p : ℕ) → parent ≡ Some p → keep p ≡ true) → has_parent left parent ≡ has_parent frames parent
@@ -250,14 +243,22 @@ module _ {T : Type 0} (keep : ℕ → Bool) (frames left : List (Frame T)) (pare
 
 -- the frames of the slots that stay are those that stay of the frames
 module _ {T : Type 0} (keep : ℕ → Bool) where
-  pub frames_from-kept : (frames left : List (Frame T)) (xs : List (Slot T)) → Keeps keep frames left → IsClosed keep xs → frames_from left (filter (λ x. keep x.serial) xs) ≡ filter (λ x. keep x.serial) (frames_from frames xs)
+  pub frames_from-kept : (frames left : List (Frame T)) (xs : List (Slot T)) → Keeps keep frames left → IsClosed keep xs →
+      frames_from left (filter (λ x. keep x.serial) xs) ≡ filter (λ x. keep x.serial) (frames_from frames xs)
   frames_from-kept frames left [] k c = refl
-  frames_from-kept frames left (x ∷ xs) k c = grind (arith, frames_from-kept (next_to frames x) (left ++ frame_of_slot frames x ∷ []) xs (Keeps-next keep frames left (frame_of_slot frames x) k), frames_from-kept (next_to frames x) left xs, path_under-kept, Keeps-next, Keeps-gone)
+  frames_from-kept frames left (x ∷ xs) k c =
+      let next = frame_of_slot frames x in
+      let stays = frames_from-kept (next_to frames x) (left ++ next ∷ []) xs (Keeps-next keep frames left next next refl refl k) in
+      grind (arith, stays, frames_from-kept (next_to frames x) left xs, path_under-kept, Keeps-gone)
 
   -- and they are linked
-  pub IsLinked-kept : (frames left : List (Frame T)) (xs : List (Slot T)) → Keeps keep frames left → IsClosed keep xs → IsLinked frames xs → IsLinked left (filter (λ x. keep x.serial) xs)
+  pub IsLinked-kept : (frames left : List (Frame T)) (xs : List (Slot T)) → Keeps keep frames left → IsClosed keep xs → IsLinked frames xs →
+      IsLinked left (filter (λ x. keep x.serial) xs)
   IsLinked-kept frames left [] k c l = tt
-  IsLinked-kept frames left (x ∷ xs) k c l = grind (arith, IsLinked-kept (next_to frames x) (left ++ frame_of_slot frames x ∷ []) xs (Keeps-next keep frames left (frame_of_slot frames x) k), IsLinked-kept (next_to frames x) left xs, path_under-kept, has_parent-kept, Keeps-next, Keeps-gone)
+  IsLinked-kept frames left (x ∷ xs) k c l =
+      let next = frame_of_slot frames x in
+      let stays = IsLinked-kept (next_to frames x) (left ++ next ∷ []) xs (Keeps-next keep frames left next next refl refl k) in
+      grind (arith, stays, IsLinked-kept (next_to frames x) left xs, path_under-kept, has_parent-kept, Keeps-gone)
 
   -- nothing is before the first slot
   pub Keeps-none : Keeps {T = T} keep [] []
@@ -288,7 +289,8 @@ module _ {T : Type 0} (under : ℕ) (all : List (Frame T)) where
   kept_next frames None serial is there ends same = rw is refl
   kept_next frames (Some p) serial is there ends same = grind (arith, goes_under-append under (path_in frames p) p serial, EndsIn-path_in)
 
-  pub kept_follows : (frames : List (Frame T)) (xs : List (Slot T)) → all ≡ frames ++ frames_from frames xs → IsLinked frames xs → AllEnd frames → FollowsBy (is_kept under all) under xs
+  pub kept_follows : (frames : List (Frame T)) (xs : List (Slot T)) → all ≡ frames ++ frames_from frames xs → IsLinked frames xs → AllEnd frames →
+      FollowsBy (is_kept under all) under xs
   kept_follows frames [] is l ends = tt
   kept_follows frames (x ∷ xs) is l ends =
       let next = frame_of_slot frames x in
@@ -297,26 +299,15 @@ module _ {T : Type 0} (under : ℕ) (all : List (Frame T)) where
         kept_follows (frames ++ next ∷ []) xs (all_next all frames x xs is) l.1 (AllEnd-next frames x ends),
       )
 
--- each frame is found with its path
-module _ {T : Type 0} (all : List (Frame T)) where
-  abbrev pub HasPaths : List (Frame T) → Type 0
-  HasPaths [] = Unit {0}
-  HasPaths (x ∷ xs) = (path_in all x.serial ≡ x.path) × HasPaths xs
-
-  pub has_paths : (frames : List (Frame T)) (xs : List (Slot T)) → all ≡ frames ++ frames_from frames xs → IsLinked frames xs → HasPaths (frames_from frames xs)
-  has_paths frames [] is l = tt
-  has_paths frames (x ∷ xs) is l =
-      let next = frame_of_slot frames x in
-      (path_in-next all frames (frames_from (frames ++ next ∷ []) xs) next is l.0.above, has_paths (frames ++ next ∷ []) xs (all_next all frames x xs is) l.1)
-
-module _ {T : Type 0} (under : ℕ) (all : List (Frame T)) where
-  pub aborted-is_kept : (xs : List (Frame T)) → HasPaths all xs → filter (λ x. is_kept under all x.serial) xs ≡ aborted under xs
-  aborted-is_kept [] h = refl
-  aborted-is_kept (x ∷ xs) h = grind (arith, aborted-is_kept xs)
-
-  pub frames_under-is_kept : (xs : List (Frame T)) → HasPaths all xs → filter (λ x. not (is_kept under all x.serial)) xs ≡ frames_under under xs
-  frames_under-is_kept [] h = refl
-  frames_under-is_kept (x ∷ xs) h = grind (arith, frames_under-is_kept xs)
+-- which frames a test chooses by the paths that they are found with, it chooses by their own
+module _ {T : Type 0} (p q : List ℕ → Bool) (same : (path : List ℕ) → p path ≡ q path) (all : List (Frame T)) where
+  chosen_by_paths : (frames : List (Frame T)) (xs : List (Slot T)) → all ≡ frames ++ frames_from frames xs → IsLinked frames xs →
+      filter (λ x. p (path_in all x.serial)) (frames_from frames xs) ≡ filter (λ x. q x.path) (frames_from frames xs)
+  chosen_by_paths frames [] is l = refl
+  chosen_by_paths frames (x ∷ xs) is l =
+      let here = path_in-next all frames (frames_from (next_to frames x) xs) (frame_of_slot frames x) is l.0.above in
+      let rest = chosen_by_paths (next_to frames x) xs (all_next all frames x xs is) l.1 in
+      grind (arith, here, rest, same)
 
 -- the values of slots are those of the frames
 pub slot_values-frames : {T : Type 0} (frames : List (Frame T)) (xs : List (Slot T)) → slot_values xs ≡ values_of (frames_from frames xs)
@@ -324,31 +315,37 @@ slot_values-frames frames [] = refl
 slot_values-frames frames (x ∷ xs) = ap (λ vs. x.value ∷ vs) (slot_values-frames (next_to frames x) xs)
 
 -- the values of chosen slots are those of the chosen frames
-pub values-frames_from : {T : Type 0} (choose : ℕ → Bool) (frames : List (Frame T)) (xs : List (Slot T)) → map (λ x. x.value) (filter (λ x. choose x.serial) xs) ≡ values_of (filter (λ x. choose x.serial) (frames_from frames xs))
+pub values-frames_from : {T : Type 0} (choose : ℕ → Bool) (frames : List (Frame T)) (xs : List (Slot T)) →
+    map (λ x. x.value) (filter (λ x. choose x.serial) xs) ≡ values_of (filter (λ x. choose x.serial) (frames_from frames xs))
 values-frames_from choose frames [] = refl
 values-frames_from choose frames (x ∷ xs) = grind (arith, values-frames_from choose (next_to frames x) xs)
 
 -- what an abort leaves of linked slots
 module _ {T : Type 0} (under : ℕ) (xs : List (Slot T)) (l : IsLinked [] xs) where
-  closed : IsClosed (stays_in under xs) xs
-  closed = IsClosed-from_follows (stays_in under xs) under xs (kept_follows under (frames_from [] xs) [] xs refl l tt)
+  pub abort_follows : FollowsBy (stays_in under xs) under xs
+  abort_follows = kept_follows under (frames_from [] xs) [] xs refl l tt
+
+  pub abort_closed : IsClosed (stays_in under xs) xs
+  abort_closed = IsClosed-from_follows (stays_in under xs) under xs abort_follows
 
   pub kept_slots-frames : frames_from [] (kept_slots under xs) ≡ aborted under (frames_from [] xs)
   kept_slots-frames =
-      let all = frames_from [] xs in
-      frames_from-kept (is_kept under all) [] [] xs (Keeps-none (is_kept under all)) closed ∙ aborted-is_kept under all all (has_paths all [] xs refl l)
+      let stays : List ℕ → Bool = λ path. not (goes_under under path) in
+      frames_from-kept (stays_in under xs) [] [] xs (Keeps-none (stays_in under xs)) abort_closed ∙ chosen_by_paths stays stays (λ path. refl) (frames_from [] xs) [] xs refl l
 
   pub kept_slots-linked : IsLinked [] (kept_slots under xs)
-  kept_slots-linked = IsLinked-kept (stays_in under xs) [] [] xs (Keeps-none (stays_in under xs)) closed l
+  kept_slots-linked = IsLinked-kept (stays_in under xs) [] [] xs (Keeps-none (stays_in under xs)) abort_closed l
 
   pub gone_values-frames : gone_values under xs ≡ values_of (frames_under under (frames_from [] xs))
   gone_values-frames =
-      let all = frames_from [] xs in
-      values-frames_from (λ s. not (is_kept under all s)) [] xs ∙ ap values_of (frames_under-is_kept under all all (has_paths all [] xs refl l))
+      let goes : List ℕ → Bool = goes_under under in
+      values-frames_from (λ s. not (stays_in under xs s)) [] xs
+      ∙ ap values_of (chosen_by_paths (λ path. not (not (goes path))) goes (λ path. not-not (goes path)) (frames_from [] xs) [] xs refl l)
 
 -- a slot that was read stays as its parent lets it
 module _ {T : Type 0} (keep : ℕ → Bool) where
-  pub follows_at : (under : ℕ) (xs : List (Slot T)) (i : ℕ) (slot : Slot T) → FollowsBy keep under xs → i < length xs → slot ≡ get_or xs i slot → keep slot.serial ≡ stays_by keep under slot.parent
+  pub follows_at : (under : ℕ) (xs : List (Slot T)) (i : ℕ) (slot : Slot T) → FollowsBy keep under xs → i < length xs → slot ≡ get_or xs i slot →
+      keep slot.serial ≡ stays_by keep under slot.parent
   follows_at under [] i slot f lt is = absurd (omega arith)
   follows_at under (x ∷ xs) zero slot f lt is = rw is f.0
   follows_at under (x ∷ xs) (suc i) slot f lt is = follows_at under xs i slot f.1 (omega arith) is

@@ -1,15 +1,16 @@
 -- The serials of slots as their index, and the keys of an order: a key that is found stands in the order.
 use Rattle.std.proofs.Common.{◌≡◌, ℕ, zero, suc, ◌<◌, true, false, ◌||◌, eqb, List, [], ◌∷◌, ◌++◌, length, take, take-append-drop, drop, set, get_or}
-use Rattle.std.proofs.Common.{slice_index, cond, Option, is_some, IfSome, IfNone, refl, ap, sym, ◌∙◌, arith, ◌≢◌, ◌≤◌, Some, None, count_by, subst, inl, inr}
+use Rattle.std.proofs.Common.{slice_index, cond, Option, is_some, IfSome, IfNone, refl, ap, sym, ◌∙◌, arith, ◌≤◌, Some, None, count_by, subst, inl, inr}
 use Rattle.frame_tree.proofs.Common.{State, remove, has_number, StoredSlot, common_steps, AreAbove, AreRising, Slot, Slot as TenantSlot, get_or-set_other}
-use Rattle.frame_tree.proofs.Common.{length-map, map-append, Slab, get, slab_len, ContainsKey, Updates, cases_eq, false≢true, eq-eqb, ne_eqb, or_right}
-use Rattle.frame_tree.proofs.Common.{AllAbove, Rises, serials_of, has_slot, IsLinked, with_slot, with_child, without_child, slots_in, AllHere, AreApartKeys}
-use Rattle.frame_tree.proofs.Common.{KnowsParent, IsSlotStore, AreKeys, IsKeyAt, IsSeenAt, ChangesSlot}
+use Rattle.frame_tree.proofs.Common.{length-map, map-append, Slab, get, slab_len, ContainsKey, Updates, cases_eq, false≢true, eq-eqb, ne_eqb, AllAbove, Rises}
+use Rattle.frame_tree.proofs.Common.{serials_of, has_slot, IsLinked, with_child, slots_in, AllHere, AreApartKeys, KnowsParent, IsSlotStore, AreKeys, IsKeyAt}
+use Rattle.frame_tree.proofs.Common.{IsSeenAt, ChangesSlot}
 use Rattle.frame_tree.proofs.Forest.{has_frame-frames_from, linked_rises, serial_read, has_slot-found}
 use Rattle.std.proofs.lemmas.List.Sums.{sum_by-set}
 use Rattle.std.proofs.Math.Seq.{map-set_same}
 use Rattle.std.proofs.lemmas.List.{take-map, drop-map}
-use Rattle.frame_tree.proofs.SlotStores.{here_contains, AreLike, updated_like, all_here_like, slots_in-put, slots_in-length, slot_read, knows_read, kept_read}
+use Rattle.frame_tree.proofs.SlotStores.{here_contains, AreLike, all_here_like, slots_in-put, slots_in-length, slot_read, knows_read, kept_read}
+use Rattle.frame_tree.proofs.Changes.{recount_more}
 
 pub has_number-serials_of : {T : Type 0} (xs : List (Slot T)) (n : ℕ) → has_number (serials_of xs) n ≡ has_slot xs n
 has_number-serials_of [] n = refl
@@ -27,18 +28,6 @@ serials_of-rises (x ∷ xs) r = (above x.serial xs r.0, serials_of-rises xs r.1)
 pub record IsFoundAt {T : Type 0} (xs : List (Slot T)) (at n : ℕ) : Type 0 where
   pub within : at < length xs
   pub found : slice_index (serials_of xs) at ≡ n
-
--- the serials through each change
-module _ {T : Type 0} where
-  pub serials_of-with_slot : (p : ℕ) (change : Slot T → Slot T) (xs : List (Slot T)) → ((x : Slot T) → (change x).serial ≡ x.serial) → serials_of (with_slot p change xs) ≡ serials_of xs
-  serials_of-with_slot p change [] same = refl
-  serials_of-with_slot p change (x ∷ xs) same = grind (arith, serials_of-with_slot p change xs same)
-
-  pub serials_of-without_child : (parent : Option ℕ) (xs : List (Slot T)) → serials_of (without_child parent xs) ≡ serials_of xs
-  serials_of-without_child parent xs = grind (arith, serials_of-with_slot)
-
-  pub serials_of-remove : (xs : List (Slot T)) (i : ℕ) → serials_of (remove xs i) ≡ remove (serials_of xs) i
-  serials_of-remove xs i = simp (map-append, take-map, drop-map)
 
 -- the index: what a search of it says of the slots, and what each change leaves of it
 module _ {T : Type 0} (xs : List (Slot T)) (serials : List ℕ) (is : serials ≡ serials_of xs) where
@@ -59,17 +48,18 @@ module _ {T : Type 0} (xs : List (Slot T)) (serials : List ℕ) (is : serials �
   index_rises l = rw is (serials_of-rises xs (linked_rises [] xs l))
 
   -- whether a search has found a slot
-  pub found_there : (n : ℕ) (place : Option ℕ) → IfSome place (λ at. (at < length serials) × (slice_index serials at ≡ n)) → IfNone place (has_number serials n ≡ false) → is_some place ≡ has_slot xs n
+  pub found_there : (n : ℕ) (place : Option ℕ) → IfSome place (λ at. (at < length serials) × (slice_index serials at ≡ n)) →
+      IfNone place (has_number serials n ≡ false) → is_some place ≡ has_slot xs n
   found_there n place h6 h7 = grind (arith, none_at, found_at, has_slot-found)
 
   pub added_index : (parent : Option ℕ) (slot : Slot T) → serials ++ slot.serial ∷ [] ≡ serials_of (with_child parent xs ++ slot ∷ [])
-  added_index parent slot = grind (arith, map-append, serials_of-with_slot)
+  added_index parent slot = let same = (recount_more parent xs).serials in grind (arith, map-append, same)
 
   pub index_set : (i : ℕ) (slot new : Slot T) → slot ≡ get_or xs i slot → new.serial ≡ slot.serial → serials ≡ serials_of (set xs i new)
   index_set i slot new read same = is ∙ sym (map-set_same (λ s. s.serial) xs i new slot (same ∙ ap (λ s. s.serial) read))
 
   pub removed_index : (i : ℕ) → remove serials i ≡ serials_of (remove xs i)
-  removed_index i = ap (λ ns. remove ns i) is ∙ sym (serials_of-remove xs i)
+  removed_index i = rw is (simp (map-append, take-map, drop-map))
 
   pub cut_index : (zs : List (Slot T)) (i : ℕ) → take i (serials_of zs) ≡ take i (serials_of xs) → take i serials ++ serials_of (drop i zs) ≡ serials_of zs
   cut_index zs i front = rw (is, ← front) (rw (← drop-map (λ s. s.serial) i zs) (take-append-drop i (serials_of zs)))
@@ -95,14 +85,8 @@ all_among {X} slots (k ∷ keys) key apart filled counted some =
     let one : cond (is_some (get_or slots k None)) (suc zero) zero ≡ suc zero = rw here refl in
     omega (arith, e, one, counted)) in
     let still : (j : ℕ) → has_number keys j ≡ true → is_some (get_or rest j None) ≡ true =
-    λ j has. (let other : j ≢ k = λ e. false≢true (sym apart.0 ∙ (ap (has_number keys) (sym e) ∙ has)) in
-    rw (get_or-set_other slots k j None None other) (filled j (or_right (eqb k j) (has_number keys j) has))) in
-    elim (cases_eq k key) [
-      | inl same ↦ rw (eq-eqb k key same) refl
-      | inr differs ↦ (let other : key ≢ k = λ e. differs (sym e) in
-          let left : is_some (get_or rest key None) ≡ true = rw (get_or-set_other slots k key None None other) some in
-          or_right (eqb k key) (has_number keys key) (all_among rest keys key apart.1 still fewer left))
-    ]
+    λ j has. (let there = filled j in let other = get_or-set_other slots k j None None in grind (arith, there, other)) in
+    grind (arith, all_among rest keys key apart.1 still fewer, get_or-set_other slots k key None None)
 
 -- a key that is there stands somewhere
 stands : (keys : List ℕ) (key : ℕ) → has_number keys key ≡ true → (at : ℕ) × (at < length keys) × (key ≡ get_or keys at key)
@@ -115,23 +99,29 @@ stands (k ∷ keys) key has =
           (suc rest.0, (let h = rest.1 in omega (arith, h)), rest.2))
     ]
 
-all_filled : {T : Type 0} (slab : Slab (StoredSlot T)) (before keys : List ℕ) → AllHere slab before keys → (k : ℕ) → has_number keys k ≡ true → ContainsKey slab k
+all_filled : {T : Type 0} (slab : Slab (StoredSlot T)) (before keys : List ℕ) → AllHere slab before keys → (k : ℕ) → has_number keys k ≡ true →
+    ContainsKey slab k
 all_filled slab before [] h k has = absurd (false≢true has)
 all_filled slab before (j ∷ keys) h k has = grind (arith, all_filled slab (before ++ j ∷ []) keys, here_contains)
 
--- the key of a slot that was found by its serial
-module _ {T : Type 0} (slab : Slab (StoredSlot T)) (keys : List ℕ) where
-  pub key_found : (serial key : ℕ) (kept : StoredSlot T) → AreKeys slab keys → get slab key ≡ Some kept → kept.slot.serial ≡ serial → (at : ℕ) × IsKeyAt slab keys serial at key
-  key_found serial key kept are found named =
+-- the key of a slot that was found by its serial, and the slot under the key that a serial has
+module _ {T : Type 0} {slab : Slab (StoredSlot T)} {keys : List ℕ} {serial key : ℕ} {kept : StoredSlot T} (are : AreKeys slab keys) where
+  pub key_found : get slab key ≡ Some kept → kept.slot.serial ≡ serial → (at : ℕ) × IsKeyAt slab keys serial at key
+  key_found found named =
       let place = stands keys key (all_among slab.slots keys key are.apart (all_filled slab [] keys are.here) are.counted (ap is_some found)) in
       let lt : place.0 < length (slots_in slab keys) = rw (slots_in-length slab [] keys are.here) place.1 in
       let read = slot_read slab keys place.0 key kept kept.slot are.here place.1 place.2 found in
       (place.0, record { within = place.1; read = place.2; named = serial_read (slots_in slab keys) place.0 kept.slot lt (sym read) ∙ named })
 
-  -- and of one that a search has found
-  pub key_searched : (serials : List ℕ) (serial at key : ℕ) → serials ≡ serials_of (slots_in slab keys) → at < length keys → key ≡ get_or keys at key → slice_index serials at ≡ serial → IsKeyAt slab keys serial at key
-  key_searched serials serial at key is within read found = record { within = within; read = read; named = rw is at found }
+  pub seen_at : {at : ℕ} → IsKeyAt slab keys serial at key → get slab key ≡ Some kept → IsSeenAt (slots_in slab keys) serial at kept.slot
+  seen_at k found = grind (arith, slots_in-length, slot_read)
 
+-- the same where the serials were searched
+pub key_searched : {T : Type 0} {slab : Slab (StoredSlot T)} {keys serials : List ℕ} {serial at key : ℕ} → serials ≡ serials_of (slots_in slab keys) →
+    at < length keys → key ≡ get_or keys at key → slice_index serials at ≡ serial → IsKeyAt slab keys serial at key
+key_searched is within read found = record { within = within; read = read; named = rw is at found }
+
+module _ {T : Type 0} (slab : Slab (StoredSlot T)) (keys : List ℕ) where
   -- as many serials as keys
   pub index_long : (serials : List ℕ) → serials ≡ serials_of (slots_in slab keys) → AreKeys slab keys → length serials ≡ length keys
   index_long serials is are = ap length is ∙ (length-map (slots_in slab keys) _ ∙ slots_in-length slab [] keys are.here)
@@ -139,59 +129,51 @@ module _ {T : Type 0} (slab : Slab (StoredSlot T)) (keys : List ℕ) where
   pub are_keys : (room places : ℕ) → IsSlotStore slab keys room places → AreKeys slab keys
   are_keys room places s = record { here = s.here; apart = s.apart; counted = s.counted }
 
-  -- a slot under the key that a serial has
-  pub seen_at : (serial at key : ℕ) (kept : StoredSlot T) → AreKeys slab keys → IsKeyAt slab keys serial at key → get slab key ≡ Some kept → IsSeenAt (slots_in slab keys) serial at kept.slot
-  seen_at serial at key kept are k found = grind (arith, slots_in-length, slot_read)
+-- a slot was written under a key, in the place of this one
+module _ {T : Type 0} {old new : Slab (StoredSlot T)} {key : ℕ} {kept : StoredSlot T} {after : TenantSlot T} (found : get old key ≡ Some kept)
+    (put : Updates old new key (Some (record kept { slot = after }))) where
+  pub put_slots : (keys : List ℕ) (at : ℕ) → AreKeys old keys → at < length keys → key ≡ get_or keys at key →
+      slots_in new keys ≡ set (slots_in old keys) at after
+  put_slots keys at are within read =
+      slots_in-put old new [] keys at key (record kept { slot = after }) are.here are.apart within (subst (λ n. Updates old new n (Some (record kept { slot = after }))) read put)
 
--- a change of a slot that keeps its name and its parent
-pub record Keeps {T : Type 0} (change : TenantSlot T → TenantSlot T) : Type 0 where
-  pub serial : (slot : TenantSlot T) → (change slot).serial ≡ slot.serial
-  pub parent : (slot : TenantSlot T) → (change slot).parent ≡ slot.parent
+  -- one of its name and parent
+  module _ (serial : after.serial ≡ kept.slot.serial) (parent : after.parent ≡ kept.slot.parent) where
+    pub put_like : AreLike old new
+    put_like k x is = grind arith
 
--- what stands under a key is changed so
-abbrev pub Puts : {T : Type 0} → Slab (StoredSlot T) → Slab (StoredSlot T) → ℕ → (TenantSlot T → TenantSlot T) → Type 0
-Puts {T} old new key change = (kept : StoredSlot T) → get old key ≡ Some kept → Updates old new key (Some (record kept { slot = change kept.slot }))
+    pub put_keys : (keys : List ℕ) → AreKeys old keys → slab_len new ≡ slab_len old → AreKeys new keys
+    put_keys keys are len = record { here = all_here_like old new [] keys put_like are.here; apart = are.apart; counted = len ∙ are.counted }
 
--- keys, slots and a slot store after such a change
-module _ {T : Type 0} (old new : Slab (StoredSlot T)) (key : ℕ) (change : TenantSlot T → TenantSlot T) (kept : StoredSlot T) (found : get old key ≡ Some kept)
-    (puts : Puts old new key change) where
-  pub changed_like : Keeps change → AreLike old new
-  changed_like keeps = updated_like old new key kept (record kept { slot = change kept.slot }) found (puts kept found) (keeps.serial kept.slot, keeps.parent kept.slot, refl, refl)
-
-  pub changed_keys : (keys : List ℕ) → AreKeys old keys → Keeps change → slab_len new ≡ slab_len old → AreKeys new keys
-  changed_keys keys are keeps len = grind (arith, all_here_like, changed_like)
-
-  pub changed_slots : (keys : List ℕ) (serial at : ℕ) → AreKeys old keys → IsKeyAt old keys serial at key → slots_in new keys ≡ set (slots_in old keys) at (change kept.slot)
-  changed_slots keys serial at are k =
-      let after = record kept { slot = change kept.slot } in
-      slots_in-put old new [] keys at key after are.here are.apart k.within (subst (λ n. Updates old new n (Some after)) k.read (puts kept found))
-
-  pub changed_store : (keys : List ℕ) (room places : ℕ) → IsSlotStore old keys room places → Keeps change → slab_len new ≡ slab_len old → new.capacity ≡ old.capacity → IsSlotStore new keys room places
-  changed_store keys room places s keeps len capacity = grind (arith, changed_keys, are_keys)
+    pub put_store : (keys : List ℕ) (room places : ℕ) → IsSlotStore old keys room places → slab_len new ≡ slab_len old → new.capacity ≡ old.capacity →
+        IsSlotStore new keys room places
+    put_store keys room places s len capacity = let are = put_keys keys (are_keys old keys room places s) len in grind arith
 
 -- a parent's key
-pub knows_key : {T : Type 0} (slab : Slab (StoredSlot T)) (keys : List ℕ) (parent : Option ℕ) (name at key : ℕ) → parent ≡ Some name → AreKeys slab keys → IsKeyAt slab keys name at key → KnowsParent slab keys parent (Some key)
+pub knows_key : {T : Type 0} (slab : Slab (StoredSlot T)) (keys : List ℕ) (parent : Option ℕ) (name at key : ℕ) → parent ≡ Some name → AreKeys slab keys →
+    IsKeyAt slab keys name at key → KnowsParent slab keys parent (Some key)
 knows_key slab keys parent name at key is are k = grind (arith, slots_in-length, knows_read)
 
 -- the slot with a serial in another state, told the one that it was in
-module _ {T : Type 0} (old new : Slab (StoredSlot T)) {keys : List ℕ} {room places serial at : ℕ} (key : ℕ) (was state : State) (s : IsSlotStore old keys room places)
-    (k : IsKeyAt old keys serial at key) (put : Puts old new key (λ slot. record slot { state = state })) (len : slab_len new ≡ slab_len old) where
+module _ {T : Type 0} (old new : Slab (StoredSlot T)) {keys : List ℕ} {room places serial at : ℕ} (key : ℕ) (was state : State)
+    (s : IsSlotStore old keys room places)
+    (k : IsKeyAt old keys serial at key) (len : slab_len new ≡ slab_len old)
+    (put : (kept : StoredSlot T) → get old key ≡ Some kept → Updates old new key (Some (record kept { slot = record kept.slot { state = state } }))) where
+  kept : (kept : StoredSlot T) × (get old key ≡ Some kept)
+  kept = kept_read old keys at key s.here k.within k.read
+
   pub state_store : new.capacity ≡ old.capacity → IsSlotStore new keys room places
-  state_store capacity =
-      let kept = kept_read old keys at key s.here k.within k.read in
-      changed_store old new key (λ slot. record slot { state = state }) kept.0 kept.1 put keys room places s (record { serial = λ slot. refl; parent = λ slot. refl }) len capacity
+  state_store capacity = put_store kept.1 (put kept.0 kept.1) refl refl keys room places s len capacity
 
   pub state_changes : ((kept : StoredSlot T) → get old key ≡ Some kept → was ≡ kept.slot.state) →
       ChangesSlot (record { places = places; slots = slots_in old keys }) (record { places = places; slots = slots_in new keys }) serial (λ slot. record slot { state = state }) (λ slot. was ≡ slot.state)
   state_changes told =
-      let kept = kept_read old keys at key s.here k.within k.read in
       let are = are_keys old keys room places s in
-      let slots = changed_slots old new key (λ slot. record slot { state = state }) kept.0 kept.1 put keys serial at are k in
       record {
         at = at;
         slot = kept.0.slot;
-        seen = seen_at old keys serial at key kept.0 are k kept.1;
-        changed = ap (λ xs. record { places = places; slots = xs }) slots;
+        seen = seen_at are k kept.1;
+        changed = ap (λ xs. record { places = places; slots = xs }) (put_slots kept.1 (put kept.0 kept.1) keys at are k.within k.read);
         told = told kept.0 kept.1;
       }
 

@@ -17,7 +17,8 @@ module _ {X : Type 0} (number : X → ℕ) where
   rises_by-not_falls (x ∷ xs) rise (suc i) (suc j) d le lt = rises_by-not_falls xs rise.1 i j d (omega arith) (omega arith)
 
   -- the place that a search has found
-  pub place_from_point : (xs : List X) (n at : ℕ) → at ≤ length xs → IsPartitionPoint (λ x. nat_lt (number x) n ≡ true) (λ x. nat_lt (number x) n ≡ false) xs at → IsPlaceFor number xs n at
+  pub place_from_point : (xs : List X) (n at : ℕ) → at ≤ length xs →
+      IsPartitionPoint (λ x. nat_lt (number x) n ≡ true) (λ x. nat_lt (number x) n ≡ false) xs at → IsPlaceFor number xs n at
   place_from_point xs n zero le p = all xs (λ k d lt. p.1 k d (omega arith) lt)
     where
       all : (xs : List X) → ((k : ℕ) (d : X) → k < length xs → nat_lt (number (get_or xs k d)) n ≡ false) → AllFromBy number n xs
@@ -47,7 +48,8 @@ module _ {X : Type 0} (number : X → ℕ) where
   place_before [] n x rise some is le = absurd (omega arith)
   place_before (y ∷ ys) n x rise some is le = grind (arith, from_above)
 
-  pub place_behind : (xs : List X) (n at count : ℕ) (x : X) → AreRising number xs → count ≡ length xs → suc at ≡ length xs → x ≡ get_or xs at x → number x < n → IsPlaceFor number xs n count
+  pub place_behind : (xs : List X) (n at count : ℕ) (x : X) → AreRising number xs → count ≡ length xs → suc at ≡ length xs → x ≡ get_or xs at x → number x < n →
+      IsPlaceFor number xs n count
   place_behind xs n at count x rise all e is lt = let P : ℕ → Type 0 = λ k. IsPlaceFor number xs n k in subst P (e ∙ sym all) (behind xs at rise e is lt)
     where
       behind : (xs : List X) (at : ℕ) → AreRising number xs → suc at ≡ length xs → x ≡ get_or xs at x → number x < n → IsPlaceFor number xs n (suc at)
@@ -86,14 +88,16 @@ module _ {X : Type 0} (number : X → ℕ) where
   filter_not-above n (x ∷ xs) above = rw (ne_eqb (number x) n (λ e. omega (arith, above.0, e))) (ap (λ ys. x ∷ ys) (filter_not-above n xs above.1))
 
   -- the element that stands at the place of its number goes
-  pub filter_not-remove : (xs : List X) (n at : ℕ) (x : X) → AreRising number xs → IsPlaceFor number xs n at → at < length xs → x ≡ get_or xs at x → number x ≡ n → remove xs at ≡ filter (λ x. not (eqb (number x) n)) xs
+  pub filter_not-remove : (xs : List X) (n at : ℕ) (x : X) → AreRising number xs → IsPlaceFor number xs n at → at < length xs → x ≡ get_or xs at x →
+      number x ≡ n → remove xs at ≡ filter (λ x. not (eqb (number x) n)) xs
   filter_not-remove [] n at x rise p lt is same = absurd (omega arith)
   filter_not-remove (y ∷ ys) n zero x rise p lt is same = grind (arith, filter_not-above)
   filter_not-remove (y ∷ ys) n (suc at) x rise p lt is same =
       rw (ne_eqb (number y) n (λ e. omega (arith, p.0, e))) (ap (λ zs. y ∷ zs) (filter_not-remove ys n at x rise.1 p.1 (omega arith) is same))
 
   -- nothing is left out where another stands at the place, or nothing
-  pub filter_not-absent : (xs : List X) (n at : ℕ) → AreRising number xs → IsPlaceFor number xs n at → ((x : X) → at < length xs → x ≡ get_or xs at x → number x ≢ n) → xs ≡ filter (λ x. not (eqb (number x) n)) xs
+  pub filter_not-absent : (xs : List X) (n at : ℕ) → AreRising number xs → IsPlaceFor number xs n at →
+      ((x : X) → at < length xs → x ≡ get_or xs at x → number x ≢ n) → xs ≡ filter (λ x. not (eqb (number x) n)) xs
   filter_not-absent [] n zero rise p other = refl
   filter_not-absent (y ∷ ys) n zero rise p other = grind (arith, filter_not-above, all-map)
   filter_not-absent [] n (suc at) rise p other = absurd p
@@ -114,7 +118,8 @@ module _ {X : Type 0} (number : X → ℕ) (keep : X → Bool) where
   rises_by-filter (x ∷ xs) r = grind (arith, rises_by-filter xs, above_by-filter)
 
 -- a number between those below a place and those from it on is not there
-pub absent_between : (xs : List ℕ) (n i : ℕ) → ((k : ℕ) → k < i → get_or xs k 0 < n) → ((k : ℕ) → i ≤ k → k < length xs → n < get_or xs k 0) → has_number xs n ≡ false
+pub absent_between : (xs : List ℕ) (n i : ℕ) → ((k : ℕ) → k < i → get_or xs k 0 < n) → ((k : ℕ) → i ≤ k → k < length xs → n < get_or xs k 0) →
+    has_number xs n ≡ false
 absent_between [] n i below above = refl
 absent_between (x ∷ xs) n zero below above =
     let first = above 0 (omega arith) (omega arith) in

@@ -1,14 +1,12 @@
 -- The ready frames among slots, and what each change of the slots does to them.
-use Rattle.frame_tree.proofs.Common.{◌≡◌, ℕ, zero, suc, ◌-◌, ◌<◌, ◌≤◌, not, eqb, nat_lt, List, [], ◌∷◌, ◌++◌, Option, Some, None, length, take}
-use Rattle.frame_tree.proofs.Common.{get_or, length-inserted, set, slice_index, refl, ap, sym, ◌∙◌, inl, inr, arith, slice_get, filter, remove, cases_Bool}
-use Rattle.frame_tree.proofs.Common.{lt-ltb, ltb-true}
-use Rattle.frame_tree.proofs.Common.{FrameId, State, Ready, Slot, ReadyFrame, is_ready}
-use Rattle.frame_tree.proofs.Common.{serials_of, AreSoundSlots, ready_slots, AllAbove, Rises, with_slot, with_child, without_child, serials_of, newest_in}
-use Rattle.frame_tree.proofs.Common.{AreAbove, AreRising, IsTenant, with_ready, ready_in, without_ready, put_ready, last_ready}
+use Rattle.frame_tree.proofs.Common.{◌≡◌, ℕ, zero, suc, ◌-◌, ◌<◌, ◌≤◌, nat_lt, List, [], ◌∷◌, ◌++◌, Option, Some, None, length, take, length-inserted, set}
+use Rattle.frame_tree.proofs.Common.{slice_index, refl, ap, sym, ◌∙◌, arith, slice_get, filter, remove, lt-ltb, ltb-true, FrameId, State, Ready, Slot}
+use Rattle.frame_tree.proofs.Common.{ReadyFrame, is_ready, serials_of, AreSoundSlots, ready_slots, AllAbove, Rises, with_child, newest_in, AreAbove, AreRising}
+use Rattle.frame_tree.proofs.Common.{IsTenant, with_ready, ready_in, without_ready, put_ready, last_ready, IsSeenAt}
 use Rattle.frame_tree.specs.Windows.{PlacedList}
-use Rattle.frame_tree.proofs.Forest.{above_at, linked_rises}
+use Rattle.frame_tree.proofs.Forest.{above_at, linked_rises, seen_next}
 use Rattle.frame_tree.proofs.Places.{rises_by-filter, filter_not-above, filter_below-above, length-filter-le}
-use Rattle.frame_tree.proofs.Changes.{in_state}
+use Rattle.frame_tree.proofs.Changes.{in_state, recount_more}
 
 -- the last frame is the newest
 pub last_ready-last : (frames : List ReadyFrame) → last_ready frames ≡ slice_get frames (length frames - 1)
@@ -48,51 +46,52 @@ module _ {T : Type 0} (tenant : ℕ) where
   newest_in-ready [] = refl
   newest_in-ready (x ∷ xs) = grind (arith, newest_in-ready xs)
 
-  pub newest_by : (xs : List (Slot T)) (frames : List ReadyFrame) (newest is : Option ReadyFrame) → frames ≡ ready_in xs → newest ≡ last_ready frames → newest ≡ is → named tenant is ≡ newest_in tenant xs
+  pub newest_by : (xs : List (Slot T)) (frames : List ReadyFrame) (newest is : Option ReadyFrame) → frames ≡ ready_in xs → newest ≡ last_ready frames →
+      newest ≡ is → named tenant is ≡ newest_in tenant xs
   newest_by xs frames newest is ready found e = ap (named tenant) (sym e ∙ (found ∙ ap last_ready ready)) ∙ sym (newest_in-ready xs)
 
--- a change that keeps serials and states
-pub ready_in-with_slot : {T : Type 0} (p : ℕ) (change : Slot T → Slot T) (xs : List (Slot T)) → ((x : Slot T) → (change x).serial ≡ x.serial) → ((x : Slot T) → (change x).state ≡ x.state) → ready_in (with_slot p change xs) ≡ ready_in xs
-ready_in-with_slot p change [] serial state = refl
-ready_in-with_slot p change (x ∷ xs) serial state = grind (arith, ready_in-with_slot p change xs serial state)
-
-pub ready_in-without_child : {T : Type 0} (parent : Option ℕ) (xs : List (Slot T)) → ready_in (without_child parent xs) ≡ ready_in xs
-ready_in-without_child parent xs = grind (arith, ready_in-with_slot)
-
 -- ready frames rise without one of them too
-pub without_ready-rises : (serial : ℕ) (was : State) (frames : List ReadyFrame) → AreRising (λ frame. frame.serial) frames → AreRising (λ frame. frame.serial) (without_ready serial was frames)
-without_ready-rises serial was frames r = elim (cases_Bool (is_ready was)) [ inl ready ↦ rw ready (rises_by-filter (λ frame. frame.serial) (λ frame. not (eqb frame.serial serial)) frames r) | inr other ↦ rw other r ]
+pub without_ready-rises : (serial : ℕ) (was : State) (frames : List ReadyFrame) → AreRising (λ frame. frame.serial) frames →
+    AreRising (λ frame. frame.serial) (without_ready serial was frames)
+without_ready-rises serial was frames r = grind (arith, rises_by-filter)
 
 -- a frame that leaves its state goes, and comes back where its new state is to be ready
 module _ (serial : ℕ) where
-  leave_here : (was : State) (frames : List ReadyFrame) → AreAbove (λ frame. frame.serial) serial frames → without_ready serial was (with_ready serial was frames) ≡ frames
+  leave_here : (was : State) (frames : List ReadyFrame) → AreAbove (λ frame. frame.serial) serial frames →
+      without_ready serial was (with_ready serial was frames) ≡ frames
   leave_here was frames h4 = grind (arith, filter_not-above)
 
-  leave_other : (n : ℕ) (state was : State) (frames : List ReadyFrame) → serial < n → without_ready n was (with_ready serial state frames) ≡ with_ready serial state (without_ready n was frames)
+  leave_other : (n : ℕ) (state was : State) (frames : List ReadyFrame) → serial < n →
+      without_ready n was (with_ready serial state frames) ≡ with_ready serial state (without_ready n was frames)
   leave_other n state was frames lt = grind arith
 
-  put_here : (now : State) (frames : List ReadyFrame) → AreAbove (λ frame. frame.serial) serial frames → put_ready serial now frames ≡ with_ready serial now frames
+  put_here : (now : State) (frames : List ReadyFrame) → AreAbove (λ frame. frame.serial) serial frames →
+      put_ready serial now frames ≡ with_ready serial now frames
   put_here now [] a = grind arith
   put_here now (f ∷ frames) a = grind (arith, ltb-true)
 
-  put_other : (n : ℕ) (state now : State) (frames : List ReadyFrame) → serial < n → put_ready n now (with_ready serial state frames) ≡ with_ready serial state (put_ready n now frames)
+  put_other : (n : ℕ) (state now : State) (frames : List ReadyFrame) → serial < n →
+      put_ready n now (with_ready serial state frames) ≡ with_ready serial state (put_ready n now frames)
   put_other n state now frames lt = grind (arith, lt-ltb)
 
-pub ready_in-state : {T : Type 0} (xs : List (Slot T)) (i n : ℕ) (slot : Slot T) (state : State) → Rises xs → i < length xs →
-    slice_index (serials_of xs) i ≡ n → slot ≡ get_or xs i slot →
+pub ready_in-state : {T : Type 0} (xs : List (Slot T)) (i n : ℕ) (slot : Slot T) (state : State) → Rises xs → IsSeenAt xs n i slot →
     put_ready n state (without_ready n slot.state (ready_in xs)) ≡ ready_in (set xs i (in_state state slot))
-ready_in-state [] i n slot state rise lt at is = absurd (omega arith)
-ready_in-state (x ∷ xs) zero n slot state rise lt at is = grind (arith, ready_in-above, leave_here, put_here)
-ready_in-state (x ∷ xs) (suc i) n slot state rise lt at is = grind (arith, ready_in-state xs i n slot state, above_at, leave_other, put_other)
+ready_in-state [] i n slot state rise seen = absurd (omega (arith, seen.within))
+ready_in-state (x ∷ xs) zero n slot state rise seen = grind (arith, ready_in-above, leave_here, put_here)
+ready_in-state (x ∷ xs) (suc i) n slot state rise seen =
+    let next = seen_next seen in grind (arith, ready_in-state xs i n slot state rise.1 next, above_at xs x.serial i, leave_other, put_other)
 
 -- a slot that goes
-pub ready_in-remove : {T : Type 0} (xs : List (Slot T)) (i n : ℕ) (slot : Slot T) → Rises xs → i < length xs → slice_index (serials_of xs) i ≡ n → slot ≡ get_or xs i slot → without_ready n slot.state (ready_in xs) ≡ ready_in (remove xs i)
-ready_in-remove [] i n slot rise lt at is = absurd (omega arith)
-ready_in-remove (x ∷ xs) zero n slot rise lt at is = rw (is, ← at) (leave_here x.serial x.state (ready_in xs) (ready_in-above x.serial xs rise.0))
-ready_in-remove (x ∷ xs) (suc i) n slot rise lt at is = grind (arith, ready_in-remove xs i n slot, above_at, leave_other)
+pub ready_in-remove : {T : Type 0} (xs : List (Slot T)) (i n : ℕ) (slot : Slot T) → Rises xs → IsSeenAt xs n i slot →
+    without_ready n slot.state (ready_in xs) ≡ ready_in (remove xs i)
+ready_in-remove [] i n slot rise seen = absurd (omega (arith, seen.within))
+ready_in-remove (x ∷ xs) zero n slot rise seen = rw (seen.read, ← seen.named) (leave_here x.serial x.state (ready_in xs) (ready_in-above x.serial xs rise.0))
+ready_in-remove (x ∷ xs) (suc i) n slot rise seen =
+    let next = seen_next seen in grind (arith, ready_in-remove xs i n slot rise.1 next, above_at xs x.serial i, leave_other)
 
 -- the ready frames below a serial are those of the slots before it
-pub ready_in-take : {T : Type 0} (xs : List (Slot T)) (i n : ℕ) → Rises xs → i < length xs → slice_index (serials_of xs) i ≡ n → filter (λ frame. nat_lt frame.serial n) (ready_in xs) ≡ ready_in (take i xs)
+pub ready_in-take : {T : Type 0} (xs : List (Slot T)) (i n : ℕ) → Rises xs → i < length xs → slice_index (serials_of xs) i ≡ n →
+    filter (λ frame. nat_lt frame.serial n) (ready_in xs) ≡ ready_in (take i xs)
 ready_in-take [] i n rise lt at = absurd (omega arith)
 ready_in-take (x ∷ xs) zero n rise lt at =
     let later = filter_below-above (λ frame. frame.serial) n (ready_in xs) (rw at at (ready_in-above x.serial xs rise.0)) in
@@ -102,20 +101,21 @@ ready_in-take (x ∷ xs) (suc i) n rise lt at = grind (arith, ready_in-take xs i
 -- one more slot at the end, ready
 pub added_ready : {T : Type 0} (xs : List (Slot T)) (parent : Option ℕ) (slot : Slot T) (home : ℕ) (frames : List ReadyFrame) → frames ≡ ready_in xs →
     slot.state ≡ Ready home → frames ++ record { serial = slot.serial; home = home } ∷ [] ≡ ready_in (with_child parent xs ++ slot ∷ [])
-added_ready xs parent slot home frames e state = grind (arith, ready_in-append, ready_in-with_slot)
+added_ready xs parent slot home frames e state = let same = (recount_more parent xs).ready in grind (arith, same, ready_in-append)
 
 -- a tenant, from slots that are sound by any count, their serials and the ready frames among them
 module _ {T : Type 0} (slots : List (Slot T)) where
   pub is_tenant : (count places : ℕ) (serials : PlacedList ℕ) (ready : PlacedList ReadyFrame) → AreSoundSlots slots count → serials.list ≡ serials_of slots →
       ready.list ≡ ready_in slots → length slots ≤ places → places ≤ 4096 → places ≤ serials.places → places ≤ ready.places →
       IsTenant slots places serials ready
-  is_tenant count places serials ready s i e within few same_serials same = record { sound = record { linked = s.linked; counted = s.counted; ready_count = ap length e ∙ ready_in-length slots }; index = i; ready_frames = e; within = within; few = few; serial_places = same_serials; ready_places = same }
+  is_tenant count places serials ready s i e within few same_serials same = grind (arith, ready_in-length)
 
   -- no more are ready than there are slots
   pub few_ready_in : length (ready_in slots) ≤ length slots
   few_ready_in = omega (arith, ready_in-length slots, length-filter-le (λ x. is_ready x.state) slots)
 
-  pub tenant_rises : (places : ℕ) (serials : PlacedList ℕ) (ready : PlacedList ReadyFrame) → IsTenant slots places serials ready → AreRising (λ frame. frame.serial) ready.list
+  pub tenant_rises : (places : ℕ) (serials : PlacedList ℕ) (ready : PlacedList ReadyFrame) → IsTenant slots places serials ready →
+      AreRising (λ frame. frame.serial) ready.list
   tenant_rises places serials ready t = rw t.ready_frames (ready_in-rises slots (linked_rises [] slots t.sound.linked))
 
 -- the list of ready frames: that it rises, and its last

@@ -1,12 +1,11 @@
 -- Slots under keys: reading, writing and adding them.
 use Rattle.std.proofs.Common.{◌≡◌, ◌≢◌, ℕ, zero, suc, ◌+◌, ◌<◌, ◌≤◌, Bool, true, false, ◌||◌, eqb, List, [], ◌∷◌, ◌++◌, Option, Some, None, length, take}
-use Rattle.std.proofs.Common.{get_or, set, refl, ap, sym, ◌∙◌, arith, append_assoc, append-nil, subst, not, inl, inr, IsSome, drop, map, length-append}
-use Rattle.frame_tree.proofs.Common.{filter, none-some, StoredSlot, has_number, eqb-true, filter_more, common_steps, Slot as TenantSlot, take_more}
-use Rattle.frame_tree.proofs.Common.{map-append, Slab, get, slab_len, ContainsKey, Updates, false≢true, eq-eqb, or_right, cases_eq, and_right, with_slot}
-use Rattle.frame_tree.proofs.Common.{with_child, without_child, frames_from, IsLinked}
+use Rattle.std.proofs.Common.{get_or, set, refl, ap, sym, ◌∙◌, arith, append_assoc, append-nil, subst, not, IsSome, drop, map, length-append}
+use Rattle.frame_tree.proofs.Common.{filter, none-some, StoredSlot, has_number, eqb-true, filter_more, common_steps, Slot as TenantSlot, take_more, map-append}
+use Rattle.frame_tree.proofs.Common.{Slab, get, slab_len, ContainsKey, Updates, false≢true, eq-eqb, or_right, IsLinked}
 use Rattle.frame_tree.specs.SlotStores.{slots_in, AreApartKeys, HasSerial, KnowsParent, IsHere, AllHere, IsSlotStore, StandsUnder, HasLink, is_taken_by}
-use Rattle.frame_tree.specs.SlotStores.{is_taken_in, marked_in, Marks, AreThere, NoneMarked, is_marked, swept_in, values_in}
-use Rattle.frame_tree.proofs.Forest.{stays_in, serial_read, stays_by, kept_follows, follows_at}
+use Rattle.frame_tree.specs.SlotStores.{is_taken_in, Marks, AreThere, NoneMarked, is_marked, swept_in, values_in}
+use Rattle.frame_tree.proofs.Forest.{stays_in, serial_read, stays_by, follows_at, abort_follows}
 use Rattle.std.proofs.lemmas.List.Filters.{FiltersInPlace, FiltersInPlace-more_set, FiltersInPlace-more_no}
 
 -- what is here is a slot
@@ -22,10 +21,11 @@ module _ {T : Type 0} (slab : Slab (StoredSlot T)) (before : List ℕ) where
   here_contains key h = grind arith
 
 -- the slot under the key at a place
-pub here_at : {T : Type 0} (slab : Slab (StoredSlot T)) (before keys : List ℕ) (i d : ℕ) → AllHere slab before keys → i < length keys → IsHere slab (before ++ take i keys) (get slab (get_or keys i d))
+pub here_at : {T : Type 0} (slab : Slab (StoredSlot T)) (before keys : List ℕ) (i d : ℕ) → AllHere slab before keys → i < length keys →
+    IsHere slab (before ++ take i keys) (get slab (get_or keys i d))
 here_at slab before [] i d h lt = absurd (omega arith)
-here_at slab before (k ∷ keys) zero d h lt = subst (λ b. IsHere slab b (get slab k)) (sym (append-nil before)) h.0
-here_at slab before (k ∷ keys) (suc i) d h lt = subst (λ b. IsHere slab b (get slab (get_or keys i d))) (append_assoc before (k ∷ []) (take i keys)) (here_at slab (before ++ k ∷ []) keys i d h.1 (omega arith))
+here_at slab before (k ∷ keys) zero d h lt = rw append-nil h.0
+here_at slab before (k ∷ keys) (suc i) d h lt = rw append_assoc at (here_at slab (before ++ k ∷ []) keys i d h.1 (omega arith))
 
 -- the same of a key that was read
 module _ {T : Type 0} (slab : Slab (StoredSlot T)) (keys : List ℕ) (i key : ℕ) (h : AllHere slab [] keys) (lt : i < length keys)
@@ -50,13 +50,6 @@ pub apart-append : (keys : List ℕ) (key : ℕ) → AreApartKeys keys → has_n
 apart-append [] key a none = (refl, tt)
 apart-append (k ∷ keys) key a none = grind (arith, apart-append keys key, has_number-append)
 
-module _ (b : Bool) (key k : ℕ) where
-  pub last_key : key ≡ k → (b || (eqb key k || false)) ≡ true
-  last_key h1 = grind arith
-
-  pub first_keys : key ≢ k → (b || (eqb key k || false)) ≡ b
-  first_keys h1 = grind arith
-
 -- the key at a place is none of those before it
 pub apart_before : (keys : List ℕ) (i d : ℕ) → AreApartKeys keys → i < length keys → has_number (take i keys) (get_or keys i d) ≡ false
 apart_before [] i d a lt = absurd (omega arith)
@@ -70,12 +63,14 @@ module _ {T : Type 0} (slab : Slab (StoredSlot T)) where
   slots_in-length before (k ∷ keys) h = grind (arith, slots_in-length (before ++ k ∷ []) keys, here_found)
 
   -- the slot at a place
-  pub slots_in-at : (before keys : List ℕ) (i d : ℕ) (kept : StoredSlot T) (x : TenantSlot T) → AllHere slab before keys → i < length keys → get slab (get_or keys i d) ≡ Some kept → get_or (slots_in slab keys) i x ≡ kept.slot
+  pub slots_in-at : (before keys : List ℕ) (i d : ℕ) (kept : StoredSlot T) (x : TenantSlot T) → AllHere slab before keys → i < length keys →
+      get slab (get_or keys i d) ≡ Some kept → get_or (slots_in slab keys) i x ≡ kept.slot
   slots_in-at before [] i d kept x h lt is = absurd (omega arith)
   slots_in-at before (k ∷ keys) zero d kept x h lt is = rw is refl
   slots_in-at before (k ∷ keys) (suc i) d kept x h lt is = grind (arith, slots_in-at (before ++ k ∷ []) keys i d kept x, here_found)
 
-  pub slot_read : (keys : List ℕ) (i key : ℕ) (kept : StoredSlot T) (x : TenantSlot T) → AllHere slab [] keys → i < length keys → key ≡ get_or keys i key → get slab key ≡ Some kept → get_or (slots_in slab keys) i x ≡ kept.slot
+  pub slot_read : (keys : List ℕ) (i key : ℕ) (kept : StoredSlot T) (x : TenantSlot T) → AllHere slab [] keys → i < length keys → key ≡ get_or keys i key →
+      get slab key ≡ Some kept → get_or (slots_in slab keys) i x ≡ kept.slot
   slot_read keys i key kept x h lt is found = slots_in-at [] keys i key kept x h lt (ap (get slab) (sym is) ∙ found)
 
   -- a vacant key is not there
@@ -88,16 +83,19 @@ module _ {T : Type 0} (slab : Slab (StoredSlot T)) where
   slots_in-append [] more = refl
   slots_in-append (k ∷ keys) more = grind (arith, slots_in-append keys more)
 
-  pub all_here-append : (before keys : List ℕ) (key : ℕ) → AllHere slab before keys → IsHere slab (before ++ keys) (get slab key) → AllHere slab before (keys ++ key ∷ [])
-  all_here-append before [] key h last = (subst (λ b. IsHere slab b (get slab key)) (append-nil before) last, tt)
-  all_here-append before (k ∷ keys) key h last = (h.0, all_here-append (before ++ k ∷ []) keys key h.1 (subst (λ b. IsHere slab b (get slab key)) (sym (append_assoc before (k ∷ []) keys)) last))
+  pub all_here-append : (before keys : List ℕ) (key : ℕ) → AllHere slab before keys → IsHere slab (before ++ keys) (get slab key) →
+      AllHere slab before (keys ++ key ∷ [])
+  all_here-append before [] key h last = (rw append-nil at last, tt)
+  all_here-append before (k ∷ keys) key h last = (h.0, all_here-append (before ++ k ∷ []) keys key h.1 (rw append_assoc last))
 
   -- the slot under a key that was read
-  pub kept_read : (keys : List ℕ) (i key : ℕ) → AllHere slab [] keys → i < length keys → key ≡ get_or keys i key → (kept : StoredSlot T) × (get slab key ≡ Some kept)
+  pub kept_read : (keys : List ℕ) (i key : ℕ) → AllHere slab [] keys → i < length keys → key ≡ get_or keys i key →
+      (kept : StoredSlot T) × (get slab key ≡ Some kept)
   kept_read keys i key h lt is = here_found slab (take i keys) (get slab key) (here_read slab keys i key h lt is)
 
   -- the parent's key, by the place that it stands at
-  pub knows_read : (keys : List ℕ) (parent at key : ℕ) → AllHere slab [] keys → StandsUnder (slots_in slab keys) (Some parent) (Some at) → key ≡ get_or keys at key → KnowsParent slab keys (Some parent) (Some key)
+  pub knows_read : (keys : List ℕ) (parent at key : ℕ) → AllHere slab [] keys → StandsUnder (slots_in slab keys) (Some parent) (Some at) →
+      key ≡ get_or keys at key → KnowsParent slab keys (Some parent) (Some key)
   knows_read keys parent at key h s is =
       let lt : at < length keys = rw (slots_in-length [] keys h) at s.0 in
       let kept = kept_read keys at key h lt is in
@@ -122,7 +120,8 @@ module _ {T : Type 0} (old new : Slab (StoredSlot T)) where
   pub knows_like : (keys : List ℕ) (parent above : Option ℕ) → AreLike old new → KnowsParent old keys parent above → KnowsParent new keys parent above
   knows_like keys parent above h6 h7 = grind (arith, serial_like)
 
-  here_like : (keys : List ℕ) (o n : Option (StoredSlot T)) → AreLike old new → ((x : StoredSlot T) → o ≡ Some x → IsLike x n) → IsHere old keys o → IsHere new keys n
+  here_like : (keys : List ℕ) (o n : Option (StoredSlot T)) → AreLike old new → ((x : StoredSlot T) → o ≡ Some x → IsLike x n) → IsHere old keys o →
+      IsHere new keys n
   here_like keys None n all like h = absurd h
   here_like keys (Some x) None all like h = absurd (like x refl)
   here_like keys (Some x) (Some y) all like h =
@@ -138,10 +137,6 @@ module _ {T : Type 0} (old new : Slab (StoredSlot T)) where
   slots_in-same [] same = refl
   slots_in-same (k ∷ keys) same = grind (arith, slots_in-same keys, or_right)
 
-  -- what stands under keys after one was written
-  pub updated_like : (key : ℕ) (kept after : StoredSlot T) → get old key ≡ Some kept → Updates old new key (Some after) → IsLike kept (Some after) → AreLike old new
-  updated_like key kept after found u like k x is = grind arith
-
   -- the slots after one was written
   pub slots_in-put : (before keys : List ℕ) (i d : ℕ) (after : StoredSlot T) → AllHere old before keys → AreApartKeys keys → i < length keys →
       Updates old new (get_or keys i d) (Some after) → slots_in new keys ≡ set (slots_in old keys) i after.slot
@@ -153,39 +148,14 @@ module _ {T : Type 0} (old new : Slab (StoredSlot T)) where
       let other : k ≢ get_or keys i d = λ e. false≢true (sym a.0 ∙ (ap (has_number keys) e ∙ has_number-at keys i d (omega arith))) in
       grind (arith, other, slots_in-put (before ++ k ∷ []) keys i d after, here_found)
 
--- a slot store in which a slot was put in the place of another of its name
-module _ {T : Type 0} (old new : Slab (StoredSlot T)) (keys : List ℕ) (room places i key : ℕ) (slot : TenantSlot T) (s : IsSlotStore old keys room places)
-    (lt : i < length keys) (is : key ≡ get_or keys i key) (put : (kept : StoredSlot T) → get old key ≡ Some kept → Updates old new key (Some (record kept { slot = slot }))) where
-  pub put_store : slot.serial ≡ (get_or (slots_in old keys) i slot).serial → slot.parent ≡ (get_or (slots_in old keys) i slot).parent → slab_len new ≡ slab_len old → new.capacity ≡ old.capacity →
-      IsSlotStore new keys room places
-  put_store serial parent len capacity =
-      let found = kept_read old keys i key s.here lt is in
-      let was = slot_read old keys i key found.0 slot s.here lt is found.1 in
-      let like = updated_like old new key found.0 (record found.0 { slot = slot }) found.1 (put found.0 found.1)
-      (serial ∙ ap (λ x. x.serial) was, parent ∙ ap (λ x. x.parent) was, refl, refl) in
-      record {
-        here = all_here_like old new [] keys like s.here;
-        apart = s.apart;
-        counted = len ∙ s.counted;
-        within = s.within;
-        slab_room = omega (arith, s.slab_room, capacity);
-        order_room = s.order_room;
-      }
-
-  pub put_slots : slots_in new keys ≡ set (slots_in old keys) i slot
-  put_slots =
-      let found = kept_read old keys i key s.here lt is in
-      let after = record found.0 { slot = slot } in
-      slots_in-put old new [] keys i key after s.here s.apart lt (subst (λ k. Updates old new k (Some after)) is (put found.0 found.1))
-
 -- a slot store on which a slot was pushed
-module _ {T : Type 0} (old new : Slab (StoredSlot T)) (keys : List ℕ) (key : ℕ) (slot : TenantSlot T) (above : Option ℕ) (vacant : get old key ≡ None)
+module _ {T : Type 0} {old new : Slab (StoredSlot T)} {key : ℕ} {slot : TenantSlot T} {above : Option ℕ} (keys : List ℕ) (vacant : get old key ≡ None)
     (u : Updates old new key (Some (record { slot = slot; above = above; marked = false }))) where
   pushed_like : AreLike old new
   pushed_like k x is = rw (u.others k (λ e. none-some x (sym vacant ∙ (ap (get old) (sym e) ∙ is))) ∙ is) (refl, refl, refl, refl)
 
-  pub push_store : (room places : ℕ) → IsSlotStore old keys room places → length keys < places → KnowsParent old keys slot.parent above → slab_len new ≡ slab_len old + 1 → new.capacity ≡ old.capacity →
-      IsSlotStore new (keys ++ key ∷ []) room places
+  pub push_store : (room places : ℕ) → IsSlotStore old keys room places → length keys < places → KnowsParent old keys slot.parent above →
+      slab_len new ≡ slab_len old + 1 → new.capacity ≡ old.capacity → IsSlotStore new (keys ++ key ∷ []) room places
   push_store room places s less knows len capacity =
       let here : IsHere new keys (get new key) = rw u.changed (refl, knows_like old new keys slot.parent above pushed_like knows) in
       let long = length-append keys (key ∷ []) in
@@ -201,25 +171,16 @@ module _ {T : Type 0} (old new : Slab (StoredSlot T)) (keys : List ℕ) (key : �
   pub push_slots : AllHere old [] keys → slots_in new (keys ++ key ∷ []) ≡ slots_in old keys ++ slot ∷ []
   push_slots here = grind (arith, vacant_absent, slots_in-same, slots_in-append)
 
-length-with_slot : {T : Type 0} (p : ℕ) (change : TenantSlot T → TenantSlot T) (slots : List (TenantSlot T)) → length (with_slot p change slots) ≡ length slots
-length-with_slot p change [] = refl
-length-with_slot p change (s ∷ slots) = ap suc (length-with_slot p change slots)
-
-module _ {T : Type 0} (parent : Option ℕ) (slots : List (TenantSlot T)) where
-  pub length-with_child : length (with_child parent slots) ≡ length slots
-  length-with_child = grind (arith, length-with_slot)
-
-  pub length-without_child : length (without_child parent slots) ≡ length slots
-  length-without_child = grind (arith, length-with_slot)
-
 -- ---- more room: the slots under keys, whatever the capacity
 
-roomy_here : {T : Type 0} (slab : Slab (StoredSlot T)) (capacity : ℕ) (before keys : List ℕ) → AllHere slab before keys → AllHere (record slab { capacity = capacity }) before keys
+roomy_here : {T : Type 0} (slab : Slab (StoredSlot T)) (capacity : ℕ) (before keys : List ℕ) → AllHere slab before keys →
+    AllHere (record slab { capacity = capacity }) before keys
 roomy_here {T} slab capacity before [] here = tt
 roomy_here {T} slab capacity before (key ∷ keys) here = grind (arith, roomy_here slab capacity (before ++ key ∷ []) keys)
 
 module _ {T : Type 0} (old new : Slab (StoredSlot T)) (same : new ≡ record old { capacity = new.capacity }) where
-  pub roomy_store : (keys : List ℕ) (room room' places places' : ℕ) → IsSlotStore old keys room places → places ≤ places' → places' ≤ new.capacity → places' ≤ room' → IsSlotStore new keys room' places'
+  pub roomy_store : (keys : List ℕ) (room room' places places' : ℕ) → IsSlotStore old keys room places → places ≤ places' → places' ≤ new.capacity →
+      places' ≤ room' → IsSlotStore new keys room' places'
   roomy_store keys room room' places places' s more wide long = grind (arith, roomy_here)
 
   pub roomy_len : slab_len new ≡ slab_len old
@@ -229,7 +190,8 @@ module _ {T : Type 0} (old new : Slab (StoredSlot T)) (same : new ≡ record old
 
 -- a slot is there, and its parent's too
 module _ {T : Type 0} (under : ℕ) (slots : List (TenantSlot T)) where
-  pub link_marked : (keys before : List ℕ) (old now : Slab (StoredSlot T)) (key : ℕ) → Marks under slots keys old now → IsHere old before (get old key) → HasLink now (get now key)
+  pub link_marked : (keys before : List ℕ) (old now : Slab (StoredSlot T)) (key : ℕ) → Marks under slots keys old now → IsHere old before (get old key) →
+      HasLink now (get now key)
   link_marked keys before old now key m h = grind arith
 
   -- whether an abort takes a slot, by the marks of those before it
@@ -238,31 +200,29 @@ module _ {T : Type 0} (under : ℕ) (slots : List (TenantSlot T)) where
       is_taken_by now under parent above ≡ not (stays_in under slots serial)
   taken_by before old now serial parent above h9 h10 h11 = grind arith
 
-  -- marks depend on the keys by whether this is one of them
-  marked_in-keys : (some more : List ℕ) (key : ℕ) (o : Option (StoredSlot T)) → has_number more key ≡ has_number some key → marked_in under slots some key o ≡ marked_in under slots more key o
-  marked_in-keys some more key o h7 = grind arith
-
--- what is read at a key, and whether the abort takes it
-pub record IsRead {T : Type 0} (under : ℕ) (slots : List (TenantSlot T)) (keys : List ℕ) (i key : ℕ) (old now : Slab (StoredSlot T)) (x : StoredSlot T) : Type 0 where
-  pub was : get old key ≡ Some x
+-- what is read at a key, whether the abort takes it, and what marks that key too, after which more keys are marked
+pub record IsRead {T : Type 0} (under : ℕ) (slots : List (TenantSlot T)) (more : List ℕ) (key : ℕ) (old now : Slab (StoredSlot T)) (x : StoredSlot T) : Type 0 where
   pub is : get now key ≡ Some x
   pub unmarked : x.marked ≡ false
   pub taken : is_taken_in now under (get now key) ≡ not (stays_in under slots x.slot.serial)
+  pub next : (new : Slab (StoredSlot T)) → get new key ≡ Some (record x { marked = not (stays_in under slots x.slot.serial) }) →
+      ((k : ℕ) → k ≢ key → get new k ≡ get now k) → Marks under slots more old new
 
 -- one key more
-module _ {T : Type 0} (under : ℕ) (slots : List (TenantSlot T)) (keys : List ℕ) (i key : ℕ) (old now : Slab (StoredSlot T)) (m : Marks under slots (take i keys) old now)
-    (lt : i < length keys) (is : key ≡ get_or keys i key) where
-  marks_next : (new : Slab (StoredSlot T)) (x : StoredSlot T) → get old key ≡ Some x → get new key ≡ Some (record x { marked = not (stays_in under slots x.slot.serial) }) →
+module _ {T : Type 0} (under : ℕ) (slots : List (TenantSlot T)) (keys : List ℕ) (i key : ℕ) (old now : Slab (StoredSlot T))
+    (m : Marks under slots (take i keys) old now) (lt : i < length keys) (is : key ≡ get_or keys i key) where
+  marks_next : (new : Slab (StoredSlot T)) (x : StoredSlot T) → get old key ≡ Some x →
+      get new key ≡ Some (record x { marked = not (stays_in under slots x.slot.serial) }) →
       ((k : ℕ) → k ≢ key → get new k ≡ get now k) → Marks under slots (take (i + 1) keys) old new
   marks_next new x was here others k =
       let more : take (i + 1) keys ≡ take i keys ++ key ∷ [] = take_more keys i key lt ∙ ap (λ j. take i keys ++ j ∷ []) (sym is) in
       let has = ap (λ ks. has_number ks k) more ∙ has_number-append (take i keys) (key ∷ []) k in
-      elim (cases_eq k key) [
-        | inl same ↦ grind (arith, last_key)
-        | inr differs ↦ grind (arith, first_keys, marked_in-keys)
-      ]
+      let before = m k in
+      let rest = others k in
+      grind (arith, has, before, rest)
 
-  pub read_key : slots ≡ slots_in old keys → AllHere old [] keys → AreApartKeys keys → IsLinked [] slots → (x : StoredSlot T) × IsRead under slots keys i key old now x
+  pub read_key : slots ≡ slots_in old keys → AllHere old [] keys → AreApartKeys keys → IsLinked [] slots →
+      (x : StoredSlot T) × IsRead under slots (take (i + 1) keys) key old now x
   read_key same h a l =
       let keep = stays_in under slots in
       let found = kept_read old keys i key h lt is in
@@ -272,28 +232,28 @@ module _ {T : Type 0} (under : ℕ) (slots : List (TenantSlot T)) (keys : List �
       let now_is : get now key ≡ Some x = m key ∙ (rw (found.1, absent) refl) in
       let at_place : x.slot ≡ get_or slots i x.slot = rw same (sym (slot_read old keys i key x x.slot h lt is found.1)) in
       let within : i < length slots = rw same (rw (slots_in-length old [] keys h) lt) in
-      let follows = follows_at keep under slots i x.slot (kept_follows under (frames_from [] slots) [] slots refl l tt) within at_place in (
+      let follows = follows_at keep under slots i x.slot (abort_follows under slots l) within at_place in (
         x,
         record {
-          was = found.1;
           is = now_is;
           unmarked = here.0;
           taken = rw now_is (taken_by under slots (take i keys) old now x.slot.serial x.slot.parent x.above follows m here.1);
+          next = λ new here others. marks_next new x found.1 here others;
         },
       )
 
+module _ {T : Type 0} {under : ℕ} {slots : List (TenantSlot T)} {more : List ℕ} {key : ℕ} {old now : Slab (StoredSlot T)} {x : StoredSlot T}
+    (r : IsRead under slots more key old now x) where
   -- a slot that the abort takes is marked
-  pub marks_taken : (new : Slab (StoredSlot T)) (x : StoredSlot T) → IsRead under slots keys i key old now x → is_taken_in now under (get now key) ≡ true →
-      ((kept : StoredSlot T) → get now key ≡ Some kept → Updates now new key (Some (record kept { marked = true }))) → Marks under slots (take (i + 1) keys) old new
-  marks_taken new x r took put =
-      let u = put x r.is in
-      marks_next new x r.was (rw (sym r.taken ∙ took) u.changed) u.others
+  pub marks_taken : {new : Slab (StoredSlot T)} → is_taken_in now under (get now key) ≡ true →
+      ((kept : StoredSlot T) → get now key ≡ Some kept → Updates now new key (Some (record kept { marked = true }))) → Marks under slots more old new
+  marks_taken {new} took put = let u = put x r.is in r.next new (rw (sym r.taken ∙ took) u.changed) u.others
 
   -- and one that stays is as it was
-  pub marks_stays : (x : StoredSlot T) → IsRead under slots keys i key old now x → is_taken_in now under (get now key) ≡ false → Marks under slots (take (i + 1) keys) old now
-  marks_stays x r not_taken =
+  pub marks_stays : is_taken_in now under (get now key) ≡ false → Marks under slots more old now
+  marks_stays not_taken =
       let mark : x.marked ≡ not (stays_in under slots x.slot.serial) = r.unmarked ∙ (sym not_taken ∙ r.taken) in
-      marks_next now x r.was (r.is ∙ ap (λ b. Some (record x { marked = b })) mark) (λ k differs. refl)
+      r.next now (r.is ∙ ap (λ b. Some (record x { marked = b })) mark) (λ k differs. refl)
 
 -- The pass of an abort that removes the marked slots.
 
@@ -307,7 +267,8 @@ pub record HasSwept {T : Type 0} (old now : Slab (StoredSlot T)) (all order : Li
   pub capacity : now.capacity ≡ old.capacity
 
 -- where none of the first keys is marked, they were passed
-pub swept_early : {T : Type 0} (old : Slab (StoredSlot T)) (all : List ℕ) (had : List T) (from : ℕ) → from ≤ length all → NoneMarked old (take from all) → HasSwept old old all all had had from from
+pub swept_early : {T : Type 0} (old : Slab (StoredSlot T)) (all : List ℕ) (had : List T) (from : ℕ) → from ≤ length all → NoneMarked old (take from all) →
+    HasSwept old old all all had had from from
 swept_early old all had from le none = record {
   moved = record { front = sym (stay old (take from all) none); rest = refl; behind = omega arith; within = le; long = refl };
   slots = λ key. same old (take from all) key none;
@@ -335,8 +296,8 @@ there_at slab (k ∷ keys) zero d t lt = t.0
 there_at slab (k ∷ keys) (suc i) d t lt = there_at slab keys i d t.1 (omega arith)
 
 -- the key that is read, and what stands under it
-module _ {T : Type 0} {old now : Slab (StoredSlot T)} {all order : List ℕ} {had values : List T} {kept at key : ℕ} (h : HasSwept old now all order had values kept at)
-    (a : AreApartKeys all) (lt : at < length all) (read : key ≡ get_or order at key) where
+module _ {T : Type 0} {old now : Slab (StoredSlot T)} {all order : List ℕ} {had values : List T} {kept at key : ℕ}
+    (h : HasSwept old now all order had values kept at) (a : AreApartKeys all) (lt : at < length all) (read : key ≡ get_or order at key) where
   -- it is that of all
   own : key ≡ get_or all at key
   own = read ∙ (sym (get_or-drop order at) ∙ (ap (λ xs. get_or xs 0 key) h.moved.rest ∙ get_or-drop all at))
@@ -357,10 +318,6 @@ module _ {T : Type 0} {old now : Slab (StoredSlot T)} {all order : List ℕ} {ha
   has_more : (k : ℕ) → has_number (take (at + 1) all) k ≡ (has_number (take at all) k || (eqb key k || false))
   has_more k = ap (λ ks. has_number ks k) (take_more all at key lt ∙ ap (λ j. take at all ++ j ∷ []) (sym own)) ∙ has_number-append (take at all) (key ∷ []) k
 
-  -- what is under another key
-  others : (k : ℕ) → k ≢ key → get now k ≡ swept_in old (take (at + 1) all) k
-  others k differs = h.slots k ∙ (rw (has_more k, first_keys (has_number (take at all) k) key k (λ e. differs (sym e))) refl)
-
   -- a slot that stays
   pub swept_stays : is_marked (get old key) ≡ false → HasSwept old now all (set order kept key) had values (kept + 1) (at + 1)
   swept_stays stays =
@@ -368,11 +325,7 @@ module _ {T : Type 0} {old now : Slab (StoredSlot T)} {all order : List ℕ} {ha
       let more : filter marked (take (at + 1) all) ≡ filter marked (take at all) = filter_more marked all at key lt ∙ (rw (← own, stays) (append-nil _)) in
       record {
         moved = FiltersInPlace-more_set h.moved (omega (arith, h.moved.long)) (rw stays refl) read;
-        slots = λ k. elim (cases_eq k key) [
-          | inl same ↦ (let off : is_marked (get old k) ≡ false = ap marked same ∙ stays in
-              h.slots k ∙ (rw (off, and_right (has_number (take at all) k) false refl, and_right (has_number (take (at + 1) all) k) false refl) refl))
-          | inr differs ↦ others k differs
-        ];
+        slots = λ k. (let before = h.slots k in let has = has_more k in grind (arith, before, has));
         written = h.written ∙ ap (λ ks. had ++ values_in old ks) (sym more);
         counted = omega (arith, h.counted);
         room = omega (arith, h.room);
@@ -380,8 +333,8 @@ module _ {T : Type 0} {old now : Slab (StoredSlot T)} {all order : List ℕ} {ha
       }
 
   -- a slot that goes
-  pub swept_goes : (new : Slab (StoredSlot T)) (gone : StoredSlot T) → is_marked (get old key) ≡ true → get now key ≡ Some gone → Updates now new key None → slab_len new + 1 ≡ slab_len now →
-      new.capacity ≡ now.capacity → HasSwept old new all order had (values ++ gone.slot.value ∷ []) kept (at + 1)
+  pub swept_goes : (new : Slab (StoredSlot T)) (gone : StoredSlot T) → is_marked (get old key) ≡ true → get now key ≡ Some gone → Updates now new key None →
+      slab_len new + 1 ≡ slab_len now → new.capacity ≡ now.capacity → HasSwept old new all order had (values ++ gone.slot.value ∷ []) kept (at + 1)
   swept_goes new gone goes found u len capacity =
       let marked : ℕ → Bool = λ k. is_marked (get old k) in
       let passed = filter marked (take at all) in
@@ -390,11 +343,7 @@ module _ {T : Type 0} {old now : Slab (StoredSlot T)} {all order : List ℕ} {ha
       ap (map (λ s. s.value)) (slots_in-append old passed (key ∷ [])) ∙ (map-append (λ s. s.value) (slots_in old passed) (slots_in old (key ∷ [])) ∙ (rw (sym slot_is ∙ found) refl)) in
       record {
         moved = FiltersInPlace-more_no h.moved (omega (arith, h.moved.long)) (rw goes refl) read;
-        slots = λ k. elim (cases_eq k key) [
-          | inl same ↦ (let on : is_marked (get old k) ≡ true = ap marked same ∙ goes in
-              ap (get new) same ∙ (u.changed ∙ (rw (on, has_more k, last_key (has_number (take at all) k) key k (sym same)) refl)))
-          | inr differs ↦ u.others k differs ∙ others k differs
-        ];
+        slots = λ k. (let before = h.slots k in let has = has_more k in let rest = u.others k in grind (arith, before, has, rest, u.changed));
         written = ap (λ vs. vs ++ gone.slot.value ∷ []) h.written ∙ (append_assoc had _ (gone.slot.value ∷ []) ∙ ap (λ vs. had ++ vs) (sym (ap (values_in old) more ∙ one_more)));
         counted = omega (arith, h.counted, len);
         room = omega (arith, h.room, length-append values (gone.slot.value ∷ []));

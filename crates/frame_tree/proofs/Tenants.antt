@@ -1,18 +1,18 @@
 -- The trees of a table: look-ups, and what a change of one of them leaves.
-use Rattle.std.proofs.Common.{◌≡◌, ◌≢◌, ℕ, ◌+◌, ◌*◌, ◌<◌, ◌≤◌, true, false, not, List, [], ◌∷◌, ◌++◌, Option, Some, None, length, get_or, drop, refl, ap, sym}
-use Rattle.std.proofs.Common.{◌∙◌, inl, inr, arith, IsNone, IfSome, IfNone, subst}
+use Rattle.frame_tree.proofs.Common.{◌≡◌, ◌≢◌, ℕ, ◌+◌, ◌<◌, ◌≤◌, true, false, not, List, [], ◌∷◌, ◌++◌, Option, Some, None, length, get_or, drop, refl, ap, sym}
+use Rattle.frame_tree.proofs.Common.{◌∙◌, inl, inr, arith, IfSome, subst, State, FrameId, at_drop_more, cases_eq, eq-eqb, ne_eqb, find_by_number}
+use Rattle.frame_tree.proofs.Common.{read_by_number, remove_by_number, inserted, AreRising, change_by_number, Frame, TenantTree, owner_of_tree, frame_at}
+use Rattle.frame_tree.proofs.Common.{has_frame, is_ready, has_parent, with_state, aborted, goes_under, all-map, has-found, length-without, length-inserted}
+use Rattle.frame_tree.proofs.Common.{length-with, true≢false, none-some}
+use Rattle.std.proofs.Common.{◌*◌, IfNone, IsNone}
 use Rattle.std.specs.Prelude.{option_copied}
 use Rattle.std.specs.Borrow.{Bor}
-use Rattle.frame_tree.proofs.Common.{State, FrameId, at_drop_more, cases_eq, true≢false}
-use Rattle.frame_tree.proofs.Common.{eq-eqb, ne_eqb, find_by_number, read_by_number, remove_by_number, inserted, AreRising, change_by_number}
 use Rattle.std.proofs.lemmas.List.Sums.{sum_by-cons}
-use Rattle.frame_tree.specs.Frames.{Frame, TenantTree, owner_of_tree, frames_in, frame_at, has_frame, ready_frames, is_ready, newest_ready_of, first_of_two}
-use Rattle.frame_tree.specs.Frames.{IsReadyAt, has_parent, with_state, aborted, goes_under}
+use Rattle.frame_tree.specs.Frames.{frames_in, ready_frames, newest_ready_of, first_of_two, IsReadyAt}
 use Rattle.number_index.proofs.Places.{find_by_number-found}
-use Rattle.number_index.proofs.Edits.{all-map, all-of, thing-own, said-found, said-none, said-lacks, has-found, has-above, length-without, said-without_other}
-use Rattle.number_index.proofs.Edits.{all-without, rising-without, sum_by-without, said-inserted_own, said-inserted_other, all-inserted, rising-inserted}
-use Rattle.number_index.proofs.Edits.{length-inserted, sum_by-inserted, thing-with, said-with_other, length-with, rising-with, all-with, sum_by-with}
-use Rattle.number_index.proofs.Edits.{put-same}
+use Rattle.number_index.proofs.Edits.{all-of, thing-own, said-found, said-none, said-lacks, has-above, said-without_other, all-without, rising-without}
+use Rattle.number_index.proofs.Edits.{sum_by-without, said-inserted_own, said-inserted_other, all-inserted, rising-inserted, sum_by-inserted, thing-with}
+use Rattle.number_index.proofs.Edits.{said-with_other, rising-with, all-with, sum_by-with, put-same}
 use Rattle.frame_tree.specs.Tables.{frames_of, places_of, KeepsOtherTenants, has_tenant, FitsPlaces, AllFitPlaces, total_ready, IsSoundTable, IsTreeOf}
 use Rattle.frame_tree.specs.Tables.{HasNoTree, first_ready_of, serial_of, IsParentIn, KeepsOtherFrames}
 use Rattle.frame_tree.proofs.Places.{length-filter-le, length-filter_push}
@@ -26,7 +26,7 @@ ready_of tree = length (ready_frames tree.frames)
 -- a tenant that has no tree
 module _ {T : Type 0} (xs : List (TenantTree T)) (t : ℕ) where
   pub no_tree : has_tenant xs t ≡ false → HasNoTree xs t
-  no_tree h = record { frames = said-lacks owner_of_tree (λ tree. tree.frames) [] t xs h; places = said-lacks owner_of_tree (λ tree. tree.places) 0 t xs h }
+  no_tree h = grind (arith, said-lacks)
 
   -- a tenant that has places or a frame has a tree
   pub tree_by_places : 0 < places_of xs t → has_tenant xs t ≡ true
@@ -37,27 +37,32 @@ module _ {T : Type 0} (xs : List (TenantTree T)) (t : ℕ) where
 
   -- the tree that was found is the tenant's
   pub tree_found : (x : TenantTree T) → find_by_number owner_of_tree t xs ≡ Some x → IsTreeOf xs t x
-  tree_found x is =
-      record { named = thing-own owner_of_tree t xs x is; frames = said-found owner_of_tree (λ tree. tree.frames) [] t xs x is; places = said-found owner_of_tree (λ tree. tree.places) 0 t xs x is }
+  tree_found x is = record {
+    named = thing-own owner_of_tree t xs x is;
+    frames = said-found owner_of_tree (λ tree. tree.frames) [] t xs x is;
+    places = said-found owner_of_tree (λ tree. tree.places) 0 t xs x is;
+  }
 
-  pub found_some : (found : Option (Bor (TenantTree T))) → option_copied found ≡ find_by_number owner_of_tree t xs → IfSome found (λ tree. IsTreeOf xs t tree.now)
-  found_some None is = tt
-  found_some (Some tree) is = tree_found tree.now (sym is)
+-- what a look-up has found
+module _ {T : Type 0} (xs : List (TenantTree T)) (t : ℕ) (found : Option (Bor (TenantTree T))) where
+  pub found_some : option_copied found ≡ find_by_number owner_of_tree t xs → IfSome found (λ tree. IsTreeOf xs t tree.now)
+  found_some is = grind (arith, tree_found)
 
-  pub guess_found : (found : Option (Bor (TenantTree T))) → IfSome found (λ x. find_by_number owner_of_tree t xs ≡ Some x.now) → IfSome found (λ tree. IsTreeOf xs t tree.now)
-  guess_found None is = tt
-  guess_found (Some tree) is = tree_found tree.now is
+  pub guess_found : IfSome found (λ x. find_by_number owner_of_tree t xs ≡ Some x.now) → IfSome found (λ tree. IsTreeOf xs t tree.now)
+  guess_found is = grind (arith, tree_found)
 
-  pub found_none : (found : Option (Bor (TenantTree T))) → option_copied found ≡ find_by_number owner_of_tree t xs → IfNone found (HasNoTree xs t)
-  found_none None is = record { frames = said-none owner_of_tree (λ tree. tree.frames) [] t xs (sym is); places = said-none owner_of_tree (λ tree. tree.places) 0 t xs (sym is) }
-  found_none (Some tree) is = tt
+  pub found_none : option_copied found ≡ find_by_number owner_of_tree t xs → IfNone found (HasNoTree xs t)
+  found_none is = grind (arith, said-none)
+
+  pub frames_found : IfSome found (λ x. IsTreeOf xs t x.now) → IfNone found (HasNoTree xs t) → frames_in found ≡ frames_of xs t
+  frames_found some none = grind arith
 
 module _ {T : Type 0} (room : ℕ) where
   pub fit_more : (more : ℕ) (xs : List (TenantTree T)) → room ≤ more → AllFitPlaces room xs → AllFitPlaces more xs
-  fit_more more xs le fit =
-      all-map (λ tree. FitsPlaces room tree) (λ tree. FitsPlaces more tree) (λ x f. record { within = f.within; some = f.some; few = f.few; room_left = (let h = f.room_left in omega (arith, le, h)) }) xs fit
+  fit_more more xs le fit = all-map (λ tree. FitsPlaces room tree) (λ tree. FitsPlaces more tree) (λ x f. grind arith) xs fit
 
-  pub found_fits : (xs : List (TenantTree T)) (t : ℕ) (found : Option (Bor (TenantTree T))) → AllFitPlaces room xs → option_copied found ≡ find_by_number owner_of_tree t xs → IfSome found (λ tree. 1 ≤ tree.now.places)
+  pub found_fits : (xs : List (TenantTree T)) (t : ℕ) (found : Option (Bor (TenantTree T))) → AllFitPlaces room xs →
+      option_copied found ≡ find_by_number owner_of_tree t xs → IfSome found (λ tree. 1 ≤ tree.now.places)
   found_fits xs t None fit is = tt
   found_fits xs t (Some tree) fit is = (all-of (λ z. FitsPlaces room z) owner_of_tree t tree.now xs (sym is) fit).some
 
@@ -88,7 +93,8 @@ module _ {T : Type 0} (xs : List (TenantTree T)) (i : ℕ) (x : TenantTree T) (l
   head_of = at_drop_more first_ready_of xs i x lt ∙ (rw (← is) refl)
 
   -- the first tree that has a ready frame
-  pub first_found : (result : Option (FrameId × ℕ)) → first_ready_of xs ≡ first_ready_of (drop i xs) → 0 < ready_of x → result ≡ newest_ready_of x.tenant x.frames → result ≡ first_ready_of xs
+  pub first_found : (result : Option (FrameId × ℕ)) → first_ready_of xs ≡ first_ready_of (drop i xs) → 0 < ready_of x →
+      result ≡ newest_ready_of x.tenant x.frames → result ≡ first_ready_of xs
   first_found result rest some newest = grind (arith, head_of, newest_some)
 
   pub first_later : first_ready_of xs ≡ first_ready_of (drop i xs) → ready_of x ≤ 0 → first_ready_of xs ≡ first_ready_of (drop (i + 1) xs)
@@ -125,11 +131,8 @@ module _ {T : Type 0} where
 
 -- the count of ready frames stays a small number
 module _ {T : Type 0} (xs : List (TenantTree T)) (room ready : ℕ) where
-  pub ready_bound : IsSoundTable xs room ready → ready ≤ 262144
+  ready_bound : IsSoundTable xs room ready → ready ≤ 262144
   ready_bound s = let h = total_bound room xs s.fit in let few = s.few in let c = s.counted in omega (arith, h, few, c)
-
-  ready_here : (t : ℕ) (x : TenantTree T) → IsSoundTable xs room ready → find_by_number owner_of_tree t xs ≡ Some x → ready_of x ≤ ready
-  ready_here t x s is = omega (arith, sum_by-without ready_of owner_of_tree t x xs is, s.counted)
 
 -- one more frame
 module _ {T : Type 0} (fs : List (Frame T)) where
@@ -145,20 +148,20 @@ state_length serial state [] = refl
 state_length serial state (f ∷ fs) = let h = state_length serial state fs in omega (arith, h)
 
 -- a parent that is named is there
-pub named_parent : {T : Type 0} (fs : List (Frame T)) (t : ℕ) (parent : Option FrameId) (above : Option ℕ) → above ≡ serial_of parent → IsParentIn fs t parent → has_parent fs above ≡ true
-named_parent fs t None above is p = rw is refl
-named_parent fs t (Some name) above is p = rw is p.1
+pub named_parent : {T : Type 0} (fs : List (Frame T)) (t : ℕ) (parent : Option FrameId) → IsParentIn fs t parent → has_parent fs (serial_of parent) ≡ true
+named_parent fs t parent p = grind arith
 
 -- a table with a new tenant
-module _ {T : Type 0} {xs : List (TenantTree T)} {room ready : ℕ} {y : TenantTree T} (t places : ℕ) (s : IsSoundTable xs room ready) (fresh : places_of xs t ≡ 0)
-    (is : y ≡ record { tenant = t; places = places; frames = [] }) where
-  pub reserve_sound : {more : ℕ} → room ≤ more → places ≤ more → 1 ≤ places → places ≤ 4096 → length xs < 64 → IsSoundTable (inserted owner_of_tree y xs) more ready
+module _ {T : Type 0} {xs : List (TenantTree T)} {room ready : ℕ} {y : TenantTree T} (t places : ℕ) (s : IsSoundTable xs room ready)
+    (fresh : places_of xs t ≡ 0) (is : y ≡ record { tenant = t; places = places; frames = [] }) where
+  pub reserve_sound : {more : ℕ} → room ≤ more → places ≤ more → 1 ≤ places → places ≤ 4096 → length xs < 64 →
+      IsSoundTable (inserted owner_of_tree y xs) more ready
   reserve_sound {more} le within some few free =
       let none : has_tenant xs y.tenant ≡ false = ap (λ z. has_tenant xs z.tenant) is ∙ no_places room xs t s.fit fresh in
       let sized = ap (λ z. z.places) is in
       let long = ap (λ z. length z.frames) is in
       let unready = ap (λ z. length (ready_frames z.frames)) is in
-      let fits : FitsPlaces more y = record { within = omega (arith, long); some = omega (arith, sized, some); few = omega (arith, sized, few); room_left = omega (arith, sized, within) } in
+      let fits : FitsPlaces more y = grind arith in
       record {
         few = omega (arith, length-inserted owner_of_tree y xs, free);
         rise = rising-inserted owner_of_tree y xs s.rise none;
@@ -166,103 +169,86 @@ module _ {T : Type 0} {xs : List (TenantTree T)} {room ready : ℕ} {y : TenantT
         counted = omega (arith, sum_by-inserted ready_of owner_of_tree y xs, s.counted, unready);
       }
 
-  pub reserve_here : {Y : Type 0} (say : TenantTree T → Y) (none : Y) → read_by_number owner_of_tree say none t (inserted owner_of_tree y xs) ≡ say (record { tenant = t; places = places; frames = [] })
+  pub reserve_here : {Y : Type 0} (say : TenantTree T → Y) (none : Y) →
+      read_by_number owner_of_tree say none t (inserted owner_of_tree y xs) ≡ say (record { tenant = t; places = places; frames = [] })
   reserve_here say none = rw is (said-inserted_own owner_of_tree say none (record { tenant = t; places = places; frames = [] }) xs (no_places room xs t s.fit fresh))
 
 module _ {T : Type 0} (xs : List (TenantTree T)) where
   pub insert_keeps : (t : ℕ) (y : TenantTree T) → y.tenant ≡ t → KeepsOtherTenants xs (inserted owner_of_tree y xs) t
-  insert_keeps t y named = record {
-    frames = λ u other. said-inserted_other owner_of_tree (λ tree. tree.frames) [] u y xs (λ e. other (sym e ∙ named));
-    places = λ u other. said-inserted_other owner_of_tree (λ tree. tree.places) 0 u y xs (λ e. other (sym e ∙ named));
-  }
-
-  -- a table with room for more removed values
-  pub more_room : (room more ready : ℕ) → room ≤ more → IsSoundTable xs room ready → IsSoundTable xs more ready
-  more_room room more ready le s = record { few = s.few; rise = s.rise; fit = fit_more room more xs le s.fit; counted = s.counted }
-
-  -- a tree that goes with no frame
-  pub release_sound : (room ready t : ℕ) (x : TenantTree T) → IsSoundTable xs room ready → find_by_number owner_of_tree t xs ≡ Some x → frames_of xs t ≡ [] → IsSoundTable (remove_by_number owner_of_tree t xs) room ready
-  release_sound room ready t x s is empty =
-      let unready = ap (λ fs. length (ready_frames fs)) (sym (tree_found xs t x is).frames ∙ empty) in
-      record {
-        few = omega (arith, length-without owner_of_tree t xs (has-found owner_of_tree t xs x is), s.few);
-        rise = rising-without owner_of_tree t xs s.rise;
-        fit = all-without (λ tree. FitsPlaces room tree) owner_of_tree t xs s.fit;
-        counted = omega (arith, sum_by-without ready_of owner_of_tree t x xs is, s.counted, unready);
-      }
+  insert_keeps t y named = grind (arith, said-inserted_other)
 
   pub release_keeps : (t : ℕ) → KeepsOtherTenants xs (remove_by_number owner_of_tree t xs) t
-  release_keeps t = record {
-    frames = λ u other. said-without_other owner_of_tree (λ tree. tree.frames) [] u t xs (λ e. other (sym e));
-    places = λ u other. said-without_other owner_of_tree (λ tree. tree.places) 0 u t xs (λ e. other (sym e));
-  }
+  release_keeps t = grind (arith, said-without_other)
 
--- what `None` is
-pub none_is : {X : Type 0} (o : Option X) → IsNone o → o ≡ None
-none_is None h = refl
-none_is (Some x) h = absurd (true≢false h)
+-- a table with room for more removed values
+pub more_room : {T : Type 0} {xs : List (TenantTree T)} {room more ready : ℕ} → IsSoundTable xs room ready → room ≤ more → IsSoundTable xs more ready
+more_room {xs = xs} {room = room} {more = more} s le = record { few = s.few; rise = s.rise; fit = fit_more room more xs le s.fit; counted = s.counted }
 
-pub is_none_from : {X : Type 0} (o : Option X) → o ≡ None → IsNone o
-is_none_from o h = rw h refl
+-- whether there is something, told of either of two
+pub none_by : {X : Type 0} (o p : Option X) → o ≡ p → (IsNone o → p ≡ None) × (p ≡ None → IsNone o)
+none_by None p e = (λ _. sym e, λ none. refl)
+none_by (Some x) p e = (λ h. absurd (true≢false h), λ none. absurd (none-some x (sym none ∙ sym e)))
 
 -- what goes makes a tree no longer
 pub aborted_length : {T : Type 0} (serial : ℕ) (fs : List (Frame T)) → length (aborted serial fs) ≤ length fs
 aborted_length serial fs = length-filter-le (λ f. not (goes_under serial f.path)) fs
 
 -- a new frame is found under its own serial alone
-pub others_there : {T : Type 0} (old new : List (Frame T)) (f : Frame T) (serial : ℕ) → new ≡ old ++ f ∷ [] → f.serial ≢ serial → has_frame new serial ≡ has_frame old serial
+pub others_there : {T : Type 0} (old new : List (Frame T)) (f : Frame T) (serial : ℕ) → new ≡ old ++ f ∷ [] → f.serial ≢ serial →
+    has_frame new serial ≡ has_frame old serial
 others_there old new f serial is other = grind (arith, has_frame-append, ne_eqb)
-
--- the count of its ready frames is part of that of all, its frames are within its places, and those are few
-pub record IsWithin {T : Type 0} (x : TenantTree T) (room ready : ℕ) : Type 0 where
-  pub part : ready_of x ≤ ready
-  pub some : 1 ≤ x.places
-  pub frames : length x.frames ≤ x.places
-  pub few : x.places ≤ 4096
-  pub room_left : x.places ≤ room
-  pub all_few : ready ≤ 262144
-
-pub is_within : {T : Type 0} (trees : List (TenantTree T)) (room ready tenant : ℕ) (x : TenantTree T) → IsSoundTable trees room ready → find_by_number owner_of_tree tenant trees ≡ Some x → IsWithin x room ready
-is_within trees room ready tenant x s is =
-    let fit = all-of (λ tree. FitsPlaces room tree) owner_of_tree tenant x trees is s.fit in
-    record { part = ready_here trees room ready tenant x s is; some = fit.some; frames = fit.within; few = fit.few; room_left = fit.room_left; all_few = ready_bound trees room ready s }
-
--- the frames of a tenant's tree that was looked for
-pub frames_found : {T : Type 0} (xs : List (TenantTree T)) (t : ℕ) (tree : Option (Bor (TenantTree T))) → IfSome tree (λ x. IsTreeOf xs t x.now) → IfNone tree (HasNoTree xs t) → frames_in tree ≡ frames_of xs t
-frames_found xs t None found none = sym none.frames
-frames_found xs t (Some tree) found none = sym found.frames
 
 -- A tenant's tree that was looked up in a sound table, and what other frames or places in it leave.
 
--- it is there, whose it is, and its bounds
+-- it is there, and whose it is; the count of its ready frames is part of that of all, its frames are within its places, and those are few
 pub record HasTree {T : Type 0} (trees : List (TenantTree T)) (room ready tenant : ℕ) (x : TenantTree T) : Type 0 where
   pub sound : IsSoundTable trees room ready
   pub found : find_by_number owner_of_tree tenant trees ≡ Some x
   pub own : IsTreeOf trees tenant x
-  pub within : IsWithin x room ready
+  pub fits : FitsPlaces room x
+  pub part : ready_of x ≤ ready
+  pub all_few : ready ≤ 262144
 
 -- the trees with another in its place
 module _ {T : Type 0} where
   abbrev pub put : List (TenantTree T) → ℕ → TenantTree T → List (TenantTree T)
   put trees tenant y = change_by_number owner_of_tree tenant (λ was. y) trees
 
-  pub has_tree : {trees : List (TenantTree T)} {room ready tenant : ℕ} {x : TenantTree T} → IsSoundTable trees room ready → find_by_number owner_of_tree tenant trees ≡ Some x → HasTree trees room ready tenant x
-  has_tree {trees = trees} {room = room} {ready = ready} {tenant = tenant} {x = x} sound found =
-      record { sound = sound; found = found; own = tree_found trees tenant x found; within = is_within trees room ready tenant x sound found }
+  pub has_tree : {trees : List (TenantTree T)} {room ready tenant : ℕ} {x : TenantTree T} → IsSoundTable trees room ready →
+      find_by_number owner_of_tree tenant trees ≡ Some x → HasTree trees room ready tenant x
+  has_tree {trees = trees} {room = room} {ready = ready} {tenant = tenant} {x = x} sound found = record {
+    sound = sound;
+    found = found;
+    own = tree_found trees tenant x found;
+    fits = all-of (λ tree. FitsPlaces room tree) owner_of_tree tenant x trees found sound.fit;
+    part = omega (arith, sum_by-without ready_of owner_of_tree tenant x trees found, sound.counted);
+    all_few = ready_bound trees room ready sound;
+  }
+
+  -- it goes with no frame
+  pub release_sound : {trees : List (TenantTree T)} {room ready tenant : ℕ} {x : TenantTree T} → HasTree trees room ready tenant x →
+      frames_of trees tenant ≡ [] → IsSoundTable (remove_by_number owner_of_tree tenant trees) room ready
+  release_sound {trees = trees} {room = room} {tenant = tenant} {x = x} tree empty =
+      let s = tree.sound in
+      let unready = ap (λ fs. length (ready_frames fs)) (sym tree.own.frames ∙ empty) in
+      record {
+        few = omega (arith, length-without owner_of_tree tenant trees (has-found owner_of_tree tenant trees x tree.found), s.few);
+        rise = rising-without owner_of_tree tenant trees s.rise;
+        fit = all-without (λ tree. FitsPlaces room tree) owner_of_tree tenant trees s.fit;
+        counted = omega (arith, sum_by-without ready_of owner_of_tree tenant x trees tree.found, s.counted, unready);
+      }
 
   -- another tree of the tenant's in its place: no other tenant's frames or places change
   others_keep : (trees : List (TenantTree T)) (tenant : ℕ) (y : TenantTree T) → y.tenant ≡ tenant → KeepsOtherTenants trees (put trees tenant y) tenant
-  others_keep trees tenant y named = record {
-    frames = λ u other. said-with_other owner_of_tree (λ z. z.frames) [] u tenant (λ was. y) trees (λ e. other (sym e)) (λ z own. named);
-    places = λ u other. said-with_other owner_of_tree (λ z. z.places) 0 u tenant (λ was. y) trees (λ e. other (sym e)) (λ z own. named);
-  }
+  others_keep trees tenant y named = grind (arith, said-with_other)
 
 module _ {T : Type 0} {trees : List (TenantTree T)} {room ready tenant : ℕ} {x y : TenantTree T} (tree : HasTree trees room ready tenant x) where
   -- the tree that has come into its place is the tenant's
   here_now : y.tenant ≡ x.tenant → IsTreeOf (put trees tenant y) tenant y
   here_now same = tree_found (put trees tenant y) tenant y (thing-with owner_of_tree tenant (λ was. y) trees x (λ z own. same ∙ tree.own.named) tree.found)
 
-  still_sound : {more after : ℕ} → y.tenant ≡ x.tenant → FitsPlaces more y → room ≤ more → after + ready_of x ≡ ready + ready_of y → IsSoundTable (put trees tenant y) more after
+  still_sound : {more after : ℕ} → y.tenant ≡ x.tenant → FitsPlaces more y → room ≤ more → after + ready_of x ≡ ready + ready_of y →
+      IsSoundTable (put trees tenant y) more after
   still_sound {more} {after} same fits wider count = record {
     few = omega (arith, length-with owner_of_tree tenant (λ was. y) trees, tree.sound.few);
     rise = rising-with owner_of_tree tenant (λ was. y) trees (λ z own. same ∙ tree.own.named) tree.sound.rise;
@@ -279,16 +265,14 @@ module _ {T : Type 0} {trees : List (TenantTree T)} {room ready tenant : ℕ} {x
     new_keeps =
         let others = others_keep trees tenant y (ap (λ z. z.tenant) now ∙ tree.own.named) in
         let places = (here_now (ap (λ z. z.tenant) now)).places ∙ (ap (λ z. z.places) now ∙ sym tree.own.places) in
-        record {
-          frames = others.frames;
-          places = λ u. elim (cases_eq u tenant) [ inl e ↦ rw e places | inr other ↦ others.places u other ];
-          count = length-with owner_of_tree tenant (λ was. y) trees;
-        }
+        let count = length-with owner_of_tree tenant (λ was. y) trees in
+        grind (arith, others, places, count)
 
-    pub new_sound : {after : ℕ} → length frames ≤ x.places → after + ready_of x ≡ ready + length (ready_frames frames) → IsSoundTable (put trees tenant y) room after
+    pub new_sound : {after : ℕ} → length frames ≤ x.places → after + ready_of x ≡ ready + length (ready_frames frames) →
+        IsSoundTable (put trees tenant y) room after
     new_sound {after} within count =
-        let in_places = tree.within in
-        let fits : FitsPlaces room (record x { frames = frames }) = record { within = within; some = in_places.some; few = in_places.few; room_left = in_places.room_left } in
+        let old = tree.fits in
+        let fits : FitsPlaces room (record x { frames = frames }) = grind arith in
         still_sound (ap (λ z. z.tenant) now) (subst (λ (z : TenantTree T). FitsPlaces room z) (sym now) fits) (omega arith) (rw now count)
 
   -- other places for it: the tenant has those, and no other tenant's frames or places change
@@ -304,9 +288,8 @@ module _ {T : Type 0} {trees : List (TenantTree T)} {room ready tenant : ℕ} {x
 
     pub raised_sound : {more : ℕ} → x.places ≤ places → places ≤ 4096 → places ≤ more → room ≤ more → IsSoundTable (put trees tenant y) more ready
     raised_sound {more} above few enough wider =
-        let in_places = tree.within in
-        let within : length x.frames ≤ places = omega (arith, in_places.frames, above) in
-        let fits : FitsPlaces more (record x { places = places }) = record { within = within; some = omega (arith, in_places.some, above); few = few; room_left = enough } in
+        let old = tree.fits in
+        let fits : FitsPlaces more (record x { places = places }) = grind arith in
         still_sound (ap (λ z. z.tenant) now) (subst (λ (z : TenantTree T). FitsPlaces more z) (sym now) fits) wider (rw now refl)
 
   -- the same tree put back: nothing has changed but the room
@@ -315,4 +298,4 @@ module _ {T : Type 0} {trees : List (TenantTree T)} {room ready tenant : ℕ} {x
 
   pub unraised_sound : {more : ℕ} → y ≡ x → room ≤ more → IsSoundTable (put trees tenant y) more ready
   unraised_sound {more} now wider =
-      subst (λ (xs : List (TenantTree T)). IsSoundTable xs more ready) (sym (unraised now)) (more_room trees room more ready wider tree.sound)
+      subst (λ (xs : List (TenantTree T)). IsSoundTable xs more ready) (sym (unraised now)) (more_room tree.sound wider)

@@ -1,8 +1,8 @@
 -- What each change leaves of a tree: an abort, a leaf removed, a frame added, other states and values.
-use Rattle.frame_tree.proofs.Common.{◌≡◌, ◌≢◌, ℕ, ◌<◌, inl, inr, Bool, true, false, not, eqb, List, [], ◌∷◌, ◌++◌, Option, Some, None, refl, ap, sym, ◌∙◌}
-use Rattle.frame_tree.proofs.Common.{arith, append_assoc, filter, false≢true, true≢false, eq-eqb, eqb-true, or_parts, not_from_true, not_from_false}
-use Rattle.frame_tree.proofs.Common.{not-true, or_right, Frame, frame_at, AllBelow, goes_under, children_of, aborted, frames_without, IsNextFrame, IsTree}
-use Rattle.frame_tree.proofs.Common.{IsTreeAfter, is_child_of, AllAboveSerial, AreSerialsRising, Each, if_kept}
+use Rattle.frame_tree.proofs.Common.{◌≡◌, ◌≢◌, ℕ, ◌<◌, inl, inr, Bool, true, false, not, eqb, List, [], ◌∷◌, ◌++◌, Some, None, refl, ap, sym, ◌∙◌, arith}
+use Rattle.frame_tree.proofs.Common.{append_assoc, filter, false≢true, true≢false, eq-eqb, eqb-true, or_parts, not_from_true, not_from_false, not-true, Frame}
+use Rattle.frame_tree.proofs.Common.{frame_at, AllBelow, goes_under, children_of, aborted, frames_without, IsNextFrame, IsTree, IsTreeAfter, is_child_of}
+use Rattle.frame_tree.proofs.Common.{AllAboveSerial, AreSerialsRising, Each, if_kept}
 use Rattle.frame_tree.proofs.Places.{above_by-filter, rises_by-filter}
 use Rattle.frame_tree.proofs.TreeLaws.{found-there, found-serial, found-path, missing, frame_at-left, frame_at-right, tree-rising, above-missing, each-found}
 use Rattle.frame_tree.proofs.TreeLaws.{found-each, IsUnder, IsPlaced, placed, under-through, not-under-itself, children-by-paths}
@@ -12,7 +12,8 @@ below-rising : {T : Type 0} (before : List (Frame T)) (x : Frame T) (xs : List (
 below-rising [] x xs rising = tt
 below-rising (y ∷ before) x xs rising = (first y before x xs rising.0, below-rising before x xs rising.1)
   where
-    first : {T : Type 0} (y : Frame T) (before : List (Frame T)) (x : Frame T) (xs : List (Frame T)) → AllAboveSerial y.serial (before ++ x ∷ xs) → y.serial < x.serial
+    first : {T : Type 0} (y : Frame T) (before : List (Frame T)) (x : Frame T) (xs : List (Frame T)) → AllAboveSerial y.serial (before ++ x ∷ xs) →
+        y.serial < x.serial
     first y [] x xs above = above.0
     first y (z ∷ before) x xs above = first y before x xs above.1
 
@@ -22,7 +23,8 @@ rising-right (y ∷ before) xs rising = rising-right before xs rising.1
 
 -- a parent stands before its child
 module _ {T : Type 0} (before : List (Frame T)) (x : Frame T) (xs : List (Frame T)) where
-  parent-before : (p : ℕ) (f : Frame T) → AreSerialsRising (before ++ x ∷ xs) → p < x.serial → frame_at (before ++ x ∷ xs) p ≡ Some f → frame_at before p ≡ Some f
+  parent-before : (p : ℕ) (f : Frame T) → AreSerialsRising (before ++ x ∷ xs) → p < x.serial → frame_at (before ++ x ∷ xs) p ≡ Some f →
+      frame_at before p ≡ Some f
   parent-before p f rising low at = grind (arith, frame_at-left, frame_at-right, rising-right, above-missing, found-there)
 
   next-from : AreSerialsRising (before ++ x ∷ xs) → IsPlaced (before ++ x ∷ xs) x → IsNextFrame before x
@@ -31,9 +33,6 @@ module _ {T : Type 0} (before : List (Frame T)) (x : Frame T) (xs : List (Frame 
 tree-after : {T : Type 0} (before xs : List (Frame T)) → AreSerialsRising (before ++ xs) → Each (IsPlaced (before ++ xs)) xs → IsTreeAfter before xs
 tree-after before [] rising each = tt
 tree-after {T} before (x ∷ xs) rising each = grind (arith, tree-after (before ++ x ∷ []) xs, append_assoc, next-from)
-
-pub tree-from : {T : Type 0} (frames : List (Frame T)) → AreSerialsRising frames → Each (IsPlaced frames) frames → IsTree frames
-tree-from frames rising each = tree-after [] frames rising each
 
 -- the frames that pass a test
 module _ {T : Type 0} (keep : Frame T → Bool) where
@@ -49,23 +48,24 @@ module _ {T : Type 0} (keep : Frame T → Bool) where
   frame_at-filter (x ∷ xs) s rising = grind (arith, frame_at-filter xs s, missing, above-missing, above_by-filter)
 
   -- a frame that stays is found as before, and what is found was there and stays
-  pub frame_at-stays : (xs : List (Frame T)) (s : ℕ) (f : Frame T) → AreSerialsRising xs → frame_at xs s ≡ Some f → keep f ≡ true → frame_at (filter keep xs) s ≡ Some f
+  pub frame_at-stays : (xs : List (Frame T)) (s : ℕ) (f : Frame T) → AreSerialsRising xs → frame_at xs s ≡ Some f → keep f ≡ true →
+      frame_at (filter keep xs) s ≡ Some f
   frame_at-stays xs s f rising at is = frame_at-filter xs s rising ∙ ap (λ o. if_kept keep o) at ∙ (rw is refl)
 
-  kept-found : (o : Option (Frame T)) (f : Frame T) → if_kept keep o ≡ Some f → (o ≡ Some f) × (keep f ≡ true)
-  kept-found o f h4 = grind arith
-
-  pub filter-found : (xs : List (Frame T)) (s : ℕ) (f : Frame T) → AreSerialsRising xs → frame_at (filter keep xs) s ≡ Some f → (frame_at xs s ≡ Some f) × (keep f ≡ true)
-  filter-found xs s f rising at = kept-found (frame_at xs s) f (sym (frame_at-filter xs s rising) ∙ at)
+  pub filter-found : (xs : List (Frame T)) (s : ℕ) (f : Frame T) → AreSerialsRising xs → frame_at (filter keep xs) s ≡ Some f →
+      (frame_at xs s ≡ Some f) × (keep f ≡ true)
+  filter-found xs s f rising at = let is = sym (frame_at-filter xs s rising) ∙ at in grind arith
 
   -- a tree stays one where each frame that stays has a parent that stays
-  placed-filter : (xs : List (Frame T)) (f : Frame T) → AreSerialsRising xs → IsPlaced xs f → ((u : IsUnder xs f) → keep u.above ≡ true) → IsPlaced (filter keep xs) f
+  placed-filter : (xs : List (Frame T)) (f : Frame T) → AreSerialsRising xs → IsPlaced xs f → ((u : IsUnder xs f) → keep u.above ≡ true) →
+      IsPlaced (filter keep xs) f
   placed-filter xs f rising (inl top) closed = inl top
   placed-filter xs f rising (inr u) closed =
       inr (record { parent = u.parent; above = u.above; named = u.named; there = frame_at-stays xs u.parent u.above rising u.there (closed u); below = u.below; path = u.path })
 
-pub tree-filter : {T : Type 0} (keep : Frame T → Bool) (xs : List (Frame T)) → IsTree xs → ((s : ℕ) (f : Frame T) → frame_at xs s ≡ Some f → keep f ≡ true → (u : IsUnder xs f) → keep u.above ≡ true) → IsTree (filter keep xs)
-tree-filter keep xs t closed = grind (arith, tree-rising, rising-filter, tree-from, found-each, filter-found, placed-filter, placed)
+pub tree-filter : {T : Type 0} (keep : Frame T → Bool) (xs : List (Frame T)) → IsTree xs →
+    ((s : ℕ) (f : Frame T) → frame_at xs s ≡ Some f → keep f ≡ true → (u : IsUnder xs f) → keep u.above ≡ true) → IsTree (filter keep xs)
+tree-filter keep xs t closed = grind (arith, tree-rising, rising-filter, tree-after [] (filter keep xs), found-each, filter-found, placed-filter, placed)
 
 -- an abort leaves a tree, with the frame itself
 module _ {T : Type 0} (p : ℕ) (xs : List (Frame T)) where
@@ -90,15 +90,12 @@ module _ {T : Type 0} (xs : List (Frame T)) (p : ℕ) where
         | inr u ↦ (let same : eqb u.parent p ≡ true = rw u.named at child in under-through xs x p t u ∙ (rw same refl))
       ]
 
-  pub child-further-under : (q s : ℕ) (f x : Frame T) → IsTree xs → frame_at xs q ≡ Some f → goes_under p f.path ≡ true → frame_at xs s ≡ Some x → is_child_of q x.path ≡ true → goes_under p x.path ≡ true
+  pub child-further-under : (q s : ℕ) (f x : Frame T) → IsTree xs → frame_at xs q ≡ Some f → goes_under p f.path ≡ true → frame_at xs s ≡ Some x →
+      is_child_of q x.path ≡ true → goes_under p x.path ≡ true
   child-further-under q s f x t at_q goes at child =
       elim (placed xs s x t at) [
         | inl top ↦ absurd (false≢true (rw top.0 at child))
-        | inr u ↦ (let same : eqb u.parent q ≡ true = rw u.named at child in
-            let is = eqb-true u.parent q same in
-            let both : ◌≡◌ {A = Option (Frame T)} (Some u.above) (Some f) = sym u.there ∙ (rw is at_q) in
-            let e : u.above ≡ f = cc in
-            under-through xs x p t u ∙ (rw (e, goes) (or_right (eqb u.parent p) true refl)))
+        | inr u ↦ (let through = under-through xs x p t u in grind (arith, through, u.named, u.there, eqb-true))
       ]
 
 -- two tests, one after the other

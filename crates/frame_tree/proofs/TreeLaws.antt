@@ -2,13 +2,20 @@
 use Rattle.frame_tree.proofs.Common.{◌≡◌, ◌≢◌, ℕ, zero, suc, ◌<◌, ◌≤◌, ◌⊎◌, inl, inr, Bool, true, false, ◌||◌, eqb, List, [], ◌∷◌, ◌++◌, Option, Some, None}
 use Rattle.frame_tree.proofs.Common.{refl, ap, sym, ◌∙◌, arith, append_assoc, filter, cases_Bool, cases_eq, false≢true, true≢false, eq-eqb, ne_eqb, eqb-true}
 use Rattle.frame_tree.proofs.Common.{or_cases, Frame, frame_at, has_frame, has_parent, path_in, AllBelow, parent_of, path_under, goes_under, is_one_more}
-use Rattle.frame_tree.proofs.Common.{children_of, IsNextFrame, IsTree, IsTreeAfter, is_that, is_child_of, AllAboveSerial, AreSerialsRising, Each}
-pub use Rattle.frame_tree.proofs.Finds.{frame_at-none as missing, found-path}
-use Rattle.frame_tree.proofs.Finds.{one_more_same, one_more_is, EndsIn-unique}
+use Rattle.frame_tree.proofs.Common.{children_of, IsNextFrame, IsTree, IsTreeAfter, is_that, is_child_of, AllAboveSerial, AreSerialsRising, Each, and_parts}
 use Rattle.frame_tree.proofs.Forest.{AllBelow-left, AllBelow-right, has_frame-above, EndsIn, EndsIn-append, goes_under-append}
+use Rattle.std.proofs.lemmas.Bool.{and_right}
 
--- a frame that is found
+-- a frame that is found, or is not there
 module _ {T : Type 0} where
+  pub missing : (frames : List (Frame T)) (serial : ℕ) → has_frame frames serial ≡ false → frame_at frames serial ≡ None
+  missing [] serial h = refl
+  missing (x ∷ xs) serial h = grind (arith, missing xs serial)
+
+  pub found-path : (frames : List (Frame T)) (serial : ℕ) (frame : Frame T) → frame_at frames serial ≡ Some frame → path_in frames serial ≡ frame.path
+  found-path [] serial frame at = absurd cc
+  found-path (x ∷ xs) serial frame at = grind (arith, found-path xs serial frame)
+
   pub found-there : (frames : List (Frame T)) (serial : ℕ) (frame : Frame T) → frame_at frames serial ≡ Some frame → has_frame frames serial ≡ true
   found-there [] serial frame at = absurd cc
   found-there (x ∷ xs) serial frame at = grind (arith, found-there xs serial frame)
@@ -44,7 +51,8 @@ module _ {T : Type 0} where
   below-found (x ∷ xs) bound serial below there = grind (arith, below-found xs bound serial)
 
   -- the frames of a tree rise
-  above-linked : (before frames : List (Frame T)) (serial : ℕ) → ((bound : ℕ) → AllBelow bound before → serial < bound) → IsTreeAfter before frames → AllAboveSerial serial frames
+  above-linked : (before frames : List (Frame T)) (serial : ℕ) → ((bound : ℕ) → AllBelow bound before → serial < bound) → IsTreeAfter before frames →
+      AllAboveSerial serial frames
   above-linked before [] serial low t = tt
   above-linked before (x ∷ xs) serial low t =
       (low x.serial t.0.above, above-linked (before ++ x ∷ []) xs serial (λ bound below. low bound (AllBelow-left bound before _ below)) t.1)
@@ -68,7 +76,8 @@ module _ {T : Type 0} (P : Frame T → Type 0) where
   each-found [] serial frame each at = absurd cc
   each-found (x ∷ xs) serial frame each at = grind (arith, each-found xs serial frame)
 
-  pub found-each : (frames : List (Frame T)) → AreSerialsRising frames → ((serial : ℕ) (frame : Frame T) → frame_at frames serial ≡ Some frame → P frame) → Each P frames
+  pub found-each : (frames : List (Frame T)) → AreSerialsRising frames → ((serial : ℕ) (frame : Frame T) → frame_at frames serial ≡ Some frame → P frame) →
+      Each P frames
   found-each [] rising all = tt
   found-each (x ∷ xs) rising all = (
     all x.serial x (rw (eq-eqb x.serial x.serial refl) refl),
@@ -77,6 +86,24 @@ module _ {T : Type 0} (P : Frame T → Type 0) where
   )
 
 -- the last serial of a path is one alone
+EndsIn-unique : (path : List ℕ) (a b : ℕ) → EndsIn path a → EndsIn path b → a ≡ b
+EndsIn-unique [] a b p q = absurd p
+EndsIn-unique (x ∷ []) a b p q = sym p ∙ q
+EndsIn-unique (x ∷ y ∷ path) a b p q = EndsIn-unique (y ∷ path) a b p q
+
+-- a path with one more is that of one path alone
+one_more_same : (path : List ℕ) (serial : ℕ) → is_one_more path (path ++ serial ∷ []) ≡ true
+one_more_same [] serial = refl
+one_more_same (x ∷ path) serial = rw (eq-eqb x x refl) (one_more_same path serial)
+
+one_more_is : (above path : List ℕ) (serial : ℕ) → is_one_more above (path ++ serial ∷ []) ≡ true → above ≡ path
+one_more_is [] [] serial e = refl
+one_more_is [] (y ∷ []) serial e = absurd (false≢true e)
+one_more_is [] (y ∷ z ∷ path) serial e = absurd (false≢true e)
+one_more_is (x ∷ []) [] serial e = absurd (false≢true (and_parts (eqb x serial) false e).1)
+one_more_is (x ∷ y ∷ above) [] serial e = absurd (false≢true (and_parts (eqb x serial) false e).1)
+one_more_is (x ∷ above) (y ∷ path) serial e = grind (arith, one_more_is above path serial)
+
 -- a frame in its place among others: a root, whose path is its serial alone, or one step further than its parent, which is there and has a lower serial
 pub record IsUnder {T : Type 0} (frames : List (Frame T)) (frame : Frame T) : Type 0 where
   pub parent : ℕ
@@ -144,9 +171,6 @@ pub under-through : {T : Type 0} (frames : List (Frame T)) (frame : Frame T) (p 
     goes_under p frame.path ≡ (eqb u.parent p || goes_under p u.above.path)
 under-through frames frame p t u = grind (arith, goes_under-append, found-ends)
 
-top-under-none : {T : Type 0} (frame : Frame T) (p : ℕ) → IsTop frame → goes_under p frame.path ≡ false
-top-under-none frame p top = rw top.1 refl
-
 -- what a path goes through is there, and has a lower serial
 abbrev pub GoesThrough : {T : Type 0} → List (Frame T) → Frame T → Type 0
 GoesThrough frames frame = (p : ℕ) → goes_under p frame.path ≡ true → (p < frame.serial) × (has_frame frames p ≡ true)
@@ -155,7 +179,7 @@ module _ {T : Type 0} (frames : List (Frame T)) (serial : ℕ) (frame : Frame T)
   pub goes-through : GoesThrough frames frame
   goes-through =
       tree-induction (GoesThrough frames) frames t
-      (λ frame top p goes. absurd (false≢true (sym (top-under-none frame p top) ∙ goes)))
+      (λ frame top p goes. absurd (false≢true (rw top.1 at goes)))
       (λ frame u above p goes. elim (or_cases (eqb u.parent p) (goes_under p u.above.path) (sym (under-through frames frame p t u) ∙ goes)) [
         | inl same ↦ grind (arith, eqb-true, found-there)
         | inr through ↦ grind (arith, found-serial)
@@ -169,13 +193,11 @@ module _ {T : Type 0} (frames : List (Frame T)) (serial : ℕ) (frame : Frame T)
 -- the children of a frame are those whose path has its serial as the last but one
 child-top : {T : Type 0} (above : List ℕ) (s : ℕ) (x : Frame T) → EndsIn above s → IsTop x → is_one_more above x.path ≡ is_child_of s x.path
 child-top [] s x ends top = absurd ends
-child-top (a ∷ above) s x ends top = rw (top.0, top.1) (none (x.serial) above)
-  where
-    none : (b : ℕ) (above : List ℕ) → (is_one_more (a ∷ above) (b ∷ [])) ≡ false
-    none b [] = grind arith
-    none b (c ∷ above) = grind arith
+child-top (a ∷ []) s x ends top = rw (top.0, top.1) (and_right (eqb a x.serial) false refl)
+child-top (a ∷ b ∷ above) s x ends top = rw (top.0, top.1) (and_right (eqb a x.serial) false refl)
 
-child-under : {T : Type 0} (frames : List (Frame T)) (s : ℕ) (f x : Frame T) → IsTree frames → frame_at frames s ≡ Some f → (u : IsUnder frames x) → is_one_more f.path x.path ≡ is_child_of s x.path
+child-under : {T : Type 0} (frames : List (Frame T)) (s : ℕ) (f x : Frame T) → IsTree frames → frame_at frames s ≡ Some f → (u : IsUnder frames x) →
+    is_one_more f.path x.path ≡ is_child_of s x.path
 child-under {T} frames s f x t at u =
     elim (cases_eq u.parent s) [
       | inl same ↦ grind (arith, one_more_same, eq-eqb)
@@ -210,11 +232,7 @@ module _ {T : Type 0} (frames : List (Frame T)) (s : ℕ) where
 
   -- the same, part by part
   pub top-path : (frame : Frame T) → IsTree frames → frame_at frames s ≡ Some frame → parent_of frame.path ≡ None → frame.path ≡ s ∷ []
-  top-path frame t at none =
-      elim (placed frames s frame t at) [
-        | inl top ↦ top.1 ∙ ap (λ (n : ℕ). n ∷ []) (found-serial frames s frame at)
-        | inr u ↦ (let e = u.named in absurd cc)
-      ]
+  top-path frame t at none = let place = placed frames s frame t at in let own = found-serial frames s frame at in grind (arith, place, own)
 
 module _ {T : Type 0} (frames : List (Frame T)) (s p : ℕ) (frame : Frame T) (t : IsTree frames) (at : frame_at frames s ≡ Some frame)
     (named : parent_of frame.path ≡ Some p) where

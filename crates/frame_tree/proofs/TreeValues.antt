@@ -1,16 +1,17 @@
 -- A tree with one frame more, with another state in a frame, and with other values: what is found, the children, and that it is a tree.
-use Rattle.frame_tree.proofs.Common.{State, filter, filter-append, is_child_of, map_value, map_values, AreAlike, ◌≡◌, ◌≢◌, ℕ, zero, suc, ◌<◌, inl}
-use Rattle.frame_tree.proofs.Common.{inr, Bool, true, not, List, [], ◌∷◌, ◌++◌, Option, Some, None, refl, ap, sym, ◌∙◌, arith, append_assoc, append-nil}
-use Rattle.std.specs.Prelude.{map, option_map}
-use Rattle.frame_tree.specs.Frames.{Frame, frame_at, has_frame, has_parent, path_in, AllBelow, parent_of, path_under, goes_under, root_of, is_one_more}
-use Rattle.frame_tree.specs.Frames.{children_under, children_of, frames_under, aborted, frames_without, with_state, values_of, IsNextFrame, IsTree}
-use Rattle.frame_tree.specs.Frames.{IsTreeAfter, new_frame}
-use Rattle.frame_tree.proofs.Forest.{EndsIn, parent_of-append}
-use Rattle.frame_tree.proofs.TreeLaws.{there-found, found-serial, found-path, IsUnder, placed, found-ends, children-by-paths, frame_at-push}
-use Rattle.frame_tree.proofs.TreeLaws.{frame_at_other-push}
+use Rattle.frame_tree.proofs.Common.{State, filter, filter-append, is_child_of, map_value, map_values, AreAlike, ◌≡◌, ◌≢◌, ℕ, Bool, true, not, List, [], ◌∷◌}
+use Rattle.frame_tree.proofs.Common.{◌++◌, Option, Some, None, refl, ap, sym, ◌∙◌, arith, append_assoc, append-nil, map, Frame, frame_at, has_frame, has_parent}
+use Rattle.frame_tree.proofs.Common.{path_in, AllBelow, parent_of, path_under, goes_under, is_one_more, children_of, frames_under, aborted, frames_without}
+use Rattle.frame_tree.proofs.Common.{with_state, values_of, IsNextFrame, IsTree, IsTreeAfter, new_frame, subst}
+use Rattle.std.specs.Prelude.{option_map}
+use Rattle.frame_tree.specs.Frames.{root_of, children_under}
+use Rattle.frame_tree.proofs.Forest.{parent_of-append, root_of-append}
+use Rattle.frame_tree.proofs.TreeLaws.{there-found, found-serial, found-path, IsUnder, found-ends, children-by-paths, frame_at-push, frame_at_other-push}
+use Rattle.frame_tree.proofs.TreeLaws.{tree-induction}
 
 -- one frame more
-tree-push-after : {T : Type 0} (before xs : List (Frame T)) (y : Frame T) → IsTreeAfter before xs → IsNextFrame (before ++ xs) y → IsTreeAfter before (xs ++ y ∷ [])
+tree-push-after : {T : Type 0} (before xs : List (Frame T)) (y : Frame T) → IsTreeAfter before xs → IsNextFrame (before ++ xs) y →
+    IsTreeAfter before (xs ++ y ∷ [])
 tree-push-after {T} before [] y t next = (rw append-nil at next, tt)
 tree-push-after {T} before (x ∷ xs) y t next = grind (arith, tree-push-after (before ++ x ∷ []) xs y, append_assoc)
 
@@ -34,33 +35,23 @@ module _ {T : Type 0} (xs : List (Frame T)) (serial : ℕ) (parent : Option ℕ)
   tree-new_frame = tree-push xs (new_frame xs serial parent home value) t new-frame-next
 
 -- it is the last child of its parent, and nobody else's
-pub children_of-push : {T : Type 0} (xs : List (Frame T)) (y : Frame T) (s : ℕ) → IsTree xs → IsNextFrame xs y → children_of (xs ++ y ∷ []) s ≡ children_of xs s ++ filter (λ x. is_child_of s x.path) (y ∷ [])
+pub children_of-push : {T : Type 0} (xs : List (Frame T)) (y : Frame T) (s : ℕ) → IsTree xs → IsNextFrame xs y →
+    children_of (xs ++ y ∷ []) s ≡ children_of xs s ++ filter (λ x. is_child_of s x.path) (y ∷ [])
 children_of-push xs y s t next = grind (arith, children-by-paths, tree-push, filter-append)
 
 -- the root above a frame is there
-root_of-append : (path : List ℕ) (s last : ℕ) → EndsIn path last → root_of (path ++ s ∷ []) ≡ root_of path
-root_of-append [] s last ends = absurd ends
-root_of-append (x ∷ path) s last ends = refl
-
-pub root-there : {T : Type 0} (xs : List (Frame T)) (s : ℕ) (f : Frame T) → IsTree xs → frame_at xs s ≡ Some f → path_in xs (root_of f.path) ≡ root_of f.path ∷ []
-root-there {T} xs s f t at =
-    let P : Frame T → Type 0 = λ x. (has_frame xs x.serial ≡ true → path_in xs (root_of x.path) ≡ root_of x.path ∷ []) in
-    found at
+pub root-there : {T : Type 0} (xs : List (Frame T)) (s : ℕ) (f : Frame T) → IsTree xs → frame_at xs s ≡ Some f →
+    path_in xs (root_of f.path) ≡ root_of f.path ∷ []
+root-there {T} xs s f t is =
+    let P : Frame T → Type 0 = λ x. frame_at xs x.serial ≡ Some x → path_in xs (root_of x.path) ≡ root_of x.path ∷ [] in
+    let found : frame_at xs f.serial ≡ Some f = subst (λ (k : ℕ). frame_at xs k ≡ Some f) (sym (found-serial xs s f is)) is in
+    tree-induction P xs t (λ x top own. rw top.1 (found-path xs x.serial x own ∙ top.1)) (λ x u above own. under x u above) s f is found
   where
-    step : (x : Frame T) → (u : IsUnder xs x) → root_of x.path ≡ root_of u.above.path
-    step x u = ap root_of u.path ∙ root_of-append u.above.path x.serial u.parent (found-ends xs u.parent u.above t u.there)
-
-    by : (bound s : ℕ) (f : Frame T) → s < bound → frame_at xs s ≡ Some f → path_in xs (root_of f.path) ≡ root_of f.path ∷ []
-    by zero s f low at = absurd (omega arith)
-    by (suc bound) s f low at =
-        let is = found-serial xs s f at in
-        elim (placed xs s f t at) [
-          | inl top ↦ rw (top.1, is) (found-path xs s f at ∙ top.1 ∙ (rw is refl))
-          | inr u ↦ (let below = u.below in rw (step f u) (by bound u.parent u.above (omega (arith, is, low, below)) u.there))
-        ]
-
-    found : frame_at xs s ≡ Some f → path_in xs (root_of f.path) ≡ root_of f.path ∷ []
-    found at = by (suc s) s f (omega arith) at
+    under : (x : Frame T) (u : IsUnder xs x) → (frame_at xs u.above.serial ≡ Some u.above → path_in xs (root_of u.above.path) ≡ root_of u.above.path ∷ []) →
+        path_in xs (root_of x.path) ≡ root_of x.path ∷ []
+    under x u above =
+        let same : root_of x.path ≡ root_of u.above.path = ap root_of u.path ∙ root_of-append u.above.path x.serial u.parent (found-ends xs u.parent u.above t u.there) in
+        rw same (above (subst (λ (k : ℕ). frame_at xs k ≡ Some u.above) (sym (found-serial xs u.parent u.above u.there)) u.there))
 
 -- a frame that is no root is under the root of its path
 pub under-root : (path : List ℕ) (p : ℕ) → parent_of path ≡ Some p → goes_under (root_of path) path ≡ true
@@ -69,26 +60,23 @@ under-root path p h3 = grind arith
 -- frames of the same serials and paths
 module _ {T U : Type 0} where
   has_frame-alike : (xs : List (Frame T)) (ys : List (Frame U)) (s : ℕ) → AreAlike xs ys → has_frame ys s ≡ has_frame xs s
-  has_frame-alike [] [] s alike = refl
-  has_frame-alike [] (y ∷ ys) s alike = absurd alike
+  has_frame-alike [] ys s alike = grind arith
   has_frame-alike (x ∷ xs) [] s alike = absurd alike
   has_frame-alike (x ∷ xs) (y ∷ ys) s alike = rw (alike.0, has_frame-alike xs ys s alike.2) refl
 
   pub path_in-alike : (xs : List (Frame T)) (ys : List (Frame U)) (s : ℕ) → AreAlike xs ys → path_in ys s ≡ path_in xs s
-  path_in-alike [] [] s alike = refl
-  path_in-alike [] (y ∷ ys) s alike = absurd alike
+  path_in-alike [] ys s alike = grind arith
   path_in-alike (x ∷ xs) [] s alike = absurd alike
   path_in-alike (x ∷ xs) (y ∷ ys) s alike = rw (alike.0, alike.1, path_in-alike xs ys s alike.2) refl
 
   pub AllBelow-alike : (xs : List (Frame T)) (ys : List (Frame U)) (bound : ℕ) → AreAlike xs ys → AllBelow bound xs → AllBelow bound ys
-  AllBelow-alike [] [] bound alike below = tt
-  AllBelow-alike [] (y ∷ ys) bound alike below = absurd alike
+  AllBelow-alike [] ys bound alike below = grind arith
   AllBelow-alike (x ∷ xs) [] bound alike below = absurd alike
   AllBelow-alike (x ∷ xs) (y ∷ ys) bound alike below = (rw alike.0 below.0, AllBelow-alike xs ys bound alike.2 below.1)
 
-  alike-append : (xs : List (Frame T)) (ys : List (Frame U)) (x : Frame T) (y : Frame U) → AreAlike xs ys → y.serial ≡ x.serial → y.path ≡ x.path → AreAlike (xs ++ x ∷ []) (ys ++ y ∷ [])
-  alike-append [] [] x y alike s p = (s, p, tt)
-  alike-append [] (z ∷ ys) x y alike s p = absurd alike
+  alike-append : (xs : List (Frame T)) (ys : List (Frame U)) (x : Frame T) (y : Frame U) → AreAlike xs ys → y.serial ≡ x.serial → y.path ≡ x.path →
+      AreAlike (xs ++ x ∷ []) (ys ++ y ∷ [])
+  alike-append [] ys x y alike s p = grind arith
   alike-append (z ∷ xs) [] x y alike s p = absurd alike
   alike-append (z ∷ xs) (w ∷ ys) x y alike s p = (alike.0, alike.1, alike-append xs ys x y alike.2 s p)
 
@@ -98,9 +86,9 @@ module _ {T U : Type 0} where
   has_parent-alike : (xs : List (Frame T)) (ys : List (Frame U)) (parent : Option ℕ) → AreAlike xs ys → has_parent ys parent ≡ has_parent xs parent
   has_parent-alike xs ys parent h4 = grind (arith, has_frame-alike)
 
-  tree-alike-after : (before xs : List (Frame T)) (others ys : List (Frame U)) → AreAlike before others → AreAlike xs ys → IsTreeAfter before xs → IsTreeAfter others ys
-  tree-alike-after before [] others [] all alike t = tt
-  tree-alike-after before [] others (y ∷ ys) all alike t = absurd alike
+  tree-alike-after : (before xs : List (Frame T)) (others ys : List (Frame U)) → AreAlike before others → AreAlike xs ys → IsTreeAfter before xs →
+      IsTreeAfter others ys
+  tree-alike-after before [] others ys all alike t = grind arith
   tree-alike-after before (x ∷ xs) others [] all alike t = absurd alike
   tree-alike-after before (x ∷ xs) others (y ∷ ys) all alike t = grind (arith, tree-alike-after (before ++ x ∷ []) xs (others ++ y ∷ []) ys, AllBelow-alike, has_parent-alike, path_under-alike, alike-append)
 
@@ -116,7 +104,8 @@ module _ {T : Type 0} (n : ℕ) (state : State) where
   pub tree-with_state : (xs : List (Frame T)) → IsTree xs → IsTree (with_state n state xs)
   tree-with_state xs t = tree-alike xs (with_state n state xs) (with_state-alike xs) t
 
-  pub frame_at-with_state : (xs : List (Frame T)) (f : Frame T) → frame_at xs n ≡ Some f → frame_at (with_state n state xs) n ≡ Some (record f { state = state })
+  pub frame_at-with_state : (xs : List (Frame T)) (f : Frame T) → frame_at xs n ≡ Some f →
+      frame_at (with_state n state xs) n ≡ Some (record f { state = state })
   frame_at-with_state [] f at = absurd cc
   frame_at-with_state (x ∷ xs) f at = grind (arith, frame_at-with_state xs f)
 
@@ -189,7 +178,8 @@ module _ {T U : Type 0} (change : T → U) where
       by None = refl
       by (Some f) = paths-map_values (is_one_more f.path) xs
 
-  pub with_state-map_values : (n : ℕ) (state : State) (xs : List (Frame T)) → with_state n state (map_values change xs) ≡ map_values change (with_state n state xs)
+  pub with_state-map_values : (n : ℕ) (state : State) (xs : List (Frame T)) →
+      with_state n state (map_values change xs) ≡ map_values change (with_state n state xs)
   with_state-map_values n state [] = refl
   with_state-map_values n state (x ∷ xs) = grind (arith, with_state-map_values n state xs)
 

@@ -17,7 +17,7 @@ pub use Rattle.cactus_stack.specs.Nodes.{padded}
 pub use Rattle.jamboree_rules.proofs.EvalLemmas.MinimaxLemmas.{best_choice-deeper, best_choice-leaf}
 pub use Rattle.jamboree_rules.proofs.Forms.{IsFormed, IsFrame, child-told, few-choices, formed-told, frame-told}
 pub use Rattle.jamboree_rules.proofs.LeafLemmas.{leaf-is, opp-is, own-is}
-pub use Rattle.jamboree_rules.proofs.Rooted.{root-whole, root_value}
+pub use Rattle.jamboree_rules.proofs.Rooted.{entered-few, root_value, root-whole}
 pub use Rattle.jamboree_rules.specs.Acts.{act_by, act_of, changes_by, changes_of, first_open, first_search, inlet_act, inlet_of, kind_by, kind_of, next_act}
 pub use Rattle.jamboree_rules.specs.Acts.{opening_on, returns, seen, spawns, tests, tests_from, wakes}
 pub use Rattle.jamboree_rules.specs.Entries.{bounds_in, bounds_of}
@@ -55,4 +55,5 @@ pub use Rattle.jamboree.specs.declared.phases.Phase.{Phase}
 pub use Rattle.jamboree.specs.declared.phases.Role.{Role}
 pub use Rattle.jamboree.specs.declared.phases.Role.TheVariants.{Test}
 pub use Rattle.jamboree.specs.declared.plan.Plan.TheVariants.{Ends, Waits}
+pub use Rattle.jamboree.specs.declared.reply.Reply.{Reply}
 pub use Rattle.jamboree.specs.declared.view.Head.{Head}

@@ -1,12 +1,15 @@
 -- Lemmas that attributes name.
-use Rattle.jamboree.proofs.ActLemmas.{first-by, act-by, start-stores, spawns-by, negated-beta, negated-alpha}
+use Rattle.jamboree.proofs.ActLemmas.{first-by, act-by, start-stores, spawns-by, negated-beta, negated-alpha, choice-got}
 use Rattle.jamboree.proofs.SightLemmas.{first-formed, second-formed, first-two}
-use Rattle.jamboree.proofs.StatusLemmas.{left-bad, left-good, few-entries, open-passed}
-use Rattle.jamboree.proofs.OpenLemmas.{open-at, open-entry, settled-at, open-none}
-use Rattle.jamboree.proofs.Common.{length-map}
+use Rattle.jamboree.proofs.StatusLemmas.{left-bad, left-good, few-entries, open-at, open-entry, open-none, open-passed, rest-is, settled-at}
+use Rattle.jamboree.proofs.Common.{length-map, unwrap_or-slice_get}
 use Rattle.jamboree.proofs.ViewLemmas.{formed-parts, front-head}
 
 pub ruleset first_search_rules = (first-by, act-by, start-stores, spawns-by, negated-beta, negated-alpha)
+
+pub ruleset code_rules = (choice-got)
+
+pub ruleset rest_rules = (rest-is, unwrap_or-slice_get)
 
 pub ruleset plan_fitting_rules = (first-formed, second-formed, first-two)
 

@@ -1,5 +1,5 @@
 -- The numbers of the first words, where they have the form of a frame.
-use Rattle.jamboree.proofs.Common.{◌≡◌, ℕ, ◌+◌, ◌<◌, ◌≤◌, Bool, true, ℤ, pos, negsuc, ◌≤ℤ◌, ◌<ℤ◌, List, [], map, drop, length, slice_index, ◌==◌, ◌&&◌, bit_and, refl, to_z, of_z, w32, sym, ap, ◌∙◌, subst, take, arith, ⊎_elim, get_or-take, ints, cases_lt, and_parts, eqb-true, eq-eqb, least, greatest, unscored, is_frame, score_of, status_of, entry_rest, frame_of, are_entries, is_formed, IsFrame, frame-told, Phase, Role, Head, phase_number, role_number, frame_by, head_of, frame_from}
+use Rattle.jamboree.proofs.Common.{◌≡◌, ℕ, ◌+◌, ◌<◌, ◌≤◌, Bool, true, ℤ, pos, negsuc, ◌≤ℤ◌, ◌<ℤ◌, List, [], drop, length, slice_index, ◌==◌, ◌&&◌, bit_and, to_z, of_z, w32, sym, ap, ◌∙◌, subst, take, arith, ⊎_elim, get_or-take, ints, cases_lt, and_parts, eqb-true, eq-eqb, least, greatest, unscored, is_frame, score_of, frame_of, are_entries, is_formed, IsFrame, frame-told, Head, head_of, frame_from}
 
 -- the ranges of these words
 pub record AreRanged (h : Head) : Type 0 where
@@ -39,7 +39,8 @@ ranged h e =
       window = omega (arith, ints);
       role = f.role;
       phase = f.phase;
-      best = ⊎_elim (λ (early : h.phase < 2). word-none h.best (f.early (omega arith)).0) (λ (late : 2 ≤ h.phase). word-high h.best (f.late (omega arith)).1) (cases_lt h.phase 2);
+      best = ⊎_elim (λ (early : h.phase < 2). word-none h.best (f.early (omega arith)).0)
+          (λ (late : 2 ≤ h.phase). word-high h.best (f.late (omega arith)).1) (cases_lt h.phase 2);
       choice = f.choice;
       spawned = f.spawned;
     }
@@ -47,11 +48,6 @@ ranged h e =
 -- a score survives 32 bits
 pub as-wide : (w : ℕ) (s : ℤ) → s ≡ score_of w → w ≤ 1200000 → to_z w32 (of_z w32 s) ≡ score_of w
 as-wide w s e small = omega (arith, ints)
-
--- the frame of parts that stand for these words
-pub frame-same : (h : Head) (entries : List ℕ) (role : Role) (phase : Phase) (alpha beta best : ℤ) → alpha ≡ score_of h.alpha → beta ≡ score_of h.beta → role_number role ≡ h.role → phase_number phase ≡ h.phase → best ≡ score_of h.best →
-    frame_by h.own h.opp h.depth alpha beta role h.number phase best h.choice h.count h.spawned (map status_of entries) (map entry_rest entries) ≡ frame_from h entries
-frame-same h entries role phase alpha beta best ea eb er ep es = rw (ea, eb, er, ep, es) refl
 
 -- the first words stand in the first segment
 front-word : (w front : List ℕ) → front ≡ take 16 w → (k : ℕ) → k < 16 → slice_index front k ≡ slice_index w k
@@ -73,15 +69,13 @@ formed-rest w h e places frame =
     ∙ ap (λ (b : Bool). b && (are_entries (drop 12 w) && is_frame (frame_of w))) (sym (eq-eqb (length w) (12 + slice_index w 10) at)))
     places frame
 
-pub formed-parts : (w : List ℕ) (h : Head) → h ≡ head_of w → is_formed w ≡ true → ((length w ≡ 12 + h.count) × (are_entries (drop 12 w) ≡ true)) × (is_frame (frame_from h []) ≡ true)
+pub formed-parts : (w : List ℕ) (h : Head) → h ≡ head_of w → is_formed w ≡ true →
+    ((length w ≡ 12 + h.count) × (are_entries (drop 12 w) ≡ true)) × (is_frame (frame_from h []) ≡ true)
 formed-parts w h e formed =
     let a = and_parts (length w == 12 + slice_index w 10) (are_entries (drop 12 w) && is_frame (frame_of w)) formed in
     let b = and_parts (are_entries (drop 12 w)) (is_frame (frame_of w)) a.1 in
     subst (λ (k : Head). ((length w ≡ 12 + k.count) × (are_entries (drop 12 w) ≡ true)) × (is_frame (frame_from k []) ≡ true)) (sym e)
     ((eqb-true (length w) (12 + slice_index w 10) a.0, b.0), b.1)
-
-pub frame-is : (w : List ℕ) (h : Head) (entries : List ℕ) → h ≡ head_of w → entries ≡ drop 12 w → frame_from h entries ≡ frame_of w
-frame-is w h entries e s = rw (e, s) refl
 
 -- the scores of a head in 32 bits
 pub alpha-low : (h : Head) (s : ℤ) → AreRanged h → s ≡ score_of h.alpha → negsuc 199999 ≤ℤ to_z w32 (of_z w32 s)
@@ -98,9 +92,3 @@ best-low h s r e = omega (arith, ints)
 
 pub best-high : (h : Head) (s : ℤ) → AreRanged h → s ≡ score_of h.best → to_z w32 (of_z w32 s) ≤ℤ pos 200000
 best-high h s r e = omega (arith, ints)
-
--- the frame of a head whose scores are read into 32 bits
-pub frame-read : (h : Head) (entries : List ℕ) (role : Role) (phase : Phase) (alpha beta best : ℤ) → AreRanged h → alpha ≡ score_of h.alpha → beta ≡ score_of h.beta → role_number role ≡ h.role → phase_number phase ≡ h.phase → best ≡ score_of h.best →
-    frame_by h.own h.opp h.depth (to_z w32 (of_z w32 alpha)) (to_z w32 (of_z w32 beta)) role h.number phase (to_z w32 (of_z w32 best)) h.choice h.count h.spawned (map status_of entries) (map entry_rest entries) ≡ frame_from h entries
-frame-read h entries role phase alpha beta best r ea eb er ep es =
-    frame-same h entries role phase _ _ _ (as-wide h.alpha alpha ea r.alpha_high) (as-wide h.beta beta eb r.beta_high) er ep (as-wide h.best best es r.best)

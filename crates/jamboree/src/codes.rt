@@ -33,6 +33,7 @@ pub(crate) fn coded(choice: Option<Choice>) -> u64
 }
 
 /// The code of the choice of this number, from 0, on this board.
+#[tactic(auto, using(crate::proofs::Rules::code_rules))]
 pub(crate) fn code_at(board: Board, number: usize) -> u64
     requires { number < length (choices (cells board)) }
     ensures { result ≡ code_of (slice_index_or (choices (cells board)) number Pass) }

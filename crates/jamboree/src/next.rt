@@ -46,7 +46,7 @@ pub(crate) fn floor(frame: &View) -> i32
 /// How many plies the choice of this number takes: 1 for a square, 0 for a pass. A pass is the only choice of its
 /// board, so where there are more the choice isn't looked up.
 #[inline(always)]
-#[tactic(auto, using(crate::proofs::PlyLemmas::square_of_more))]
+#[tactic(auto, using(crate::proofs::ActLemmas::square_of_more))]
 fn plies_of(frame: &View, number: usize) -> u8
     requires choices { frame.now.count ≡ length (choices (cells frame.now.board)) }
     requires inside { number < frame.now.count }

@@ -81,6 +81,7 @@ pub(crate) fn has_failed(words: &Words, number: usize) -> bool
 /// What is known of the choice of this number, as its entry without the status; 0 where nothing is known or there is no
 /// such choice.
 #[inline(always)]
+#[tactic(auto, using(crate::proofs::Rules::rest_rules))]
 pub(crate) fn rest_at(words: &Words, number: usize) -> PackedBound
     requires { number ≤ 128 }
     ensures { result.word ≡ slice_index (rests_in words.now) number }

@@ -1,19 +1,15 @@
 -- What is packed into an entry is read again.
-use Rattle.jamboree_rules.proofs.Common.{◌≡◌, ◌≢◌, ℕ, zero, suc, ◌+◌, ◌*◌, ◌/◌, ◌%◌, ◌<◌, ◌≤◌, ◌==◌, true, ℤ, ◌≤ℤ◌, if◌then◌else◌, List, [], ◌∷◌, map, refl, slice_index, ◌++◌, drop, replicate, length, slice_set, ◌⊎◌, ◌&&◌, nat_le, nat_lt, Bool, Option, Some, None, IfSome, Contains, ◌∙◌, ap, arith, sym, subst, and_parts, le-leb, and_from, eqb-true, eq-eqb, leb-true, nat_tests, ints, mod-mul-add, div-mul-add, BoundKind, least, greatest, is_score, Frame, board, unscored, is_leaf, is_searching, counts_choices, is_in_phase, is_frame, may_be_child, code_of, code_at, coded, score_of, word_of, status_of, entry_rest, entry_of, kind_number, kind_in, score_in, rest_with, is_rest, is_entry, are_entries, frame_of, Change, OwnBits, OppBits, Phase, Best, Chosen, Count, Spawned, Status, pair_of, pairs_of, changed, is_formed, common_steps, get_or-set_other, get_or-set_same, map-set, drop-set-lt, drop-set-add, get_or_past, and_set, length-set, drop-append_seam, stored, int_eq, choices, IsAllowed, IsLeaf, leaf-told, All-get_or, Cell, Choice, choices_allowed, contained_allowed, choices_fit}
+use Rattle.jamboree_rules.proofs.Common.{◌≡◌, ◌≢◌, ℕ, zero, suc, ◌+◌, ◌<◌, ◌≤◌, ◌==◌, true, ℤ, ◌≤ℤ◌, if◌then◌else◌, List, [], ◌∷◌, map, refl, slice_index, ◌++◌, drop, replicate, length, slice_set, ◌⊎◌, ◌&&◌, nat_le, nat_lt, Bool, Option, Some, None, IfSome, Contains, ◌∙◌, ap, arith, sym, subst, and_parts, le-leb, and_from, eqb-true, eq-eqb, leb-true, nat_tests, ints, BoundKind, least, greatest, is_score, Frame, board, unscored, is_leaf, is_searching, counts_choices, is_frame, may_be_child, code_of, code_at, coded, score_of, word_of, status_of, entry_rest, entry_of, kind_number, kind_in, score_in, rest_with, is_rest, is_entry, are_entries, frame_of, Change, Best, Status, pair_of, pairs_of, changed, is_formed, common_steps, get_or-set_other, get_or-set_same, map-set, drop-set-lt, drop-set-add, get_or_past, and_set, length-set, drop-append_seam, stored, int_eq, choices, IsAllowed, IsLeaf, leaf-told, All-get_or, Cell, Choice, choices_allowed, contained_allowed, choices_fit}
 
 -- the word of a score holds it
 pub held : (s : ℤ) → least ≤ℤ s → score_of (word_of s) ≡ s
 held s low = omega (arith, ints)
 
-module _ (b k : ℕ) where
-  turned : (n : ℕ) → b + n * k ≡ k * n + b
-  turned n = omega arith
+pub status-read : (b k : ℕ) → b ≤ 4 → status_of (entry_of b k) ≡ b
+status-read b k small = omega arith
 
-  pub status-read : b ≤ 4 → status_of (entry_of b k) ≡ b
-  status-read small = ap (λ (n : ℕ). n % 8) (turned 8) ∙ mod-mul-add k 8 b (omega arith)
-
-  pub rest-read : b ≤ 4 → entry_rest (entry_of b k) ≡ k
-  rest-read small = ap (λ (n : ℕ). n / 8) (turned 8) ∙ div-mul-add k 8 b (omega arith)
+pub rest-read : (b k : ℕ) → b ≤ 4 → entry_rest (entry_of b k) ≡ k
+rest-read b k small = omega arith
 
 module _ (kind : BoundKind) where
   kind-small : kind_number kind < 4
@@ -23,11 +19,10 @@ module _ (kind : BoundKind) where
   kind-some = grind arith
 
   pub kind-read : (score : ℤ) → kind_in (rest_with kind score) ≡ kind_number kind
-  kind-read score = ap (λ (n : ℕ). n % 4) (turned (kind_number kind) (word_of score) 4) ∙ mod-mul-add (word_of score) 4 (kind_number kind) kind-small
+  kind-read score = omega (arith, kind-small)
 
   pub score-read : (score : ℤ) → least ≤ℤ score → score_in (rest_with kind score) ≡ score
-  score-read score low =
-      ap score_of (ap (λ (n : ℕ). n / 4) (turned (kind_number kind) (word_of score) 4) ∙ div-mul-add (word_of score) 4 (kind_number kind) kind-small) ∙ held score low
+  score-read score low = omega (arith, ints, kind-small)
 
 -- two kinds of one number are one
 pub same-kind : (P : BoundKind → Type 0) (one other : BoundKind) → kind_number one ≡ kind_number other → P one → P other
@@ -81,7 +76,7 @@ set-first : (w : List ℕ) (k x : ℕ) → k < 12 → 12 ≤ length w → frame_
 set-first w k x early long = grind (arith, put-is, drop-set-lt)
 
 -- words with the same first places have the same frame but for its entries
-frame-alike : (w v : List ℕ) → ((j : ℕ) → j < 12 → slice_index v j ≡ slice_index w j) → frame_of v ≡ record (frame_of w) { statuses = map status_of (drop 12 v); rests = map entry_rest (drop 12 v) }
+frame-alike : (w v : List ℕ) → ((j : ℕ) → j < 12 → slice_index v j ≡ slice_index w j) → frame_of v ≡ frame_with (slice_index w) (drop 12 v)
 frame-alike w v same = grind arith
 
 set-entry : (w : List ℕ) (i x : ℕ) → frame_of (slice_set w (12 + i) x) ≡ record (frame_of w) {
@@ -90,7 +85,7 @@ set-entry : (w : List ℕ) (i x : ℕ) → frame_of (slice_set w (12 + i) x) ≡
 }
 set-entry w i x =
     frame-alike w (slice_set w (12 + i) x) (λ j below. get_or-set_other w (12 + i) j x 0 (λ e. absurd (omega (arith, e))))
-    ∙ ap (λ (es : List ℕ). record (frame_of w) { statuses = map status_of es; rests = map entry_rest es }) (drop-set-add 12 w i x)
+    ∙ ap (frame_with (slice_index w)) (drop-set-add 12 w i x)
     ∙ (λ j. record (frame_of w) { statuses = map-set status_of (drop 12 w) i x j; rests = map-set entry_rest (drop 12 w) i x j })
 
 -- an entry that is set is read again
@@ -108,17 +103,15 @@ AreSafe [] = Unit {0}
 AreSafe (change ∷ changes) = IsSafe change × AreSafe changes
 
 -- one store changes the frame so
-set-one : (change : Change) (w : List ℕ) → IsSafe change → 12 ≤ length w → frame_of (slice_set w (pair_of change).0 (pair_of change).1) ≡ changed change (frame_of w)
-set-one (OwnBits word) w safe long = set-first w 0 word (omega arith) long
-set-one (OppBits word) w safe long = set-first w 1 word (omega arith) long
-set-one (Phase phase) w safe long = set-first w 7 phase (omega arith) long
+set-one : (change : Change) (w : List ℕ) → IsSafe change → 12 ≤ length w → frame_of (stored (pair_of change ∷ []) w) ≡ changed change (frame_of w)
 set-one (Best score) w safe long = set-first w 8 (word_of score) (omega arith) long ∙ ap (λ (b : ℤ). record (frame_of w) { best = b }) (held score safe)
-set-one (Chosen code) w safe long = set-first w 9 code (omega arith) long
-set-one (Count count) w safe long = set-first w 10 count (omega arith) long
-set-one (Spawned count) w safe long = set-first w 11 count (omega arith) long
 set-one (Status i status rest) w safe long = set-both w i status rest safe.0
+set-one change w safe long = set-first w (pair_of change).0 (pair_of change).1 (omega arith) long
 
--- the frame after stores
+-- the words after these changes, and the frame
+abbrev pub written : List Change → List ℕ → List ℕ
+written changes words = stored (pairs_of changes) words
+
 abbrev pub changed_by : List Change → Frame → Frame
 changed_by [] f = f
 changed_by (change ∷ changes) f = changed_by changes (changed change f)
@@ -127,32 +120,28 @@ pub length-stored : (stores : List (ℕ × ℕ)) (words : List ℕ) → length (
 length-stored [] words = refl
 length-stored (store ∷ stores) words = length-stored stores (slice_set words store.0 store.1) ∙ length-set words store.0 store.1
 
--- the frame in the words after stores, read off the frame before
-pub frame-stored : (changes : List Change) (w : List ℕ) → AreSafe changes → 12 ≤ length w → frame_of (stored (pairs_of changes) w) ≡ changed_by changes (frame_of w)
+-- the frame in the words after changes, read off the frame before
+pub frame-stored : (changes : List Change) (w : List ℕ) → AreSafe changes → 12 ≤ length w → frame_of (written changes w) ≡ changed_by changes (frame_of w)
 frame-stored [] w safe long = refl
 frame-stored (change ∷ changes) w safe long =
-    frame-stored changes (slice_set w (pair_of change).0 (pair_of change).1) safe.1 (omega (arith, length-set w (pair_of change).0 (pair_of change).1))
-    ∙ ap (λ (f : Frame). changed_by changes f) (set-one change w safe.0 long)
+    frame-stored changes _ safe.1 (omega (arith, length-stored (pair_of change ∷ []) w)) ∙ ap (changed_by changes) (set-one change w safe.0 long)
 
 -- entries stay entries
-entries-front : (w : List ℕ) (k x : ℕ) → k < 12 → are_entries (drop 12 w) ≡ true → are_entries (drop 12 (slice_set w k x)) ≡ true
+abbrev pub HasEntries : List ℕ → Type 0
+HasEntries w = are_entries (drop 12 w) ≡ true
+
+entries-front : (w : List ℕ) (k x : ℕ) → k < 12 → HasEntries w → HasEntries (slice_set w k x)
 entries-front w k x early h = ap are_entries (drop-set-lt 12 w k x early) ∙ h
 
-entries-one : (change : Change) (w : List ℕ) → IsSafe change → are_entries (drop 12 w) ≡ true → are_entries (drop 12 (slice_set w (pair_of change).0 (pair_of change).1)) ≡ true
-entries-one (OwnBits word) w safe h = entries-front w 0 word (omega arith) h
-entries-one (OppBits word) w safe h = entries-front w 1 word (omega arith) h
-entries-one (Phase phase) w safe h = entries-front w 7 phase (omega arith) h
-entries-one (Best score) w safe h = entries-front w 8 (word_of score) (omega arith) h
-entries-one (Chosen code) w safe h = entries-front w 9 code (omega arith) h
-entries-one (Count count) w safe h = entries-front w 10 count (omega arith) h
-entries-one (Spawned count) w safe h = entries-front w 11 count (omega arith) h
+entries-one : (change : Change) (w : List ℕ) → IsSafe change → HasEntries w → HasEntries (stored (pair_of change ∷ []) w)
 entries-one (Status i status rest) w safe h =
     ap are_entries (drop-set-add 12 w i (entry_of status rest))
     ∙ and_set are_entries is_entry refl (λ entry entries. refl) (drop 12 w) i (entry_of status rest) (entry-passes status rest safe.0 safe.1) h
+entries-one change w safe h = entries-front w (pair_of change).0 (pair_of change).1 (omega arith) h
 
-pub entries-stored : (changes : List Change) (w : List ℕ) → AreSafe changes → are_entries (drop 12 w) ≡ true → are_entries (drop 12 (stored (pairs_of changes) w)) ≡ true
+entries-stored : (changes : List Change) (w : List ℕ) → AreSafe changes → HasEntries w → HasEntries (written changes w)
 entries-stored [] w safe h = h
-entries-stored (change ∷ changes) w safe h = grind (arith, entries-stored changes, entries-one)
+entries-stored (change ∷ changes) w safe h = entries-stored changes _ safe.1 (entries-one change w safe.0 h)
 
 -- words that grow by zeros
 first-grown : (w zeros : List ℕ) (j : ℕ) → 12 ≤ length w → j < 12 → slice_index (w ++ zeros) j ≡ slice_index w j
@@ -178,6 +167,10 @@ frame-grown w n len = grind (arith, frame-alike, first-grown, drop-grown, status
 
 -- The form of a frame as facts, and what the test of the form tells.
 
+-- a frame is in a phase that searches choices
+abbrev pub IsInSearch : Frame → Type 0
+IsInSearch f = (f.phase ≡ 2) ⊎ (f.phase ≡ 3)
+
 -- the numbers of a frame are in their ranges
 pub record IsFrame (f : Frame) : Type 0 where
   pub leaf : IsLeaf f.own f.opp f.depth f.alpha f.beta
@@ -187,7 +180,7 @@ pub record IsFrame (f : Frame) : Type 0 where
   pub spawned : f.spawned ≤ f.count
   pub early : f.phase ≤ 1 → (f.best ≡ unscored) × (f.count ≡ 0)
   pub late : 1 < f.phase → (least ≤ℤ f.best) × (f.best ≤ℤ greatest)
-  pub counts : (f.phase ≡ 2) ⊎ (f.phase ≡ 3) → (0 < f.depth) × (0 < f.count) × (f.count ≡ length (choices (board f)))
+  pub counts : IsInSearch f → (0 < f.depth) × (0 < f.count) × (f.count ≡ length (choices (board f)))
 
 pub leaf-passes : (own opp depth : ℕ) (alpha beta : ℤ) → IsLeaf own opp depth alpha beta → is_leaf own opp depth alpha beta ≡ true
 leaf-passes own opp depth alpha beta h = grind (arith, ints)
@@ -250,7 +243,7 @@ frame-passes f h =
 -- words have the form of a frame
 pub record IsFormed (words : List ℕ) : Type 0 where
   pub places : length words ≡ 12 + (frame_of words).count
-  pub entries : are_entries (drop 12 words) ≡ true
+  pub entries : HasEntries words
   pub frame : IsFrame (frame_of words)
 
 pub formed-told : (words : List ℕ) → is_formed words ≡ true → IsFormed words
@@ -262,29 +255,22 @@ formed-told words h =
 pub formed-passes : (words : List ℕ) → IsFormed words → is_formed words ≡ true
 formed-passes words h = and_from _ _ (eq-eqb _ _ h.places) (and_from _ _ h.entries (frame-passes (frame_of words) h.frame))
 
--- words have the form after stores that leave the count
-pub formed-stored : (changes : List Change) (w : List ℕ) → IsFormed w → AreSafe changes → (changed_by changes (frame_of w)).count ≡ (frame_of w).count → IsFrame (changed_by changes (frame_of w)) →
-    IsFormed (stored (pairs_of changes) w)
-formed-stored changes w h safe same frame =
-    let is : frame_of (stored (pairs_of changes) w) ≡ changed_by changes (frame_of w) = frame-stored changes w safe (omega (arith, h.places)) in
-    let count : (frame_of (stored (pairs_of changes) w)).count ≡ (frame_of w).count = ap (λ (f : Frame). f.count) is ∙ same in
+-- words have the form after changes that leave the count
+pub formed-stored : (changes : List Change) (w : List ℕ) (g : Frame) → IsFormed w → AreSafe changes → changed_by changes (frame_of w) ≡ g →
+    g.count ≡ (frame_of w).count → IsFrame g → IsFormed (written changes w)
+formed-stored changes w g h safe e same frame =
+    let is : frame_of (written changes w) ≡ g = frame-stored changes w safe (omega (arith, h.places)) ∙ e in
     record {
-      places = length-stored (pairs_of changes) w ∙ h.places ∙ ap (λ (n : ℕ). 12 + n) (sym count);
+      places = length-stored (pairs_of changes) w ∙ h.places ∙ ap (λ (n : ℕ). 12 + n) (sym (ap (λ (f : Frame). f.count) is ∙ same));
       entries = entries-stored changes w safe h.entries;
       frame = subst IsFrame (sym is) frame;
     }
 
-plain-told : (role number count n : ℕ) → (nat_lt 0 role && (nat_lt number count && nat_lt number n)) ≡ true → (0 < role) × (number < count) × (number < n)
-plain-told role number count n h = (grind (arith, nat_tests), grind (arith, nat_tests), grind (arith, nat_tests))
-
-plain-passes : (role number count n : ℕ) → 0 < role → number < count → number < n → (nat_lt 0 role && (nat_lt number count && nat_lt number n)) ≡ true
-plain-passes role number count n a b c = grind (arith, nat_tests)
-
 pub child-told : (f c : Frame) → may_be_child f c ≡ true → (0 < c.role) × (c.number < f.count) × (c.number < length (choices (board f)))
-child-told f c h = plain-told c.role c.number f.count (length (choices (board f))) h
+child-told f c h = (grind (arith, nat_tests), grind (arith, nat_tests), grind (arith, nat_tests))
 
 pub child-passes : (f c : Frame) → 0 < c.role → c.number < f.count → c.number < length (choices (board f)) → may_be_child f c ≡ true
-child-passes f c a b d = plain-passes c.role c.number f.count (length (choices (board f))) a b d
+child-passes f c a b d = grind (arith, nat_tests)
 
 -- Codes of choices, and how many there are.
 

@@ -1,5 +1,5 @@
 -- The two words of a list of cells.
-use Rattle.jamboree_rules.proofs.Common.{◌≡◌, ℕ, ◌+◌, ◌<◌, ◌≤◌, ◌^◌, ◌==◌, ◌&&◌, ◌||◌, zero, suc, Bool, true, false, cond, if◌then◌else◌, bit_and, List, map, filter, length, refl, ℤ, ◌<ℤ◌, bit_at, range_with_len, sym, ◌∙◌, ap, arith, inl, inr, min, eqb, subst, cases_lt, ne_eqb, and_right, ext_get_or, length-map, get_or-map-range_with_len, bit_at_and, bit_at-zero, bit_at-lt, bit_at_above, same_from_bits, Cell, Empty, Own, Opp, squares, cell_at, is_among, is_own_cell, is_opp_cell, cell_of, cells_of, bits_of, apart, cell_at-cells_of, map-squares_same, bit_cases, bit_at-bits_of, Choice, after, is_among-filter, is_square, length-after, own_word, opp_word, is_leaf, coded, ints, props, ∥∥₁_elim, minimax, best_choice, IsBound, Leaf, LeafAnswer, IsLeaf, leaf-told, leaf_with, leaf_by, leaf_from, same_leaf}
+use Rattle.jamboree_rules.proofs.Common.{◌≡◌, ℕ, ◌+◌, ◌<◌, ◌≤◌, ◌^◌, ◌==◌, zero, suc, Bool, true, false, cond, if◌then◌else◌, bit_and, List, map, filter, length, refl, ℤ, ◌<ℤ◌, bit_at, range_with_len, sym, ◌∙◌, ap, arith, inl, inr, min, eqb, cases_lt, ne_eqb, ext_get_or, length-map, get_or-map-range_with_len, bit_at_and, bit_at-zero, bit_at-lt, bit_at_above, same_from_bits, Cell, Empty, Own, Opp, squares, cell_at, is_among, is_own_cell, is_opp_cell, cell_of, cells_of, bits_of, apart, cell_at-cells_of, map-squares_same, bit_cases, bit_at-bits_of, is_among-filter, is_square, own_word, opp_word, is_leaf, coded, ints, props, ∥∥₁_elim, minimax, best_choice, IsBound, Leaf, LeafAnswer, IsLeaf, leaf-told, leaf_with, leaf_by, leaf_from, same_leaf}
 use Rattle.jamboree_rules.proofs.Forms.{leaf-passes, coded-small}
 
 squares-length : length squares ≡ 64
@@ -12,16 +12,13 @@ unfolding squares
 by-cells b len = ext_get_or Empty (map (λ s. cell_at b s) squares) b (length-map squares (λ s. cell_at b s) ∙ squares-length ∙ sym len) (λ i inside.
     get_or-map-range_with_len (λ s. cell_at b s) 0 64 i i Empty (omega (arith, length-map squares (λ s. cell_at b s), squares-length)) (omega arith))
 
-and-true : (b : Bool) → (b && true) ≡ b
-and-true b = grind arith
-
 -- the bits of the squares that pass a test
 bit-passing : (p : ℕ → Bool) (s : ℕ) → s < 64 → bit_at (bits_of (filter p squares)) s ≡ cond (p s) 1 0
 bit-passing p s below = grind (arith, bit_at-bits_of, is_among-filter, is_square)
 
 among-range : (i a n : ℕ) → a + n ≤ i → is_among i (range_with_len a n) ≡ false
 among-range i a zero past = refl
-among-range i a (suc n) past = ap (λ (b : Bool). b || is_among i (range_with_len (a + 1) n)) (ne_eqb a i (λ e. omega arith)) ∙ among-range i (a + 1) n (omega arith)
+among-range i a (suc n) past = rw (ne_eqb a i (λ e. omega arith)) (among-range i (a + 1) n (omega arith))
 
 no-square : (i : ℕ) → 64 ≤ i → is_among i squares ≡ false
 unfolding squares
@@ -58,36 +55,28 @@ own-by x y p q = grind (arith, bit_cases)
 opp-by : (x y : ℕ) → x < 2 → y < 2 → min x y ≡ 0 → y ≡ cond (is_opp_cell (cond (eqb x 1) Own (cond (eqb y 1) Opp Empty))) 1 0
 opp-by x y p q h = grind (arith, bit_cases)
 
+-- a word of 64 bits that has a bit where a cell passes a test
+word-same : (b : List Cell) (word : ℕ) (p : Cell → Bool) → word < 2 ^ 64 → ((s : ℕ) → s < 64 → bit_at word s ≡ cond (p (cell_at b s)) 1 0) →
+    word ≡ bits_of (filter (λ s. p (cell_at b s)) squares)
+word-same b word p fits here = same_from_bits word (bits_of (filter (λ s. p (cell_at b s)) squares)) (λ s. elim (cases_lt s 64) [
+  | inl below ↦ here s below ∙ sym (bit-passing (λ t. p (cell_at b t)) s below)
+  | inr past ↦ bit_at_above word 64 s fits past ∙ sym (bit-past (λ t. p (cell_at b t)) s past)
+])
+
 -- the words of 64 bits that hold a board are its two words
 module _ (own opp : ℕ) where
-  own-same : (s : ℕ) → own < 2 ^ 64 → bit_at own s ≡ bit_at (own_word (cells_of own opp)) s
-  own-same s fits =
-      elim (cases_lt s 64) [
-        | inl below ↦ own-by (bit_at own s) (bit_at opp s) (bit_at-lt own s) (bit_at-lt opp s)
-            ∙ ap (λ (c : Cell). cond (is_own_cell c) 1 0) (sym (cell_at-cells_of own opp s below)) ∙ sym (bit-passing (λ t. is_own_cell (cell_at (cells_of own opp) t)) s below)
-        | inr past ↦ bit_at_above own 64 s fits past ∙ sym (bit-past (λ t. is_own_cell (cell_at (cells_of own opp) t)) s past)
-      ]
-
-  opp-same : (s : ℕ) → bit_and own opp ≡ 0 → opp < 2 ^ 64 → bit_at opp s ≡ bit_at (opp_word (cells_of own opp)) s
-  opp-same s disjoint fits =
-      elim (cases_lt s 64) [
-        | inl below ↦ opp-by (bit_at own s) (bit_at opp s) (bit_at-lt own s) (bit_at-lt opp s) (apart own opp s disjoint)
-            ∙ ap (λ (c : Cell). cond (is_opp_cell c) 1 0) (sym (cell_at-cells_of own opp s below)) ∙ sym (bit-passing (λ t. is_opp_cell (cell_at (cells_of own opp) t)) s below)
-        | inr past ↦ bit_at_above opp 64 s fits past ∙ sym (bit-past (λ t. is_opp_cell (cell_at (cells_of own opp) t)) s past)
-      ]
-
   pub own-is : own < 2 ^ 64 → own ≡ own_word (cells_of own opp)
-  own-is fits = same_from_bits own (own_word (cells_of own opp)) (λ s. own-same s fits)
+  own-is fits = word-same (cells_of own opp) own is_own_cell fits (λ s below.
+      own-by (bit_at own s) (bit_at opp s) (bit_at-lt own s) (bit_at-lt opp s)
+      ∙ ap (λ (c : Cell). cond (is_own_cell c) 1 0) (sym (cell_at-cells_of own opp s below)))
 
   pub opp-is : bit_and own opp ≡ 0 → opp < 2 ^ 64 → opp ≡ opp_word (cells_of own opp)
-  opp-is disjoint fits = same_from_bits opp (opp_word (cells_of own opp)) (λ s. opp-same s disjoint fits)
+  opp-is disjoint fits = word-same (cells_of own opp) opp is_opp_cell fits (λ s below.
+      opp-by (bit_at own s) (bit_at opp s) (bit_at-lt own s) (bit_at-lt opp s) (apart own opp s disjoint)
+      ∙ ap (λ (c : Cell). cond (is_opp_cell c) 1 0) (sym (cell_at-cells_of own opp s below)))
 
   pub length-cells-of : length (cells_of own opp) ≡ 64
   length-cells-of = length-map squares (cell_of own opp) ∙ squares-length
-
--- the two words of the board after a choice hold it
-pub after-holds : (own opp : ℕ) (c : Choice) → cells_of (own_word (after (cells_of own opp) c)) (opp_word (after (cells_of own opp) c)) ≡ after (cells_of own opp) c
-after-holds own opp c = words-hold (after (cells_of own opp) c) (length-after (cells_of own opp) c (length-cells-of own opp))
 
 -- Leaves by their numbers.
 
@@ -138,27 +127,24 @@ choice-small answer =
 IsLeaf-prop : (own opp depth : ℕ) (alpha beta : ℤ) → IsProp (IsLeaf own opp depth alpha beta)
 IsLeaf-prop own opp depth alpha beta = Prim.hlevel props
 
-same-leaves : (own own' opp opp' depth depth' : ℕ) (alpha alpha' beta beta' : ℤ) → own ≡ own' → opp ≡ opp' → depth ≡ depth' → alpha ≡ alpha' → beta ≡ beta' →
-    (p : IsLeaf own opp depth alpha beta) (q : IsLeaf own' opp' depth' alpha' beta') → leaf_with own opp depth alpha beta p ≡ leaf_with own' opp' depth' alpha' beta' q
-same-leaves own own' opp opp' depth depth' alpha alpha' beta beta' eo ep ed ea eb p =
-    subst (λ (o : ℕ). (q : IsLeaf o opp' depth' alpha' beta') → leaf_with own opp depth alpha beta p ≡ leaf_with o opp' depth' alpha' beta' q) eo
-    (subst (λ (o : ℕ). (q : IsLeaf own o depth' alpha' beta') → leaf_with own opp depth alpha beta p ≡ leaf_with own o depth' alpha' beta' q) ep
-    (subst (λ (d : ℕ). (q : IsLeaf own opp d alpha' beta') → leaf_with own opp depth alpha beta p ≡ leaf_with own opp d alpha' beta' q) ed
-    (subst (λ (a : ℤ). (q : IsLeaf own opp depth a beta') → leaf_with own opp depth alpha beta p ≡ leaf_with own opp depth a beta' q) ea
-    (subst (λ (b : ℤ). (q : IsLeaf own opp depth alpha b) → leaf_with own opp depth alpha beta p ≡ leaf_with own opp depth alpha b q) eb
-    (λ q. ap (λ (h : IsLeaf own opp depth alpha beta). leaf_with own opp depth alpha beta h) (IsLeaf-prop own opp depth alpha beta p q))))))
+same-leaves : (own opp depth own' opp' depth' : ℕ) (alpha beta alpha' beta' : ℤ) → own ≡ own' → opp ≡ opp' → depth ≡ depth' → alpha ≡ alpha' → beta ≡ beta' →
+    (p : IsLeaf own opp depth alpha beta) (q : IsLeaf own' opp' depth' alpha' beta') →
+    leaf_with own opp depth alpha beta p ≡ leaf_with own' opp' depth' alpha' beta' q
+same-leaves own opp depth own' opp' depth' alpha beta alpha' beta' eo ep ed ea eb p = rw (← eo, ← ep, ← ed, ← ea, ← eb)
+    (λ q. ap (λ (h : IsLeaf own opp depth alpha beta). leaf_with own opp depth alpha beta h) (IsLeaf-prop own opp depth alpha beta p q))
 
 -- two leaves with the same numbers are the same value
 pub leaf-ext : (one other : Leaf) → Has one other.board.own other.board.opp other.depth other.alpha other.beta → one ≡ other
 leaf-ext one other h =
-    same-leaves one.board.own other.board.own one.board.opp other.board.opp one.depth other.depth one.alpha other.alpha one.beta other.beta
-    h.own_is h.opp_is h.depth_is h.alpha_is h.beta_is
+    same-leaves _ _ _ other.board.own other.board.opp other.depth _ _ other.alpha other.beta h.own_is h.opp_is h.depth_is h.alpha_is h.beta_is
     (record { disjoint = one.board.disjoint; shallow = one.shallow; low = one.least; window = one.window; high = one.greatest })
     (record { disjoint = other.board.disjoint; shallow = other.shallow; low = other.least; window = other.window; high = other.greatest })
 
 -- so where `==` says that two leaves are the same, they are
 pub same-value : (one other : Leaf) → same_leaf one other ≡ true → one ≡ other
 same-value one other h = leaf-ext one other (same-has one other h)
+
+pub ruleset same_leaf_rules = (same-value)
 
 -- a leaf with these numbers is the leaf of these numbers
 pub leaf-is : (leaf : Leaf) (own opp depth : ℕ) (alpha beta : ℤ) → Has leaf own opp depth alpha beta → leaf ≡ leaf_from own opp depth alpha beta

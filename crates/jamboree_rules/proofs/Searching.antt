@@ -1,17 +1,6 @@
 -- One frame's search, over the values v of its choices, the codes of its choices, their statuses and what is found of them.
-use Rattle.jamboree_rules.proofs.Common.{◌≡◌, ◌≢◌, ℕ, ◌<◌, ℤ, neg_ℤ, ◌<ℤ◌, ◌≤ℤ◌, List, length, refl, slice_index, slice_set, suc, Bool, true, false, [], ◌∷◌, Some, map, find, slice_index_or, ◌⊎◌, int_le, replicate, int_max, sym, ◌∙◌, ap, subst, arith, inl, inr, common_steps, ints, clamps, by_lt_z, IsBound, kind_in, kind_number, score_in, is_rest, IsOfKind, IsTrueRest, IsFound, IsSearching, IsInRole, IsChildOf, IsTabled, Choice, Pass, choices, after, final_value, best_choice, choice_value, greatest_or, minimax, minimax-deeper, best_choice-deeper, int_equal-same, int_equal-below, Frame, board, choice_at, code_at, coded, value_at, value, least, greatest, Cell, cases_eq, get_or_past, BoundKind, Exact, Says, entered, seen, kind_by, kind_of, found_rest}
+use Rattle.jamboree_rules.proofs.Common.{◌≡◌, ◌≢◌, ℕ, ◌<◌, ℤ, neg_ℤ, ◌<ℤ◌, ◌≤ℤ◌, List, length, refl, slice_index, slice_set, suc, Bool, true, false, [], ◌∷◌, Some, map, find, slice_index_or, ◌⊎◌, int_le, replicate, int_max, sym, ◌∙◌, ap, subst, arith, inl, inr, common_steps, ints, clamps, by_lt_z, IsBound, kind_in, kind_number, score_in, is_rest, IsOfKind, IsTrueRest, IsFound, IsSearching, IsInRole, IsChildOf, IsTabled, Choice, Pass, choices, final_value, best_choice, choice_value, greatest_or, minimax-deeper, best_choice-deeper, int_equal-same, int_equal-below, Frame, board, choice_at, code_at, coded, value_at, value, least, greatest, Cell, cases_eq, get_or_past, BoundKind, Exact, Says, entered, seen, kind_by, kind_of, found_rest, IsSearchingFrame, Status, changed}
 use Rattle.jamboree_rules.proofs.Forms.{kind-some, kind-read, score-read, same-kind, rest-passes}
-
--- the score of a child with the window from -high to -low, seen from the parent
-module _ (low high sc m : ℤ) (b : IsBound low high sc m) where
-  pub low_side : high ≤ℤ sc → neg_ℤ m ≤ℤ neg_ℤ sc
-  low_side h = let over : sc ≤ℤ m = b.lower h in omega (arith, ints)
-
-  pub high_side : sc ≤ℤ low → neg_ℤ sc ≤ℤ neg_ℤ m
-  high_side h = let under : m ≤ℤ sc = b.upper h in omega (arith, ints)
-
-  pub inner_side : low <ℤ sc → sc <ℤ high → neg_ℤ m ≡ neg_ℤ sc
-  inner_side h g = ap neg_ℤ (b.exact h g)
 
 -- a status that is set
 pub set_there : (st : List ℕ) (i x : ℕ) → i < length st → slice_index (slice_set st i x) i ≡ x
@@ -23,49 +12,58 @@ set_beside st i x k h = grind (arith, common_steps)
 pub set_length : (st : List ℕ) (i x : ℕ) → length (slice_set st i x) ≡ length st
 set_length st i x = grind (arith, common_steps)
 
+-- no settled choice is worth more than the best score
+abbrev pub AreAtMost : (v : ℕ → ℤ) (best : ℤ) → List ℕ → Type 0
+AreAtMost v best st = (k : ℕ) → k < length st → slice_index st k ≡ 2 → v k ≤ℤ best
+
+-- a settled choice after a status was set
+settled-set : (v : ℕ → ℤ) (st : List ℕ) (best : ℤ) (i x : ℕ) → i < length st → (x ≡ 2 → v i ≤ℤ best) → AreAtMost v best st → AreAtMost v best (slice_set st i x)
+settled-set v st best i x inside here h k below is = grind (arith, ints, common_steps, set_there, set_beside, set_length st i x, h k, here)
+
+-- and after the best score grew
+settled-more : (v : ℕ → ℤ) (st : List ℕ) (best score : ℤ) (i : ℕ) → i < length st → v i ≤ℤ int_max best score → AreAtMost v best st →
+    AreAtMost v (int_max best score) (slice_set st i 2)
+settled-more v st best score i inside under h =
+    settled-set v st _ i 2 inside (λ _. under) (λ k below is. let le : v k ≤ℤ best = h k below is in omega (arith, ints, clamps))
+
 -- the found choice stays where a choice that isn't settled gets another entry
 pub found-set : (v : ℕ → ℤ) (code : ℕ → ℕ) (st rests : List ℕ) (best : ℤ) (choice i x rest : ℕ) → i < length st → slice_index st i ≢ 2 →
     IsFound v code st rests best choice → IsFound v code (slice_set st i x) (slice_set rests i rest) best choice
 found-set v code st rests best choice i x rest inside other f = grind (arith, set_length, set_beside)
 
--- a settled choice after a status was set
-pub settled-set : (v : ℕ → ℤ) (st : List ℕ) (best : ℤ) (i x : ℕ) → i < length st → (x ≡ 2 → v i ≤ℤ best) →
-    ((k : ℕ) → k < length st → slice_index st k ≡ 2 → v k ≤ℤ best) → (k : ℕ) → k < length (slice_set st i x) → slice_index (slice_set st i x) k ≡ 2 → v k ≤ℤ best
-settled-set v st best i x inside here h k below is = grind (arith, ints, common_steps, set_there, set_beside, set_length st i x, h k, here)
-
--- next: a failed choice is searched again (3 to 4), a choice is tested (0 to 1); inlet case 4: a test failed (1 to 3)
-module _ {v : ℕ → ℤ} {code : ℕ → ℕ} {st rests : List ℕ} {alpha beta best : ℤ} {choice i x : ℕ} (rest : ℕ) where
-  pub IsSearching-mark : i < length st → slice_index st i ≢ 2 → x ≢ 2 → IsSearching v code st rests alpha beta best choice →
+-- an entry of a frame that searches its choices is set
+module _ {v : ℕ → ℤ} {code : ℕ → ℕ} {st rests : List ℕ} {alpha beta best : ℤ} {choice i : ℕ} (rest : ℕ) (inside : i < length st) where
+  -- next: a failed choice is searched again (3 to 4), a choice is tested (0 to 1); inlet case 4: a test failed (1 to 3)
+  pub IsSearching-mark : {x : ℕ} → slice_index st i ≢ 2 → x ≢ 2 → IsSearching v code st rests alpha beta best choice →
       IsSearching v code (slice_set st i x) (slice_set rests i rest) alpha beta best choice
-  IsSearching-mark inside unsettled other s = record {
+  IsSearching-mark {x} unsettled other s = record {
     below = s.below;
     settled = settled-set v st best i x inside (λ e. absurd (other e)) s.settled;
     found = λ higher. found-set v code st rests best choice i x rest inside unsettled (s.found higher);
   }
 
--- inlet cases 2 and 3 with a score at most the greater of alpha and best
-module _ {v : ℕ → ℤ} {code : ℕ → ℕ} {st rests : List ℕ} {alpha beta best score : ℤ} {choice i : ℕ} (rest : ℕ) where
-  pub IsSearching-low : alpha <ℤ beta → i < length st → slice_index st i ≢ 2 → score ≤ℤ int_max alpha best → v i ≤ℤ score →
+  -- inlet cases 2 and 3 with a score at most the greater of alpha and best
+  pub IsSearching-low : {score : ℤ} → alpha <ℤ beta → slice_index st i ≢ 2 → score ≤ℤ int_max alpha best → v i ≤ℤ score →
       IsSearching v code st rests alpha beta best choice → IsSearching v code (slice_set st i 2) (slice_set rests i rest) alpha beta (int_max best score) choice
-  IsSearching-low window inside unsettled low under s = record {
+  IsSearching-low {score} window unsettled low under s = record {
     below = let b : best <ℤ beta = s.below in omega (arith, ints, clamps);
-    settled = settled-set v st _ i 2 inside (λ e. omega (arith, ints, clamps)) (λ k below is. let h : v k ≤ℤ best = s.settled k below is in omega (arith, ints, clamps));
+    settled = settled-more v st best score i inside (omega (arith, ints, clamps)) s.settled;
     found = λ (higher : alpha <ℤ int_max best score).
-        let same : int_max best score ≡ best = omega (arith, ints, clamps) in
+        let same : best ≡ int_max best score = omega (arith, ints, clamps) in
         let above : alpha <ℤ best = omega (arith, ints, clamps) in
-        subst (λ (b : ℤ). IsFound v code (slice_set st i 2) (slice_set rests i rest) b choice) (sym same)
+        subst (λ (b : ℤ). IsFound v code (slice_set st i 2) (slice_set rests i rest) b choice) same
         (found-set v code st rests best choice i 2 rest inside unsettled (s.found above));
   }
 
   -- inlet case 2 with a score above the greater of alpha and best: it is exact, and every earlier choice is settled
-  pub IsSearching-higher : i < length st → length rests ≡ length st → IsOfKind rest Exact → int_max alpha best <ℤ score → score <ℤ beta → v i ≡ score →
+  pub IsSearching-higher : {score : ℤ} → length rests ≡ length st → IsOfKind rest Exact → int_max alpha best <ℤ score → score <ℤ beta → v i ≡ score →
       ((k : ℕ) → k < i → slice_index st k ≡ 2) → IsSearching v code st rests alpha beta best choice →
       IsSearching v code (slice_set st i 2) (slice_set rests i rest) alpha beta (int_max best score) (code i)
-  IsSearching-higher inside long kind high below exact earlier s =
+  IsSearching-higher {score} long kind high below exact earlier s =
       let same : int_max best score ≡ score = omega (arith, ints, clamps) in
       record {
         below = omega (arith, ints, clamps);
-        settled = settled-set v st _ i 2 inside (λ e. omega (arith, ints, clamps)) (λ k under is. let h : v k ≤ℤ best = s.settled k under is in omega (arith, ints, clamps));
+        settled = settled-more v st best score i inside (omega (arith, ints, clamps)) s.settled;
         found = λ higher. record {
           place = i;
           inside = omega (arith, set_length st i 2);
@@ -84,67 +82,34 @@ pub record IsGreatest (v : ℕ → ℤ) (n : ℕ) (m : ℤ) : Type 0 where
   pub inside : place < n
   pub attained : v place ≡ m
 
--- inlet case 1: a score of at least beta ends the node
-pub cut : (v : ℕ → ℤ) (n : ℕ) (alpha beta score m : ℤ) (i : ℕ) → i < n → alpha <ℤ beta → beta ≤ℤ score → score ≤ℤ v i → IsGreatest v n m → IsBound alpha beta score m
-cut v n alpha beta score m i inside window high under g =
-    let h : v i ≤ℤ m = g.above i inside in
-    record {
-      upper = λ (low : score ≤ℤ alpha). absurd (omega (arith, ints));
-      lower = λ _. omega (arith, ints);
-      exact = λ (up : alpha <ℤ score) (down : score <ℤ beta). absurd (omega (arith, ints));
-    }
-
--- next, phase 3, all settled
-pub all_settled : (v : ℕ → ℤ) (code : ℕ → ℕ) (st rests : List ℕ) (alpha beta best m : ℤ) (choice : ℕ) → IsSearching v code st rests alpha beta best choice →
-    ((k : ℕ) → k < length st → slice_index st k ≡ 2) → IsGreatest v (length st) m → IsBound alpha beta best m
-all_settled v code st rests alpha beta best m choice s all g =
-    let most : v g.place ≤ℤ best = s.settled g.place g.inside (all g.place g.inside) in
-    let b : best <ℤ beta = s.below in
-    let is : v g.place ≡ m = g.attained in
-    record {
-      upper = λ _. omega (arith, ints);
-      lower = λ (high : beta ≤ℤ best). absurd (omega (arith, ints));
-      exact = λ higher _.
-          let f = s.found higher in
-          let least : v f.place ≤ℤ m = g.above f.place f.inside in
-          let worth : v f.place ≡ best = f.worth in
-          omega (arith, ints);
-    }
-
 -- The minimax value and the best choice of a frame, by places in the list of choices.
 
--- the value at a place of a list
-abbrev pub at : {X : Type 0} → (X → ℤ) → List X → X → ℕ → ℤ
-at v xs other i = v (slice_index_or xs i other)
-
-first-greatest : (x m : ℤ) → m <ℤ x → x ≡ int_max x m
-first-greatest x m h = omega (arith, ints, clamps)
-
-second-greatest : (x m : ℤ) → x ≤ℤ m → m ≡ int_max x m
-second-greatest x m h = omega (arith, ints, clamps)
-
 module _ {X : Type 0} (v : X → ℤ) (other : X) where
-  above-both : (x : X) (xs : List X) (m : ℤ) → ((k : ℕ) → k < length xs → at v xs other k ≤ℤ m) → (k : ℕ) → k < suc (length xs) → at v (x ∷ xs) other k ≤ℤ int_max (v x) m
+  -- the value at a place of a list
+  abbrev at : List X → ℕ → ℤ
+  at xs i = v (slice_index_or xs i other)
+
+  above-both : (x : X) (xs : List X) (m : ℤ) → ((k : ℕ) → k < length xs → at xs k ≤ℤ m) → (k : ℕ) → k < suc (length xs) → at (x ∷ xs) k ≤ℤ int_max (v x) m
   above-both x xs m h6 k h8 = grind arith
 
-  pub greatest-is : (none : ℤ) (x : X) (xs : List X) → IsGreatest (at v (x ∷ xs) other) (length (x ∷ xs)) (greatest_or none (map v (x ∷ xs)))
+  pub greatest-is : (none : ℤ) (x : X) (xs : List X) → IsGreatest (at (x ∷ xs)) (length (x ∷ xs)) (greatest_or none (map v (x ∷ xs)))
   greatest-is none x [] = grind arith
   greatest-is none x (y ∷ xs) =
-      let rest : IsGreatest (at v (y ∷ xs) other) (length (y ∷ xs)) (greatest_or none (map v (y ∷ xs))) = greatest-is none y xs in
+      let rest : IsGreatest (at (y ∷ xs)) (length (y ∷ xs)) (greatest_or none (map v (y ∷ xs))) = greatest-is none y xs in
       let m : ℤ = greatest_or none (map v (y ∷ xs)) in
-      let here : at v (y ∷ xs) other rest.place ≡ m = rest.attained in
+      let here : at (y ∷ xs) rest.place ≡ m = rest.attained in
       by_lt_z m (v x)
       (λ less. record {
         above = above-both x (y ∷ xs) m rest.above;
         place = 0;
         inside = omega arith;
-        attained = first-greatest (v x) m less;
+        attained = (let is : v x ≡ int_max (v x) m = omega (arith, ints, clamps) in is);
       })
       (λ more. record {
         above = above-both x (y ∷ xs) m rest.above;
         place = suc rest.place;
         inside = omega (arith, rest.inside);
-        attained = here ∙ second-greatest (v x) m more;
+        attained = here ∙ (let is : m ≡ int_max (v x) m = omega (arith, ints, clamps) in is);
       })
 
 pub find-is : {X : Type 0} (p : X → Bool) (other : X) (xs : List X) (j : ℕ) → j < length xs → p (slice_index_or xs j other) ≡ true →
@@ -155,33 +120,56 @@ find-is p other (x ∷ xs) (suc j) below here before =
 find-is p other xs j below here before = grind arith
 
 -- the value of a frame that has choices is the greatest of theirs
-greatest-at : (cs : List Choice) (v : Choice → ℤ) (none : ℤ) → 0 < length cs → IsGreatest (at v cs Pass) (length cs) (greatest_or none (map v cs))
+greatest-at : (cs : List Choice) (v : Choice → ℤ) (none : ℤ) → 0 < length cs → IsGreatest (at v Pass cs) (length cs) (greatest_or none (map v cs))
 greatest-at [] v none some = absurd (omega arith)
 greatest-at (c ∷ cs) v none some = greatest-is v Pass none c cs
 
-pub IsGreatest-frame : (f : Frame) → 0 < f.depth → 0 < length (choices (board f)) → IsGreatest (value_at f) (length (choices (board f))) (value f)
-IsGreatest-frame f deep some =
-    let g : IsGreatest (value_at f) (length (choices (board f))) (greatest_or (final_value (board f)) (map (choice_value f.depth (board f)) (choices (board f)))) =
-    greatest-at (choices (board f)) (choice_value f.depth (board f)) (final_value (board f)) some in
-    subst (λ (m : ℤ). IsGreatest (value_at f) (length (choices (board f))) m) (sym (minimax-deeper f.depth (board f) deep)) g
+pub greatest-of : (f : Frame) → IsSearchingFrame f → IsGreatest (value_at f) (length f.statuses) (value f)
+greatest-of f s =
+    let g = greatest-at (choices (board f)) (choice_value f.depth (board f)) (final_value (board f)) (omega (arith, s.some, s.places)) in
+    subst (λ (n : ℕ). IsGreatest (value_at f) n (value f)) (sym s.places)
+    (subst (λ (m : ℤ). IsGreatest (value_at f) (length (choices (board f))) m) (sym (minimax-deeper f.depth (board f) s.deep)) g)
+
+-- each choice is settled
+abbrev pub AreAllSettled : Frame → Type 0
+AreAllSettled f = (k : ℕ) → k < length f.statuses → slice_index f.statuses k ≡ 2
+
+-- so the best score is a bound of the value
+pub all-bound : (f : Frame) → IsSearchingFrame f → AreAllSettled f → IsBound f.alpha f.beta f.best (value f)
+all-bound f s all =
+    let g : IsGreatest (value_at f) (length f.statuses) (value f) = greatest-of f s in
+    let most : value_at f g.place ≤ℤ f.best = s.search.settled g.place g.inside (all g.place g.inside) in
+    let b : f.best <ℤ f.beta = s.search.below in
+    let is : value_at f g.place ≡ value f = g.attained in
+    record {
+      upper = λ _. omega (arith, ints);
+      lower = λ (high : f.beta ≤ℤ f.best). absurd (omega (arith, ints));
+      exact = λ higher _.
+          let found = s.search.found higher in
+          let least : value_at f found.place ≤ℤ value f = g.above found.place found.inside in
+          let worth : value_at f found.place ≡ f.best = found.worth in
+          omega (arith, ints);
+    }
 
 -- the choice that is found first with the greatest value is the best choice
-module _ (f : Frame) (st rests : List ℕ) (deep : 0 < f.depth) (len : length st ≡ length (choices (board f))) where
-  pub found-best : (found : IsFound (value_at f) (code_at f) st rests f.best f.choice) → value f ≡ f.best → best_choice f.depth (board f) ≡ Some (choice_at f found.place)
-  found-best found same = grind (arith, best_choice-deeper, find-is, int_equal-same, int_equal-below)
+module _ (f : Frame) (deep : 0 < f.depth) (len : length f.statuses ≡ length (choices (board f)))
+    (found : IsFound (value_at f) (code_at f) f.statuses f.rests f.best f.choice) (same : value f ≡ f.best) where
+  pub found-best : best_choice f.depth (board f) ≡ Some (choice_at f found.place)
+  found-best = grind (arith, best_choice-deeper, find-is, int_equal-same, int_equal-below)
 
-  pub named-best : IsFound (value_at f) (code_at f) st rests f.best f.choice → value f ≡ f.best → f.choice ≡ coded (best_choice f.depth (board f))
-  named-best found same = found.named ∙ ap coded (sym (found-best found same))
+  pub named-best : f.choice ≡ coded (best_choice f.depth (board f))
+  named-best = found.named ∙ ap coded (sym found-best)
 
 -- What a child's role says, and what it keeps.
 
 -- the value of a child's choice is the child's own, seen from the parent
 pub worth_of : (f c : Frame) → IsChildOf f c → c.phase ≢ 0 → value_at f c.number ≡ neg_ℤ (value c)
-worth_of f c kin there = ap neg_ℤ (ap (λ (d : ℕ). minimax d (after (board f) (choice_at f c.number))) (sym kin.shallower) ∙ ap (λ (b : List Cell). minimax c.depth b) (sym (kin.known there)))
+worth_of f c kin there = rw (kin.shallower, kin.known there) refl
 
 -- a child of another number stays a child where a status is set that isn't its own and that no other search again relies on
-pub role-kept-mark : (f c : Frame) (i x rest : ℕ) → i < length f.statuses → c.number ≢ i → slice_index f.statuses i ≢ 2 → IsInRole f c → IsInRole (record f { statuses = slice_set f.statuses i x; rests = slice_set f.rests i rest }) c
-role-kept-mark f c i x rest h6 h7 h8 h9 = grind (arith, set_beside)
+pub role-kept-mark : (f c : Frame) (i x rest spawned : ℕ) → c.number ≢ i → slice_index f.statuses i ≢ 2 → IsInRole f c →
+    IsInRole (record (changed (Status i x rest) f) { spawned = spawned }) c
+role-kept-mark f c i x rest spawned h1 h2 h3 = grind (arith, set_beside)
 
 -- A frame's table: what is said of a choice is true, and stays so while other entries are set.
 
@@ -192,7 +180,8 @@ pub not-le-told : (x y : ℤ) → false ≡ int_le x y → y <ℤ x
 not-le-told x y e = grind (arith, ints)
 
 -- the kind of a child's score is right, seen from the parent
-says-by : (low high : Bool) (alpha beta s m : ℤ) → low ≡ int_le (neg_ℤ s) (neg_ℤ beta) → high ≡ int_le (neg_ℤ alpha) (neg_ℤ s) → IsBound alpha beta s m → Says (kind_by low high) (neg_ℤ s) (neg_ℤ m)
+says-by : (low high : Bool) (alpha beta s m : ℤ) → low ≡ int_le (neg_ℤ s) (neg_ℤ beta) → high ≡ int_le (neg_ℤ alpha) (neg_ℤ s) →
+    IsBound alpha beta s m → Says (kind_by low high) (neg_ℤ s) (neg_ℤ m)
 says-by true high alpha beta s m el eh b =
     let under : neg_ℤ s ≤ℤ neg_ℤ beta = le-told (neg_ℤ s) (neg_ℤ beta) el in
     let over : s ≤ℤ m = b.lower (omega (arith, ints)) in omega (arith, ints)
@@ -218,9 +207,8 @@ module _ (c : Frame) where
   pub found-true : (v : ℤ) → least ≤ℤ seen c → IsBound c.alpha c.beta c.best (value c) → v ≡ neg_ℤ (value c) → IsTrueRest (found_rest c) v
   found-true v low bound worth kind is =
       let says : Says kind_seen (seen c) (neg_ℤ (value c)) = says-by _ _ c.alpha c.beta c.best (value c) refl refl bound in
-      let seen_is : Says kind_seen (seen c) v = subst (λ (m : ℤ). Says kind_seen (seen c) m) (sym worth) says in
-      let there : Says kind_seen (score_in (found_rest c)) v = subst (λ (s : ℤ). Says kind_seen s v) (sym (score-read kind_seen (seen c) low)) seen_is in
-      same-kind (λ (k : BoundKind). Says k (score_in (found_rest c)) v) kind_seen kind (sym (kind-read kind_seen (seen c)) ∙ is) there
+      same-kind (λ (k : BoundKind). Says k (score_in (found_rest c)) v) kind_seen kind (sym (kind-read kind_seen (seen c)) ∙ is)
+      (rw (worth, score-read kind_seen (seen c) low) says)
 
   -- and it says something
   pub found-said : kind_in (found_rest c) ≢ 0
@@ -237,32 +225,23 @@ module _ (c : Frame) where
 pub nothing-true : (rest : ℕ) (v : ℤ) → rest ≡ 0 → IsTrueRest rest v
 nothing-true rest v none kind is = absurd (kind-some kind (sym is ∙ ap kind_in none))
 
-module _ (v : ℕ → ℤ) (st rests : List ℕ) (i : ℕ) where
-  true-set : (rest k : ℕ) → i < length rests → IsTrueRest rest (v i) → IsTrueRest (slice_index rests k) (v k) → IsTrueRest (slice_index (slice_set rests i rest) k) (v k)
-  true-set rest k inside here there = elim (cases_eq k i) [
-    | inl same ↦ (let is = ap (λ (j : ℕ). slice_index (slice_set rests i rest) j) same ∙ set_there rests i rest inside in
-        subst (λ (r : ℕ). IsTrueRest r (v k)) (sym is) (subst (λ (j : ℕ). IsTrueRest rest (v j)) (sym same) here))
-    | inr other ↦ subst (λ (r : ℕ). IsTrueRest r (v k)) (sym (set_beside rests i rest k other)) there
+-- an entry of a table is set
+module _ {v : ℕ → ℤ} {st rests : List ℕ} (i x rest : ℕ) (inside : i < length st) (t : IsTabled v st rests) (holds : IsTrueRest rest (v i))
+    (said : x ≡ 2 → kind_in rest ≢ 0) where
+  true-set : (k : ℕ) → IsTrueRest (slice_index (slice_set rests i rest) k) (v k)
+  true-set k = elim (cases_eq k i) [
+    | inl same ↦ rw (same, set_there rests i rest (omega (arith, t.places))) holds
+    | inr other ↦ rw (set_beside rests i rest k other) (t.holds k)
   ]
 
-  said-set : (x rest k : ℕ) → i < length st → i < length rests → (x ≡ 2 → kind_in rest ≢ 0) → (slice_index st k ≡ 2 → kind_in (slice_index rests k) ≢ 0) →
-      slice_index (slice_set st i x) k ≡ 2 → kind_in (slice_index (slice_set rests i rest) k) ≢ 0
-  said-set x rest k inside within here there is = elim (cases_eq k i) [
+  said-set : (k : ℕ) → slice_index (slice_set st i x) k ≡ 2 → kind_in (slice_index (slice_set rests i rest) k) ≢ 0
+  said-set k is = elim (cases_eq k i) [
     | inl same ↦ grind (arith, set_there)
-    | inr other ↦ subst (λ (r : ℕ). kind_in r ≢ 0) (sym (set_beside rests i rest k other)) (there (sym (set_beside st i x k other) ∙ is))
+    | inr other ↦ rw (set_beside rests i rest k other) (t.said k (sym (set_beside st i x k other) ∙ is))
   ]
 
-  -- an entry is set
-  pub tabled-set : (x rest : ℕ) → i < length st → IsTrueRest rest (v i) → (x ≡ 2 → kind_in rest ≢ 0) → IsTabled v st rests → IsTabled v (slice_set st i x) (slice_set rests i rest)
-  tabled-set x rest inside holds said t = record {
-    places = set_length rests i rest ∙ t.places ∙ sym (set_length st i x);
-    holds = λ k. true-set rest k (omega (arith, t.places)) holds (t.holds k);
-    said = λ k. said-set x rest k inside (omega (arith, t.places)) said (t.said k);
-  }
-
-  -- a status that `next` stores keeps what is said
-  pub tabled-kept : (x : ℕ) → i < length st → x ≢ 2 → IsTabled v st rests → IsTabled v (slice_set st i x) (slice_set rests i (slice_index rests i))
-  tabled-kept x inside other t = tabled-set x (slice_index rests i) inside (t.holds i) (λ two. absurd (other two)) t
+  pub tabled-set : IsTabled v (slice_set st i x) (slice_set rests i rest)
+  tabled-set = record { places = set_length rests i rest ∙ t.places ∙ sym (set_length st i x); holds = true-set; said = said-set }
 
 pub zero-at : (n k : ℕ) → slice_index (replicate n 0) k ≡ 0
 zero-at n k = grind (arith, common_steps)

@@ -43,6 +43,7 @@ pub fn accept_keeps()
 {}
 
 /// Two leaves of which `same_leaf` is true are equal.
+#[tactic(auto, using(crate::proofs::LeafLemmas::same_leaf_rules))]
 pub fn same_leaves_are_equal()
     ensures { (one other : Leaf) → same_leaf one other ≡ true → one ≡ other }
 {}
@@ -68,6 +69,7 @@ pub fn a_returned_root_holds_value_and_choice()
 /// none at depth 0 (`places`). Each entry has a kind (`kinds`), so that its score is an upper bound, a lower
 /// bound or exact; that is true of the choice's value, and the best choice's entry is exact. The root has at most
 /// 76 words, so its job keeps them all (`kept`).
+#[tactic(auto, using(crate::proofs::Rooted::returned_root_rules))]
 pub fn a_returned_root_holds_a_table()
     ensures kept { (origin words : List ℕ) → AreFitting words [] HasReturned → IsRoot origin words → kept_words words ≡ words }
     ensures places { (origin words : List ℕ) → AreFitting words [] HasReturned → IsRoot origin words →

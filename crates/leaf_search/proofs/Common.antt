@@ -12,7 +12,7 @@ pub use Rattle.othello_eval.proofs.MinimaxLemmas.{best_choice-deeper, best_choic
 pub use Rattle.othello_eval.proofs.MinimaxLemmas.{greatest_or-lower, greatest_or-upper, minimax-deeper, minimax-over, minimax_leaf_there}
 pub use Rattle.othello_eval.proofs.othello_moves_DescentLemmas.{goes_down, passing}
 pub use Rattle.othello_eval.specs.Minimax.{choice_value, greatest, greatest_or, int_equal, minimax}
-pub use Rattle.othello_eval.specs.Values.{final_value}
+pub use Rattle.othello_eval.specs.Values.{IsWithin, final_value}
 pub use Rattle.othello_eval.specs.othello_moves.Choices.{after, choices, plies}
 pub use Rattle.othello_eval.specs.othello_moves.declared.choices.Choice.{Choice}
 pub use Rattle.leaf_search.specs.Bounds.{IsBound}

@@ -1,4 +1,6 @@
 //! The definition of a bound, tried on scores of a window from 0 to 10.
+#![tactic(auto, using(std::proofs::lemmas::Int::ints))]
+
 ghost use Rattle.std.specs.Prelude.{◌≡◌, ◌↔◌, ◌≤ℤ◌, ℤ, pos, negsuc};
 ghost use Rattle.leaf_search.specs.Bounds.{IsBound};
 

@@ -1,5 +1,15 @@
--- Chains of states.
-use Rattle.line_io.proofs.Common.{◌≡◌, ℕ, List, [], ◌∷◌, ◌++◌, refl, sym, ap, ◌∙◌, subst, append-nil, concat-append, concat, LineText, Leads, Answers}
+-- Chains of states, and the relations that make them.
+use Rattle.line_io.proofs.Common.{◌≡◌, ℕ, List, [], ◌∷◌, ◌++◌, refl, sym, ap, ◌∙◌, subst, append-nil, concat-append, concat, LineText, Leads, Answers, ReadAnswer, WriteAnswer}
+
+-- what reads do to a source, writes to a sink, and answers to lines to an answerer
+abbrev pub Reading : Type 0 → Type 1
+Reading S = S → ReadAnswer → S → Type 0
+
+abbrev pub Writing : Type 0 → Type 1
+Writing K = K → WriteAnswer → K → Type 0
+
+abbrev pub Answering : Type 0 → Type 1
+Answering A = A → LineText → List ℕ → A → Type 0
 
 module _ {S E : Type 0} (steps : S → E → S → Type 0) where
   -- two chains, one after the other
@@ -12,12 +22,12 @@ module _ {S E : Type 0} (steps : S → E → S → Type 0) where
   Leads-more a xs b y c p q = Leads-append a xs b (y ∷ []) c p (c, q, refl)
 
 -- two chains of answers, one after the other
-pub Answers-append : {A : Type 0} (answers : A → LineText → List ℕ → A → Type 0) (a : A) (ls : List LineText) (ts : List (List ℕ)) (b : A) (ms : List LineText) (us : List (List ℕ)) (c : A) → Answers answers a ls ts b → Answers answers b ms us c → Answers answers a (ls ++ ms) (ts ++ us) c
-Answers-append answers a [] [] b ms us c p q = subst (λ s. Answers answers s ms us c) (sym p) q
-Answers-append answers a [] (t ∷ ts) b ms us c p q = absurd p
-Answers-append answers a (l ∷ ls) [] b ms us c p q = absurd p
-Answers-append answers a (l ∷ ls) (t ∷ ts) b ms us c p q =
-    (p.0, p.1, Answers-append answers p.0 ls ts b ms us c p.2 q)
+module _ {A : Type 0} (answers : Answering A) where
+  pub Answers-append : (a : A) (ls : List LineText) (ts : List (List ℕ)) (b : A) (ms : List LineText) (us : List (List ℕ)) (c : A) →
+      Answers answers a ls ts b → Answers answers b ms us c → Answers answers a (ls ++ ms) (ts ++ us) c
+  Answers-append a [] [] b ms us c p q = subst (λ s. Answers answers s ms us c) (sym p) q
+  Answers-append a (l ∷ ls) (t ∷ ts) b ms us c p q = (p.0, p.1, Answers-append p.0 ls ts b ms us c p.2 q)
+  Answers-append a ls ts b ms us c p q = absurd p
 
 -- one piece more
 pub concat-more : (xss : List (List ℕ)) (xs : List ℕ) → concat (xss ++ xs ∷ []) ≡ concat xss ++ xs

@@ -1,5 +1,5 @@
 -- Lines that are cut byte by byte are the lines of all bytes.
-use Rattle.line_io.proofs.Common.{◌≡◌, ℕ, ◌+◌, ◌≤◌, List, [], ◌∷◌, ◌++◌, length, map, cond, eqb, Bool, true, false, ◌||◌, refl, sym, ap, ◌∙◌, append_assoc, arith, Option, Some, None, nat_le, length-append, append-nil, nat_tests, slice_split, onto_first, list_any, option_to_list, lines_of_parts, strip_carriage_return, common_steps, Whole, TooLong, line_text, lines_of, up_to_last_end, held, with_byte, ended_line, last_line, held_after, ended_within}
+use Rattle.line_io.proofs.Common.{◌≡◌, ℕ, ◌+◌, ◌≤◌, List, [], ◌∷◌, ◌++◌, length, map, cond, eqb, Bool, true, false, refl, sym, ap, ◌∙◌, append_assoc, arith, Option, Some, None, inl, inr, cases_Bool, nat_le, length-append, append-nil, nat_tests, slice_split, onto_first, list_any, option_to_list, lines_of_parts, strip_carriage_return, common_steps, LineText, Whole, TooLong, line_text, lines_of, up_to_last_end, held, with_byte, ended_line, last_line, held_after, ended_within}
 
 -- what is cut off is one byte at most
 strip-least : (l : List ℕ) → length l ≤ length (strip_carriage_return l) + 1
@@ -40,61 +40,66 @@ not_empty b bs = grind (arith, nat_tests)
 pub last_line-held : (raw : List ℕ) → option_to_list (last_line (held raw)) ≡ map line_text (lines_of_parts (raw ∷ []))
 last_line-held raw = grind (arith, last-held, not_empty)
 
--- the bytes before the first of the parts
+-- the parts between the LFs, and the bytes before the first of them
+abbrev parts_of : List ℕ → List (List ℕ)
+parts_of bs = slice_split (λ b. eqb b 10) bs
+
 abbrev onto : List ℕ → List (List ℕ) → List (List ℕ)
 onto raw [] = raw ∷ []
 onto raw (s ∷ ss) = (raw ++ s) ∷ ss
 
+-- the lines of these parts after those bytes
+abbrev lines_onto : List ℕ → List (List ℕ) → List LineText
+lines_onto raw parts = map line_text (lines_of_parts (onto raw parts))
+
+-- the lines that are cut, the last too, where this is held before them
+abbrev pub cut_lines : Option (List ℕ) → List ℕ → List LineText
+cut_lines h bs = ended_within h bs ++ option_to_list (last_line (held_after h bs))
+
 -- there is a first part
-split_some : (bs : List ℕ) → (s : List ℕ) × (ss : List (List ℕ)) × (slice_split (λ b. eqb b 10) bs ≡ s ∷ ss)
+split_some : (bs : List ℕ) → (s : List ℕ) × (ss : List (List ℕ)) × (parts_of bs ≡ s ∷ ss)
 split_some [] = ([], [], refl)
 split_some (b ∷ bs) =
     let p = split_some bs in
-    elim (eqb b 10) as (λ t. (s : List ℕ) × (ss : List (List ℕ)) × (cond t ([] ∷ slice_split (λ b. eqb b 10) bs) (onto_first b (slice_split (λ b. eqb b 10) bs)) ≡ s ∷ ss)) [ true ↦ ([], slice_split (λ b. eqb b 10) bs, refl) | false ↦ (b ∷ p.0, p.1, ap (onto_first b) p.2) ]
+    elim (eqb b 10) as (λ t. (s : List ℕ) × (ss : List (List ℕ)) × (cond t ([] ∷ parts_of bs) (onto_first b (parts_of bs)) ≡ s ∷ ss)) [
+      | true ↦ ([], parts_of bs, refl)
+      | false ↦ (b ∷ p.0, p.1, ap (onto_first b) p.2)
+    ]
 
 onto-first : (raw : List ℕ) (b : ℕ) (parts : List (List ℕ)) → onto (raw ++ b ∷ []) parts ≡ onto raw (onto_first b parts)
 onto-first raw b parts = grind (arith, append_assoc)
 
--- all lines, with an LF next
-all-lf : (raw bs : List ℕ) (s : List ℕ) (ss : List (List ℕ)) → slice_split (λ b. eqb b 10) bs ≡ s ∷ ss → ended_within (held []) bs ++ option_to_list (last_line (held_after (held []) bs)) ≡ map line_text (lines_of_parts (onto [] (slice_split (λ b. eqb b 10) bs))) → ended_line (held raw) ∷ (ended_within (Some []) bs ++ option_to_list (last_line (held_after (Some []) bs))) ≡ map line_text (lines_of_parts (onto raw ([] ∷ slice_split (λ b. eqb b 10) bs)))
-all-lf raw bs s ss e ih = grind (arith, ended_line-held, append-nil)
+module _ (raw bs : List ℕ) (nothing : cut_lines (held []) bs ≡ lines_onto [] (parts_of bs)) where
+  -- all lines, with an LF next
+  all-lf : (s : List ℕ) (ss : List (List ℕ)) → parts_of bs ≡ s ∷ ss → ended_line (held raw) ∷ cut_lines (Some []) bs ≡ lines_onto raw ([] ∷ parts_of bs)
+  all-lf s ss e = grind (arith, ended_line-held, append-nil)
 
-all-step : (t : Bool) (raw : List ℕ) (b : ℕ) (bs : List ℕ) → ended_within (held []) bs ++ option_to_list (last_line (held_after (held []) bs)) ≡ map line_text (lines_of_parts (onto [] (slice_split (λ b. eqb b 10) bs))) → ended_within (held (raw ++ b ∷ [])) bs ++ option_to_list (last_line (held_after (held (raw ++ b ∷ [])) bs)) ≡ map line_text (lines_of_parts (onto (raw ++ b ∷ []) (slice_split (λ b. eqb b 10) bs))) → cond t (ended_line (held raw) ∷ ended_within (Some []) bs) (ended_within (with_byte (held raw) b) bs) ++ option_to_list (last_line (held_after (cond t (Some []) (with_byte (held raw) b)) bs)) ≡ map line_text (lines_of_parts (onto raw (cond t ([] ∷ slice_split (λ b. eqb b 10) bs) (onto_first b (slice_split (λ b. eqb b 10) bs)))))
-all-step true raw b bs ih ih' =
-    let p = split_some bs in
-    all-lf raw bs p.0 p.1 p.2 ih
-all-step false raw b bs ih ih' = grind (arith, with_byte-held, onto-first)
-
-all-onto : (raw bs : List ℕ) → ended_within (held raw) bs ++ option_to_list (last_line (held_after (held raw) bs)) ≡ map line_text (lines_of_parts (onto raw (slice_split (λ b. eqb b 10) bs)))
+all-onto : (raw bs : List ℕ) → cut_lines (held raw) bs ≡ lines_onto raw (parts_of bs)
 all-onto raw [] = last_line-held raw ∙ ap (λ z. map line_text (lines_of_parts (z ∷ []))) (sym (append-nil raw))
-all-onto raw (b ∷ bs) = all-step (eqb b 10) raw b bs (all-onto [] bs) (all-onto (raw ++ b ∷ []) bs)
+all-onto raw (b ∷ bs) = elim (cases_Bool (eqb b 10)) [
+  | inl lf ↦ let p = split_some bs in rw lf (all-lf raw bs (all-onto [] bs) p.0 p.1 p.2)
+  | inr other ↦ rw (other, with_byte-held raw b, ← onto-first raw b (parts_of bs)) (all-onto (raw ++ b ∷ []) bs)
+]
 
 -- with the line that the end of the input ends they are all lines
-pub lines_of-all : (bs : List ℕ) → ended_within (Some []) bs ++ option_to_list (last_line (held_after (Some []) bs)) ≡ lines_of bs
+pub lines_of-all : (bs : List ℕ) → cut_lines (Some []) bs ≡ lines_of bs
 lines_of-all bs =
     let p = split_some bs in
-    all-onto [] bs ∙ (ap (λ z. map line_text (lines_of_parts (onto [] z))) p.2 ∙ ap (λ z. map line_text (lines_of_parts z)) (sym p.2))
+    all-onto [] bs ∙ (ap (lines_onto []) p.2 ∙ ap (λ z. map line_text (lines_of_parts z)) (sym p.2))
 
 -- where no byte is an LF, no line ends
 none-ended : (h : Option (List ℕ)) (bs : List ℕ) → list_any (λ c. eqb c 10) bs ≡ false → ended_within h bs ≡ []
 none-ended h [] e = refl
 none-ended h (b ∷ bs) e = grind (arith, none-ended (with_byte h b) bs)
 
--- no line ends after the last LF
-end-step : (t u : Bool) (h : Option (List ℕ)) (b : ℕ) (bs : List ℕ) → eqb b 10 ≡ t → list_any (λ c. eqb c 10) bs ≡ u → ((g : Option (List ℕ)) → ended_within g (up_to_last_end bs) ≡ ended_within g bs) → ended_within h (cond (t || u) (b ∷ up_to_last_end bs) []) ≡ cond t (ended_line h ∷ ended_within (Some []) bs) (ended_within (with_byte h b) bs)
-end-step t u h b bs h6 h7 h8 = grind (arith, none-ended)
-
+-- no line ends after the last LF, and nothing is held
 ended_within-end : (h : Option (List ℕ)) (bs : List ℕ) → ended_within h (up_to_last_end bs) ≡ ended_within h bs
 ended_within-end h [] = refl
-ended_within-end h (b ∷ bs) = end-step (eqb b 10) (list_any (λ c. eqb c 10) bs) h b bs refl refl (λ g. ended_within-end g bs)
-
--- after the last LF nothing is held
-held-step : (t u : Bool) (h : Option (List ℕ)) (b : ℕ) (bs : List ℕ) → eqb b 10 ≡ t → ((g : Option (List ℕ)) → held_after g (up_to_last_end bs) ≡ cond u (Some []) g) → held_after h (cond (t || u) (b ∷ up_to_last_end bs) []) ≡ cond (t || u) (Some []) h
-held-step t u h b bs h6 h7 = grind arith
+ended_within-end h (b ∷ bs) = grind (arith, none-ended, ended_within-end (Some []) bs, ended_within-end (with_byte h b) bs)
 
 held_after-end : (h : Option (List ℕ)) (bs : List ℕ) → held_after h (up_to_last_end bs) ≡ cond (list_any (λ c. eqb c 10) bs) (Some []) h
 held_after-end h [] = refl
-held_after-end h (b ∷ bs) = held-step (eqb b 10) (list_any (λ c. eqb c 10) bs) h b bs refl (λ g. held_after-end g bs)
+held_after-end h (b ∷ bs) = grind (arith, held_after-end (Some []) bs, held_after-end (with_byte h b) bs)
 
 cond_same : (t : Bool) (h : Option (List ℕ)) → cond t h h ≡ h
 cond_same t h = grind arith
@@ -104,16 +109,14 @@ pub ended_within-all : (bs : List ℕ) → ended_within (Some []) bs ≡ lines_o
 ended_within-all bs =
     let ended = ended_within-end (Some []) bs in
     let empty = held_after-end (Some []) bs ∙ cond_same (list_any (λ c. eqb c 10) bs) (Some []) in
-    sym ended ∙ (sym (append-nil (ended_within (Some []) (up_to_last_end bs))) ∙ (ap (λ h. ended_within (Some []) (up_to_last_end bs) ++ option_to_list (last_line h)) (sym empty) ∙ lines_of-all (up_to_last_end bs)))
+    let first = ended_within (Some []) (up_to_last_end bs) in
+    sym ended ∙ (sym (append-nil first) ∙ (ap (λ h. first ++ option_to_list (last_line h)) (sym empty) ∙ lines_of-all (up_to_last_end bs)))
 
 -- one block more
 pub held_after-append : (h : Option (List ℕ)) (xs ys : List ℕ) → held_after h (xs ++ ys) ≡ held_after (held_after h xs) ys
 held_after-append h [] ys = refl
 held_after-append h (b ∷ bs) ys = grind (arith, held_after-append (cond (eqb b 10) (Some []) (with_byte h b)) bs ys)
 
-within-step : (t : Bool) (h : Option (List ℕ)) (b : ℕ) (bs ys : List ℕ) → ended_within (Some []) (bs ++ ys) ≡ ended_within (Some []) bs ++ ended_within (held_after (Some []) bs) ys → ended_within (with_byte h b) (bs ++ ys) ≡ ended_within (with_byte h b) bs ++ ended_within (held_after (with_byte h b) bs) ys → cond t (ended_line h ∷ ended_within (Some []) (bs ++ ys)) (ended_within (with_byte h b) (bs ++ ys)) ≡ cond t (ended_line h ∷ ended_within (Some []) bs) (ended_within (with_byte h b) bs) ++ ended_within (held_after (cond t (Some []) (with_byte h b)) bs) ys
-within-step t h b bs ys h6 h7 = grind arith
-
 pub ended_within-append : (h : Option (List ℕ)) (xs ys : List ℕ) → ended_within h (xs ++ ys) ≡ ended_within h xs ++ ended_within (held_after h xs) ys
 ended_within-append h [] ys = refl
-ended_within-append h (b ∷ bs) ys = grind (arith, ended_within-append (Some []) bs ys, ended_within-append (with_byte h b) bs ys, within-step)
+ended_within-append h (b ∷ bs) ys = grind (arith, ended_within-append (Some []) bs ys, ended_within-append (with_byte h b) bs ys)

@@ -1,5 +1,6 @@
 -- Lines that are answered up to one that ends the talk.
-use Rattle.line_io.proofs.Common.{◌≡◌, ◌≢◌, ℕ, ◌+◌, ◌<◌, ◌≤◌, List, [], ◌∷◌, ◌++◌, length, get_or, drop, Bool, true, false, not, ◌&&◌, refl, sym, ap, ◌∙◌, append_assoc, Option, Some, Ok, Err, arith, if◌then◌else◌, append-nil, drop_all, not-true, WriteFailed, LineText, WriteAnswer, LinesAnswered, with_byte, ended_line, held_after, ended_within, upto, none_ends}
+use Rattle.line_io.proofs.Common.{◌≡◌, ◌≢◌, ℕ, ◌+◌, ◌<◌, ◌≤◌, List, [], ◌∷◌, ◌++◌, length, get_or, drop, Bool, true, false, not, ◌&&◌, refl, sym, ap, ◌∙◌, append_assoc, Option, Some, Ok, Err, arith, if◌then◌else◌, append-nil, drop_all, not-true, WriteFailed, LineText, LinesAnswered, with_byte, ended_line, held_after, ended_within, upto, none_ends}
+use Rattle.line_io.proofs.Chains.{Answering, Writing}
 use Rattle.line_io.proofs.Answered.{LinesAnswered-append, LinesAnswered-before, LinesAnswered-same}
 use Rattle.line_io.proofs.Blocks.{BlockSoFar, Block-start, Block-byte, Block-line, Block-held, lf-next}
 
@@ -22,8 +23,7 @@ module _ (ends : LineText → Bool) where
   some-last : (xs : List LineText) (l : LineText) (ls : List LineText) → none_ends ends xs ≡ true → ends l ≡ true → none_ends ends (xs ++ l ∷ ls) ≡ false
   some-last xs l ls none e = none-append xs (l ∷ ls) none ∙ ap (λ t. not t && none_ends ends ls) e
 
-  module _ {K A : Type 0} (takes : K → WriteAnswer → K → Type 0) (answers : A → LineText → List ℕ → A → Type 0) (k : K) (a : A)
-      (h : Option (List ℕ)) (block : List ℕ) where
+  module _ {K A : Type 0} (takes : Writing K) (answers : Answering A) (k : K) (a : A) (h : Option (List ℕ)) (block : List ℕ) where
     -- the lines that ended so far are answered, and none of them ends the talk
     pub record TalkSoFar (i : ℕ) (k' : K) (a' : A) (h' : Option (List ℕ)) : Type 0 where
       pub so_far : BlockSoFar takes answers k a h block i k' a' h'
@@ -32,9 +32,10 @@ module _ (ends : LineText → Bool) where
     pub Talk-start : TalkSoFar 0 k a h
     Talk-start = record { so_far = Block-start takes answers k a h block; none = refl }
 
-module _ {ends : LineText → Bool} {K A : Type 0} {takes : K → WriteAnswer → K → Type 0} {answers : A → LineText → List ℕ → A → Type 0} {k k' : K} {a a' : A}
+module _ {ends : LineText → Bool} {K A : Type 0} {takes : Writing K} {answers : Answering A} {k k' : K} {a a' : A}
     {h h' : Option (List ℕ)} {block : List ℕ} {i : ℕ} (s : TalkSoFar ends takes answers k a h block i k' a' h') where
-  pub Talk-end : length block ≤ i → LinesAnswered takes answers k a (upto ends (ended_within h block)) k' a' (Ok tt) × (none_ends ends (ended_within h block) ≡ true) × (h' ≡ held_after h block)
+  pub Talk-end : length block ≤ i → LinesAnswered takes answers k a (upto ends (ended_within h block)) k' a' (Ok tt)
+      × (none_ends ends (ended_within h block) ≡ true) × (h' ≡ held_after h block)
   Talk-end l = grind (arith, drop_all, upto-append, append-nil, LinesAnswered-same, none-append, Block-held)
 
   module _ (l : i < length block) where
@@ -42,17 +43,24 @@ module _ {ends : LineText → Bool} {K A : Type 0} {takes : K → WriteAnswer �
     Talk-byte ne e = record { so_far = Block-byte s.so_far l ne e; none = s.none }
 
     module _ (e : get_or block i 0 ≡ 10) where
-      -- all lines of the block
-      next : ended_within h block ≡ s.so_far.lines ++ ended_line h' ∷ ended_within (Some []) (drop (i + 1) block)
-      next = sym s.so_far.to_come ∙ ap (λ z. s.so_far.lines ++ z) (lf-next [] h' block i l e)
+      -- the lines after the one that the byte ends
+      abbrev rest : List LineText
+      rest = ended_within (Some []) (drop (i + 1) block)
 
-      pub Talk-failed : {k'' : K} {a'' : A} {d : WriteFailed} → LinesAnswered takes answers k' a' (ended_line h' ∷ []) k'' a'' (Err d) → LinesAnswered takes answers k a (upto ends (ended_within h block)) k'' a'' (Err d)
+      -- all lines of the block, and those of them that are due
+      next : ended_within h block ≡ s.so_far.lines ++ ended_line h' ∷ rest
+      next = sym s.so_far.to_come ∙ ap (λ z. s.so_far.lines ++ z) (lf-next block i l [] h' e)
+
+      due : upto ends (ended_within h block) ≡ s.so_far.lines ++ upto ends (ended_line h' ∷ rest)
+      due = ap (upto ends) next ∙ upto-append ends s.so_far.lines (ended_line h' ∷ rest) s.none
+
+      pub Talk-failed : {k'' : K} {a'' : A} {d : WriteFailed} → LinesAnswered takes answers k' a' (ended_line h' ∷ []) k'' a'' (Err d) →
+          LinesAnswered takes answers k a (upto ends (ended_within h block)) k'' a'' (Err d)
       Talk-failed x =
           let lines = s.so_far.lines in
-          let rest = ended_within (Some []) (drop (i + 1) block) in
           let first = upto-first ends (ended_line h') rest in
-          let due = ap (upto ends) next ∙ (upto-append ends lines (ended_line h' ∷ rest) s.none ∙ ap (λ (z : List LineText). lines ++ z) first.1) in
-          LinesAnswered-same (append_assoc lines (ended_line h' ∷ []) first.0 ∙ sym due) (LinesAnswered-before first.0 (LinesAnswered-append s.so_far.answered x))
+          let same = append_assoc lines (ended_line h' ∷ []) first.0 ∙ sym (due ∙ ap (λ (z : List LineText). lines ++ z) first.1) in
+          LinesAnswered-same same (LinesAnswered-before first.0 (LinesAnswered-append s.so_far.answered x))
 
       module _ {k'' : K} {a'' : A} (x : LinesAnswered takes answers k' a' (ended_line h' ∷ []) k'' a'' (Ok tt)) where
         pub Talk-line : {h'' : Option (List ℕ)} → ends (ended_line h') ≡ false → h'' ≡ Some [] → TalkSoFar ends takes answers k a h block (i + 1) k'' a'' h''
@@ -61,9 +69,10 @@ module _ {ends : LineText → Bool} {K A : Type 0} {takes : K → WriteAnswer �
           none = none-append ends s.so_far.lines (ended_line h' ∷ []) s.none ∙ ap (λ t. not t && true) on;
         }
 
-        pub Talk-stopped : ends (ended_line h') ≡ true → LinesAnswered takes answers k a (upto ends (ended_within h block)) k'' a'' (Ok tt) × (none_ends ends (ended_within h block) ≡ false)
+        pub Talk-stopped : ends (ended_line h') ≡ true → LinesAnswered takes answers k a (upto ends (ended_within h block)) k'' a'' (Ok tt)
+            × (none_ends ends (ended_within h block) ≡ false)
         Talk-stopped off =
             let lines = s.so_far.lines in
-            let rest = ended_within (Some []) (drop (i + 1) block) in
-            let due = ap (upto ends) next ∙ (upto-append ends lines (ended_line h' ∷ rest) s.none ∙ ap (λ (z : List LineText). lines ++ z) (upto-last ends (ended_line h') rest off)) in
-            (LinesAnswered-same (sym due) (LinesAnswered-append s.so_far.answered x), ap (none_ends ends) next ∙ some-last ends lines (ended_line h') rest s.none off)
+            let same = sym (due ∙ ap (λ (z : List LineText). lines ++ z) (upto-last ends (ended_line h') rest off)) in
+            let stops = ap (none_ends ends) next ∙ some-last ends lines (ended_line h') rest s.none off in
+            (LinesAnswered-same same (LinesAnswered-append s.so_far.answered x), stops)

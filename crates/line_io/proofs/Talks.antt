@@ -1,31 +1,34 @@
 -- A whole talk.
-use Rattle.line_io.proofs.Common.{◌≡◌, ℕ, ◌+◌, List, [], ◌∷◌, ◌++◌, length, map, Bool, true, false, true≢false, not, ◌&&◌, refl, sym, ap, ◌∙◌, subst, Option, Some, Ok, Err, inl, inr, arith, if◌then◌else◌, append-nil, concat, option_to_list, WriteFailed, Read, Write, TalkEnd, Line as by_line, LineText, lines_of, Leads, ReadAnswer, Gave, Ended, Failed, WriteAnswer, LinesAnswered, held_after, ended_within, last_line, Talk, IsTalkEnd, upto, none_ends, end_of}
-use Rattle.line_io.proofs.Chains.{Leads-more}
+use Rattle.line_io.proofs.Common.{◌≡◌, ℕ, ◌+◌, List, [], ◌∷◌, ◌++◌, length, Bool, true, false, true≢false, not, ◌&&◌, refl, sym, ap, ◌∙◌, Option, Some, Ok, Err, inl, map, arith, if◌then◌else◌, append-nil, concat, option_to_list, WriteFailed, Read, Write, TalkEnd, Line as by_line, LineText, lines_of, IsPrefixOf, Gave, Ended, Failed, LinesAnswered, held_after, ended_within, last_line, Talk, IsTalkEnd, upto, none_ends, end_of}
+use Rattle.line_io.proofs.Chains.{Answering, Reading, Writing, Leads-more}
 use Rattle.line_io.proofs.Answered.{LinesAnswered-append, LinesAnswered-before, LinesAnswered-same}
-use Rattle.line_io.proofs.Streamed.{ended_within-all, lines_of-all}
-use Rattle.line_io.proofs.Whole.{RunSoFar, Run-start, Run-more, block-reads, lines-more, last-lines, all-lines}
+use Rattle.line_io.proofs.Streamed.{ended_within-all}
+use Rattle.line_io.proofs.Whole.{RunSoFar, Run-start, Run-more, block-reads, lines-more, last-lines, last_after, all-lines}
 use Rattle.line_io.proofs.Talked.{none-append, upto-append}
 
 module _ (ends : LineText → Bool) where
   upto-none : (xs : List LineText) → none_ends ends xs ≡ true → upto ends xs ≡ xs
   upto-none xs none = ap (upto ends) (sym (append-nil xs)) ∙ (upto-append ends xs [] none ∙ append-nil xs)
 
-  -- a line ends the talk already, whatever follows
-  before-step : (t : Bool) (x : LineText) (xs ys : List LineText) → (not t && none_ends ends xs) ≡ false → (none_ends ends xs ≡ false → upto ends (xs ++ ys) ≡ upto ends xs) → (if t then x ∷ [] else x ∷ upto ends (xs ++ ys)) ≡ (if t then x ∷ [] else x ∷ upto ends xs)
-  before-step t x xs ys h5 h6 = grind arith
+  module _ (t : Bool) (x : LineText) (xs ys : List LineText) where
+    -- a line ends the talk already, whatever follows
+    before-step : (not t && none_ends ends xs) ≡ false → (none_ends ends xs ≡ false → upto ends (xs ++ ys) ≡ upto ends xs) →
+        (if t then x ∷ [] else x ∷ upto ends (xs ++ ys)) ≡ (if t then x ∷ [] else x ∷ upto ends xs)
+    before-step some later = grind arith
 
   upto-before : (xs ys : List LineText) → none_ends ends xs ≡ false → upto ends (xs ++ ys) ≡ upto ends xs
   upto-before [] ys e = absurd (true≢false e)
   upto-before (x ∷ xs) ys e = before-step (ends x) x xs ys e (λ d. upto-before xs ys d)
 
   -- what is answered of the first lines is the first of what is answered of all
-  first-step : (t : Bool) (x : LineText) (xs ys : List LineText) → (more : List LineText) × (upto ends xs ++ more ≡ upto ends (xs ++ ys)) → (more : List LineText) × ((if t then x ∷ [] else x ∷ upto ends xs) ++ more ≡ (if t then x ∷ [] else x ∷ upto ends (xs ++ ys)))
-  first-step true x xs ys ih = ([], refl)
-  first-step false x xs ys ih = (ih.0, ap (λ z. x ∷ z) ih.1)
-
-  upto-first_of : (xs ys : List LineText) → (more : List LineText) × (upto ends xs ++ more ≡ upto ends (xs ++ ys))
+  upto-first_of : (xs ys : List LineText) → IsPrefixOf (upto ends xs) (upto ends (xs ++ ys))
   upto-first_of [] ys = (upto ends ys, refl)
-  upto-first_of (x ∷ xs) ys = first-step (ends x) x xs ys (upto-first_of xs ys)
+  upto-first_of (x ∷ xs) ys =
+      let later = upto-first_of xs ys in
+      elim (ends x) as (λ t. IsPrefixOf (if t then x ∷ [] else x ∷ upto ends xs) (if t then x ∷ [] else x ∷ upto ends (xs ++ ys))) [
+        | true ↦ ([], refl)
+        | false ↦ (later.0, ap (λ z. x ∷ z) later.1)
+      ]
 
   -- one line at most
   one-step : (t : Bool) (x : LineText) → (if t then x ∷ [] else x ∷ []) ≡ x ∷ []
@@ -39,14 +42,13 @@ module _ (ends : LineText → Bool) where
   last-ending b end bytes h4 h5 = grind arith
 
   -- the lines that are due at the end of the input
-  last-due : (blocks : List (List ℕ)) (h : Option (List ℕ)) → h ≡ held_after (Some []) (concat blocks) → none_ends ends (ended_within (Some []) (concat blocks)) ≡ true →
-      ended_within (Some []) (concat blocks) ++ option_to_list (last_line h) ≡ upto ends (lines_of (concat blocks))
+  last-due : (blocks : List (List ℕ)) (h : Option (List ℕ)) → h ≡ held_after (Some []) (concat blocks) →
+      none_ends ends (ended_within (Some []) (concat blocks)) ≡ true → ended_within (Some []) (concat blocks) ++ option_to_list (last_line h) ≡ upto ends (lines_of (concat blocks))
   last-due blocks h e none =
-      let ended = ended_within (Some []) (concat blocks) in
-      ap (λ z. ended ++ z) (sym (upto-option (last_line h))) ∙ (sym (upto-append ends ended (option_to_list (last_line h)) none) ∙ ap (upto ends) (last-lines blocks h e))
+      let ended = ended_within (Some []) (concat blocks) in let last = option_to_list (last_line h) in
+      ap (λ z. ended ++ z) (sym (upto-option (last_line h))) ∙ (sym (upto-append ends ended last none) ∙ ap (upto ends) (last-lines blocks h e))
 
-  module _ {S K A : Type 0} (gives : S → ReadAnswer → S → Type 0) (takes : K → WriteAnswer → K → Type 0) (answers : A → LineText → List ℕ → A → Type 0)
-      (s : S) (k : K) (a : A) where
+  module _ {S K A : Type 0} (gives : Reading S) (takes : Writing K) (answers : Answering A) (s : S) (k : K) (a : A) where
     -- some blocks were read, the lines that an LF ended in them answered, and none of them ends the talk
     pub record TalkingSoFar (s' : S) (k' : K) (a' : A) (h : Option (List ℕ)) : Type 0 where
       pub total : ℕ
@@ -56,74 +58,71 @@ module _ (ends : LineText → Bool) where
     pub Talking-start : (h : Option (List ℕ)) → h ≡ Some [] → TalkingSoFar s k a h
     Talking-start h e = record { total = 0; so_far = Run-start gives takes answers s k a h e; none = refl }
 
-module _ {ends : LineText → Bool} {S K A : Type 0} {gives : S → ReadAnswer → S → Type 0} {takes : K → WriteAnswer → K → Type 0} {answers : A → LineText → List ℕ → A → Type 0}
+module _ {ends : LineText → Bool} {S K A : Type 0} {gives : Reading S} {takes : Writing K} {answers : Answering A}
     {s s' : S} {k k' : K} {a a' : A} {h : Option (List ℕ)} (x : TalkingSoFar ends gives takes answers s k a s' k' a' h) where
+  abbrev blocks : List (List ℕ)
+  blocks = x.so_far.blocks
+
+  -- the lines that ended in the blocks so far, and those that end in one more
+  abbrev ended : List LineText
+  ended = ended_within (Some []) (concat blocks)
+
+  abbrev more : List ℕ → List LineText
+  more block = ended_within h block
+
   -- a read failed
   pub Talk-read_failed : {s'' : S} → gives s' Failed s'' → Talk gives takes answers ends s k a s'' k' a' (Err Read)
   Talk-read_failed r = grind (arith, ended_within-all, Leads-more, LinesAnswered-same, upto-none)
 
   module _ {block : List ℕ} {s'' : S} {k'' : K} {a'' : A} (r : gives s' (Gave block) s'') where
     -- a line of a block ended the talk
-    pub Talk-stopped : LinesAnswered takes answers k' a' (upto ends (ended_within h block)) k'' a'' (Ok tt) → none_ends ends (ended_within h block) ≡ false →
+    pub Talk-stopped : LinesAnswered takes answers k' a' (upto ends (more block)) k'' a'' (Ok tt) → none_ends ends (more block) ≡ false →
         Talk gives takes answers ends s k a s'' k'' a'' (Ok by_line)
     Talk-stopped y some =
-        let blocks = x.so_far.blocks in let ended = ended_within (Some []) (concat blocks) in let more = ended_within h block in
-        let last = option_to_list (last_line (held_after (Some []) (concat (blocks ++ block ∷ [])))) in
-        let stops : none_ends ends (ended ++ more) ≡ false = none-append ends ended more x.none ∙ some in
-        let all = all-lines blocks h x.so_far.held block in
+        let last = last_after blocks h x.so_far.held block in
+        let stops : none_ends ends (ended ++ more block) ≡ false = none-append ends ended (more block) x.none ∙ some in
+        let those = lines-more blocks h x.so_far.held block ∙ ended_within-all (concat (blocks ++ block ∷ [])) in
+        let all = sym (upto-before ends (ended ++ more block) last stops) ∙ ap (upto ends) (all-lines blocks h x.so_far.held block) in
         record {
           blocks = blocks ++ block ∷ [];
           last = [];
           reads = block-reads gives blocks block s s' s'' x.so_far.reads r;
-          ending = inl (refl, ap (none_ends ends) (sym (lines-more blocks h x.so_far.held block ∙ ended_within-all (concat (blocks ++ block ∷ [])))) ∙ stops);
-          lines = LinesAnswered-same (sym (upto-append ends ended more x.none) ∙ (sym (upto-before ends (ended ++ more) last stops) ∙ ap (upto ends) all)) (LinesAnswered-append x.so_far.lines y);
+          ending = inl (refl, ap (none_ends ends) (sym those) ∙ stops);
+          lines = LinesAnswered-same (sym (upto-append ends ended (more block) x.none) ∙ all) (LinesAnswered-append x.so_far.lines y);
         }
 
     -- an answer within a block wasn't written
-    pub Talk-write_failed : {d : WriteFailed} → LinesAnswered takes answers k' a' (upto ends (ended_within h block)) k'' a'' (Err d) → Talk gives takes answers ends s k a s'' k'' a'' (Err Write)
+    pub Talk-write_failed : {d : WriteFailed} → LinesAnswered takes answers k' a' (upto ends (more block)) k'' a'' (Err d) →
+        Talk gives takes answers ends s k a s'' k'' a'' (Err Write)
     Talk-write_failed y =
-        let blocks = x.so_far.blocks in let ended = ended_within (Some []) (concat blocks) in let more = ended_within h block in
-        let first = upto-first_of ends (ended ++ more) (option_to_list (last_line (held_after (Some []) (concat (blocks ++ block ∷ []))))) in
-        let due = ap (λ (z : List LineText). z ++ first.0) (sym (upto-append ends ended more x.none)) ∙ (first.1 ∙ ap (upto ends) (all-lines blocks h x.so_far.held block)) in
-        record {
-          blocks = blocks ++ block ∷ [];
-          last = [];
-          reads = block-reads gives blocks block s s' s'' x.so_far.reads r;
-          ending = inl refl;
-          lines = LinesAnswered-same due (LinesAnswered-before first.0 (LinesAnswered-append x.so_far.lines y));
-        }
+        let first = upto-first_of ends (ended ++ more block) (last_after blocks h x.so_far.held block) in
+        let all = first.1 ∙ ap (upto ends) (all-lines blocks h x.so_far.held block) in
+        let due = ap (λ (z : List LineText). z ++ first.0) (sym (upto-append ends ended (more block) x.none)) ∙ all in
+        let lines = LinesAnswered-same due (LinesAnswered-before first.0 (LinesAnswered-append x.so_far.lines y)) in
+        record { blocks = blocks ++ block ∷ []; last = []; reads = block-reads gives blocks block s s' s'' x.so_far.reads r; ending = inl refl; lines = lines }
 
-    pub Talking-more : {h' : Option (List ℕ)} → LinesAnswered takes answers k' a' (upto ends (ended_within h block)) k'' a'' (Ok tt) → none_ends ends (ended_within h block) ≡ true →
+    pub Talking-more : {h' : Option (List ℕ)} → LinesAnswered takes answers k' a' (upto ends (more block)) k'' a'' (Ok tt) → none_ends ends (more block) ≡ true →
         h' ≡ held_after h block → TalkingSoFar ends gives takes answers s k a s'' k'' a'' h'
     Talking-more y none e =
         record {
           total = x.total + length block;
-          so_far = Run-more x.so_far r refl (LinesAnswered-same (upto-none ends (ended_within h block) none) y) e;
-          none = ap (none_ends ends) (sym (lines-more x.so_far.blocks h x.so_far.held block)) ∙ (none-append ends (ended_within (Some []) (concat x.so_far.blocks)) (ended_within h block) x.none ∙ none);
+          so_far = Run-more x.so_far r refl (LinesAnswered-same (upto-none ends (more block) none) y) e;
+          none = ap (none_ends ends) (sym (lines-more blocks h x.so_far.held block)) ∙ (none-append ends ended (more block) x.none ∙ none);
         }
 
   module _ {s'' : S} {k'' : K} {a'' : A} (r : gives s' Ended s'') where
     -- the end of the input, and the last line answered
-    pub Talk-ended : {end : TalkEnd} → LinesAnswered takes answers k' a' (option_to_list (last_line h)) k'' a'' (Ok tt) → end ≡ end_of (none_ends ends (option_to_list (last_line h))) →
-        Talk gives takes answers ends s k a s'' k'' a'' (Ok end)
+    pub Talk-ended : {end : TalkEnd} → LinesAnswered takes answers k' a' (option_to_list (last_line h)) k'' a'' (Ok tt) →
+        end ≡ end_of (none_ends ends (option_to_list (last_line h))) → Talk gives takes answers ends s k a s'' k'' a'' (Ok end)
     Talk-ended {end} y e =
-        let blocks = x.so_far.blocks in let last = option_to_list (last_line h) in
-        let none = ap (none_ends ends) (sym (last-lines blocks h x.so_far.held)) ∙ none-append ends (ended_within (Some []) (concat blocks)) last x.none in
-        record {
-          blocks = blocks;
-          last = Ended ∷ [];
-          reads = Leads-more gives s (map Gave blocks) s' Ended s'' x.so_far.reads r;
-          ending = last-ending ends (none_ends ends last) end (concat blocks) e none;
-          lines = LinesAnswered-same (last-due ends blocks h x.so_far.held x.none) (LinesAnswered-append x.so_far.lines y);
-        }
+        let last = option_to_list (last_line h) in
+        let none = ap (none_ends ends) (sym (last-lines blocks h x.so_far.held)) ∙ none-append ends ended last x.none in
+        let ending = last-ending ends (none_ends ends last) end (concat blocks) e none in
+        let lines = LinesAnswered-same (last-due ends blocks h x.so_far.held x.none) (LinesAnswered-append x.so_far.lines y) in
+        record { blocks = blocks; last = Ended ∷ []; reads = Leads-more gives s (map Gave blocks) s' Ended s'' x.so_far.reads r; ending = ending; lines = lines }
 
     -- the end of the input, and the answer to the last line not written
-    pub Talk-last_failed : {d : WriteFailed} → LinesAnswered takes answers k' a' (option_to_list (last_line h)) k'' a'' (Err d) → Talk gives takes answers ends s k a s'' k'' a'' (Err Write)
+    pub Talk-last_failed : {d : WriteFailed} → LinesAnswered takes answers k' a' (option_to_list (last_line h)) k'' a'' (Err d) →
+        Talk gives takes answers ends s k a s'' k'' a'' (Err Write)
     Talk-last_failed y =
-        record {
-          blocks = x.so_far.blocks;
-          last = Ended ∷ [];
-          reads = Leads-more gives s (map Gave x.so_far.blocks) s' Ended s'' x.so_far.reads r;
-          ending = inr refl;
-          lines = LinesAnswered-same (last-due ends x.so_far.blocks h x.so_far.held x.none) (LinesAnswered-append x.so_far.lines y);
-        }
+        let lines = LinesAnswered-same (last-due ends blocks h x.so_far.held x.none) (LinesAnswered-append x.so_far.lines y) in grind (arith, Leads-more)

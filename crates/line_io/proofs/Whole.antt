@@ -1,10 +1,10 @@
 -- The lines of all blocks.
-use Rattle.line_io.proofs.Common.{◌≡◌, ◌≢◌, ℕ, ◌+◌, ◌≤◌, ◌^◌, List, [], ◌∷◌, ◌++◌, length, map, take, cond, eqb, refl, sym, ap, ◌∙◌, subst, arith, Option, Some, Ok, Err, length-append, inl, inr, append-nil, map-append, length-take, concat, option_to_list, WriteFailed, Read, Write, TooMuch, LineText, lines_of, Leads, ReadAnswer, Gave, Ended, Failed, WriteAnswer, LinesAnswered, held_after, ended_within, last_line, Run}
-use Rattle.line_io.proofs.Chains.{Leads-more, concat-more}
+use Rattle.line_io.proofs.Common.{◌≡◌, ◌≢◌, ℕ, ◌+◌, ◌≤◌, ◌^◌, List, [], ◌∷◌, ◌++◌, length, map, take, cond, eqb, refl, sym, ap, ◌∙◌, subst, arith, Option, Some, inl, Ok, Err, length-append, append-nil, map-append, length-take, concat, option_to_list, WriteFailed, Read, Write, TooMuch, LineText, lines_of, Leads, Gave, Ended, Failed, LinesAnswered, held_after, ended_within, last_line, Run}
+use Rattle.line_io.proofs.Chains.{Answering, Reading, Writing, Leads-more, concat-more}
 use Rattle.line_io.proofs.Answered.{LinesAnswered-none, LinesAnswered-append, LinesAnswered-before, LinesAnswered-same}
 use Rattle.line_io.proofs.Streamed.{ended_within-all, lines_of-all, held_after-append, ended_within-append}
 
-module _ {S : Type 0} (gives : S → ReadAnswer → S → Type 0) where
+module _ {S : Type 0} (gives : Reading S) where
   module _ (count : ℕ) (room : List ℕ) (s s' : S) where
     -- a read that gave bytes
     pub read-gave : count ≢ 0 → gives s (cond (eqb count 0) Ended (Gave (take count room))) s' → gives s (Gave (take count room)) s'
@@ -36,13 +36,14 @@ module _ (blocks : List (List ℕ)) (h : Option (List ℕ)) (e : h ≡ held_afte
   last-lines = grind (arith, lines_of-all)
 
   -- all lines of what was read, where the last block is this one
-  pub all-lines : (block : List ℕ) → (ended_within (Some []) (concat blocks) ++ ended_within h block) ++ option_to_list (last_line (held_after (Some []) (concat (blocks ++ block ∷ []))))
-      ≡ lines_of (concat (blocks ++ block ∷ []))
-  all-lines block =
-      ap (λ z. z ++ option_to_list (last_line (held_after (Some []) (concat (blocks ++ block ∷ []))))) (lines-more block) ∙ lines_of-all (concat (blocks ++ block ∷ []))
+  module _ (block : List ℕ) where
+    abbrev pub last_after : List LineText
+    last_after = option_to_list (last_line (held_after (Some []) (concat (blocks ++ block ∷ []))))
 
-module _ {S K A : Type 0} (gives : S → ReadAnswer → S → Type 0) (takes : K → WriteAnswer → K → Type 0) (answers : A → LineText → List ℕ → A → Type 0)
-    (s : S) (k : K) (a : A) where
+    pub all-lines : (ended_within (Some []) (concat blocks) ++ ended_within h block) ++ last_after ≡ lines_of (concat (blocks ++ block ∷ []))
+    all-lines = ap (λ z. z ++ last_after) (lines-more block) ∙ lines_of-all (concat (blocks ++ block ∷ []))
+
+module _ {S K A : Type 0} (gives : Reading S) (takes : Writing K) (answers : Answering A) (s : S) (k : K) (a : A) where
   -- so many bytes were read, and the lines that an LF ended in them answered
   pub record RunSoFar (total : ℕ) (s' : S) (k' : K) (a' : A) (h : Option (List ℕ)) : Type 0 where
     pub blocks : List (List ℕ)
@@ -54,8 +55,8 @@ module _ {S K A : Type 0} (gives : S → ReadAnswer → S → Type 0) (takes : K
   abbrev pub Run-start : (h : Option (List ℕ)) → h ≡ Some [] → RunSoFar 0 s k a h
   Run-start h e = record { blocks = []; reads = refl; count = refl; lines = LinesAnswered-none; held = e }
 
-module _ {S K A : Type 0} {gives : S → ReadAnswer → S → Type 0} {takes : K → WriteAnswer → K → Type 0} {answers : A → LineText → List ℕ → A → Type 0}
-    {s s' : S} {k k' : K} {a a' : A} {total : ℕ} {h : Option (List ℕ)} (x : RunSoFar gives takes answers s k a total s' k' a' h) where
+module _ {S K A : Type 0} {gives : Reading S} {takes : Writing K} {answers : Answering A} {s s' : S} {k k' : K} {a a' : A} {total : ℕ} {h : Option (List ℕ)}
+    (x : RunSoFar gives takes answers s k a total s' k' a' h) where
   -- a read failed
   pub Run-read_failed : {s'' : S} → gives s' Failed s'' → Run gives takes answers s k a s'' k' a' (Err Read)
   Run-read_failed r = grind (arith, Leads-more, LinesAnswered-same, ended_within-all)
@@ -64,40 +65,33 @@ module _ {S K A : Type 0} {gives : S → ReadAnswer → S → Type 0} {takes : K
   pub Run-too_much : 2 ^ 62 ≤ total → Run gives takes answers s k a s' k' a' (Err TooMuch)
   Run-too_much l = grind (arith, append-nil, LinesAnswered-same, ended_within-all)
 
-  at-end : (s'' : S) → gives s' Ended s'' → Leads gives s (map Gave x.blocks ++ Ended ∷ []) s''
-  at-end s'' r = Leads-more gives s (map Gave x.blocks) s' Ended s'' x.reads r
-
   module _ {s'' : S} {k'' : K} {a'' : A} (r : gives s' Ended s'') where
     -- the end of the input, and the last line answered
     pub Run-ended : LinesAnswered takes answers k' a' (option_to_list (last_line h)) k'' a'' (Ok tt) → Run gives takes answers s k a s'' k'' a'' (Ok tt)
-    Run-ended y =
-        record { blocks = x.blocks; last = Ended ∷ []; reads = at-end s'' r; ends = refl; lines = LinesAnswered-same (last-lines x.blocks h x.held) (LinesAnswered-append x.lines y) }
+    Run-ended y = let lines = LinesAnswered-same (last-lines x.blocks h x.held) (LinesAnswered-append x.lines y) in grind (arith, Leads-more)
 
     -- the end of the input, and the answer to the last line not written
-    pub Run-last_failed : {e : WriteFailed} → LinesAnswered takes answers k' a' (option_to_list (last_line h)) k'' a'' (Err e) → Run gives takes answers s k a s'' k'' a'' (Err Write)
-    Run-last_failed y =
-        record { blocks = x.blocks; last = Ended ∷ []; reads = at-end s'' r; ends = inr refl; lines = LinesAnswered-same (last-lines x.blocks h x.held) (LinesAnswered-append x.lines y) }
+    pub Run-last_failed : {e : WriteFailed} → LinesAnswered takes answers k' a' (option_to_list (last_line h)) k'' a'' (Err e) →
+        Run gives takes answers s k a s'' k'' a'' (Err Write)
+    Run-last_failed y = let lines = LinesAnswered-same (last-lines x.blocks h x.held) (LinesAnswered-append x.lines y) in grind (arith, Leads-more)
 
   module _ {block : List ℕ} {s'' : S} {k'' : K} {a'' : A} (r : gives s' (Gave block) s'') where
     -- one more block
-    abbrev pub Run-more : {count : ℕ} {h' : Option (List ℕ)} → count ≡ length block → LinesAnswered takes answers k' a' (ended_within h block) k'' a'' (Ok tt) → h' ≡ held_after h block →
-        RunSoFar gives takes answers s k a (total + count) s'' k'' a'' h'
+    abbrev pub Run-more : {count : ℕ} {h' : Option (List ℕ)} → count ≡ length block → LinesAnswered takes answers k' a' (ended_within h block) k'' a'' (Ok tt) →
+        h' ≡ held_after h block → RunSoFar gives takes answers s k a (total + count) s'' k'' a'' h'
     Run-more n y e =
+        let more = sym (held_after-append (Some []) (concat x.blocks) block) ∙ ap (held_after (Some [])) (sym (concat-more x.blocks block)) in
         record {
           blocks = x.blocks ++ block ∷ [];
           reads = reads-more gives x.blocks block s s' s'' x.reads r;
           count = omega (arith, x.count, length-append (concat x.blocks) block, ap length (concat-more x.blocks block));
           lines = LinesAnswered-same (lines-more x.blocks h x.held block) (LinesAnswered-append x.lines y);
-          held = e ∙ (ap (λ z. held_after z block) x.held ∙ (sym (held_after-append (Some []) (concat x.blocks) block) ∙ ap (held_after (Some [])) (sym (concat-more x.blocks block))));
+          held = e ∙ (ap (λ z. held_after z block) x.held ∙ more);
         }
 
     -- an answer within a block not written
-    pub Run-write_failed : {e : WriteFailed} → LinesAnswered takes answers k' a' (ended_within h block) k'' a'' (Err e) → Run gives takes answers s k a s'' k'' a'' (Err Write)
+    pub Run-write_failed : {e : WriteFailed} → LinesAnswered takes answers k' a' (ended_within h block) k'' a'' (Err e) →
+        Run gives takes answers s k a s'' k'' a'' (Err Write)
     Run-write_failed y =
-        record {
-          blocks = x.blocks ++ block ∷ [];
-          last = [];
-          reads = block-reads gives x.blocks block s s' s'' x.reads r;
-          ends = inl refl;
-          lines = LinesAnswered-same (all-lines x.blocks h x.held block) (LinesAnswered-before _ (LinesAnswered-append x.lines y));
-        }
+        let lines = LinesAnswered-same (all-lines x.blocks h x.held block) (LinesAnswered-before _ (LinesAnswered-append x.lines y)) in
+        record { blocks = x.blocks ++ block ∷ []; last = []; reads = block-reads gives x.blocks block s s' s'' x.reads r; ends = inl refl; lines = lines }

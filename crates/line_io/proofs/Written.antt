@@ -1,14 +1,14 @@
 -- The writes of one text.
-use Rattle.line_io.proofs.Common.{◌≡◌, ℕ, ◌+◌, ◌-◌, ◌<◌, List, [], ◌∷◌, ◌++◌, length, map, take, drop, sym, ap, ◌∙◌, subst, append_assoc, arith, Err, take-append-drop, drop-drop, take_all, length-drop, map-append, concat, WriteFailed, Leads, WriteAnswer, Took, Refused, IsWritten}
-use Rattle.line_io.proofs.Chains.{Leads-more, concat-more}
+use Rattle.line_io.proofs.Common.{◌≡◌, ℕ, ◌+◌, ◌-◌, ◌<◌, List, [], ◌∷◌, ◌++◌, length, map, take, drop, sym, ap, ◌∙◌, subst, append_assoc, arith, Err, take-append-drop, drop-drop, take_all, length-drop, map-append, concat, WriteFailed, Leads, Took, Refused, IsWritten}
+use Rattle.line_io.proofs.Chains.{Writing, Leads-more, concat-more}
 
 -- so many of the bytes were taken, in some pieces
-pub record Sent {K : Type 0} (takes : K → WriteAnswer → K → Type 0) (from : K) (bytes : List ℕ) (n : ℕ) (to : K) : Type 0 where
+pub record Sent {K : Type 0} (takes : Writing K) (from : K) (bytes : List ℕ) (n : ℕ) (to : K) : Type 0 where
   pub pieces : List (List ℕ)
   pub writes : Leads takes from (map Took pieces) to
   pub taken : concat pieces ++ drop n bytes ≡ bytes
 
-module _ {K : Type 0} {takes : K → WriteAnswer → K → Type 0} {a b c : K} {bytes : List ℕ} {n : ℕ} (s : Sent takes a bytes n b) where
+module _ {K : Type 0} {takes : Writing K} {a b c : K} {bytes : List ℕ} {n : ℕ} (s : Sent takes a bytes n b) where
   -- one more write
   pub Sent-more : (m : ℕ) {offered : List ℕ} → offered ≡ drop n bytes → takes b (Took (take m offered)) c → Sent takes a bytes (n + m) c
   Sent-more m e t' =

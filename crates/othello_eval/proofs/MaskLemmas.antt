@@ -29,12 +29,11 @@ joined_sums d x y u v e = omega (arith, ints)
 discs-worth : (own opp a n : ℕ) (ws : List ℤ) → bit_and own opp ≡ 0 → length ws ≡ n
     → discs_value (map (cell_of own opp) (range_with_len a n)) ws ≡ worth own a ws -ℤ worth opp a ws
 discs-worth own opp a zero [] disjoint len = refl
-discs-worth own opp a zero (w ∷ ws) disjoint len = absurd (omega arith)
-discs-worth own opp a (suc n) [] disjoint len = absurd (omega arith)
 discs-worth own opp a (suc n) (w ∷ ws) disjoint len =
     ap (λ m. disc_value (cell_of own opp a) w +ℤ m) (discs-worth own opp (a + 1) n ws disjoint (omega arith))
     ∙ joined_sums (disc_value (cell_of own opp a) w) (cond (eqb (bit_at own a) 1) w (pos 0)) (cond (eqb (bit_at opp a) 1) w (pos 0)) (worth own (a + 1) ws) (worth opp (a + 1) ws)
     (cell_by (bit_at own a) (bit_at opp a) w (bit_at-lt own a) (bit_at-lt opp a) (apart own opp a disjoint))
+discs-worth own opp a n ws disjoint len = absurd (omega arith)
 
 -- two lists of weights, added one by one
 abbrev added : List ℤ → List ℤ → List ℤ
@@ -47,10 +46,8 @@ split_test t w v x y = grind (arith, common_steps)
 
 worth-added : (word a n : ℕ) (ws vs : List ℤ) → length ws ≡ n → length vs ≡ n → worth word a (added ws vs) ≡ worth word a ws +ℤ worth word a vs
 worth-added word a n [] [] l m = refl
-worth-added word a n [] (v ∷ vs) l m = absurd (omega arith)
-worth-added word a n (w ∷ ws) [] l m = absurd (omega arith)
-worth-added word a zero (w ∷ ws) (v ∷ vs) l m = absurd (omega arith)
 worth-added word a (suc n) (w ∷ ws) (v ∷ vs) l m = grind (arith, worth-added word (a + 1) n ws vs, split_test)
+worth-added word a n ws vs l m = absurd (omega arith)
 
 -- one weight on the squares of a word, and 0 elsewhere
 abbrev on_squares : ℤ → ℕ → ℕ → ℕ → List ℤ
@@ -180,8 +177,8 @@ pub sum_fits : (sum v : ℤ) (i : ℕ) → i < 7 → neg_ℤ (pos (6400 * i)) �
 sum_fits sum v i l low high h = omega (arith, ints)
 
 -- the difference of the discs under one word of the table more
-pub sums_next : (own opp i : ℕ) → i < 7
-    → weighed_sum own opp (drop i weight_table) ≡ ((get_or weight_table i (pos 0, 0)).0 *ℤ disc_difference own opp (get_or weight_table i (pos 0, 0)).1) +ℤ weighed_sum own opp (drop (i + 1) weight_table)
+pub sums_next : (own opp i : ℕ) → i < 7 → weighed_sum own opp (drop i weight_table)
+    ≡ ((get_or weight_table i (pos 0, 0)).0 *ℤ disc_difference own opp (get_or weight_table i (pos 0, 0)).1) +ℤ weighed_sum own opp (drop (i + 1) weight_table)
 sums_next own opp i turn = at_drop_more (weighed_sum own opp) weight_table i (pos 0, 0) turn
 
 pub sums_end : (own opp i : ℕ) → 7 ≤ i → weighed_sum own opp (drop i weight_table) ≡ pos 0
@@ -200,30 +197,28 @@ more_sums x y z = omega (arith, ints)
 no_sum : (z : ℤ) → z ≡ pos 0 +ℤ z
 no_sum z = omega (arith, ints)
 
-discs-parts : (f : ℕ → Cell) (a n m : ℕ) (ws : List ℤ) → discs_value (map f (range_with_len a (n + m))) ws ≡ discs_value (map f (range_with_len a n)) (take n ws) +ℤ discs_value (map f (range_with_len (a + n) m)) (drop n ws)
-discs-parts f a zero m ws =
-    ap (λ k. discs_value (map f (range_with_len a k)) ws) (same m)
-    ∙ no_sum (discs_value (map f (range_with_len a m)) ws)
-    ∙ ap (λ k. pos 0 +ℤ discs_value (map f (range_with_len k m)) ws) (same_after a)
-  where
-    same : (m : ℕ) → 0 + m ≡ m
-    same m = omega arith
+module _ (f : ℕ → Cell) where
+  -- what cells are worth from this bit on, so many of them
+  abbrev value_from : ℕ → ℕ → List ℤ → ℤ
+  value_from a n ws = discs_value (map f (range_with_len a n)) ws
 
-    same_after : (a : ℕ) → a ≡ a + 0
-    same_after a = omega arith
-discs-parts f a (suc n) m [] = none (map f (range_with_len a (suc n + m))) ∙ sym (ap (λ z. pos 0 +ℤ z) (none (map f (range_with_len (a + suc n) m))))
-  where
-    none : (cs : List Cell) → discs_value cs [] ≡ pos 0
-    none [] = refl
-    none (c ∷ cs) = refl
-discs-parts f a (suc n) m (w ∷ ws) =
-    ap (λ k. discs_value (map f (range_with_len a k)) (w ∷ ws)) (further n m)
-    ∙ ap (λ z. disc_value (f a) w +ℤ z) (discs-parts f (a + 1) n m ws)
-    ∙ more_sums (disc_value (f a) w) (discs_value (map f (range_with_len (a + 1) n)) (take n ws)) (discs_value (map f (range_with_len (a + 1 + n) m)) (drop n ws))
-    ∙ ap (λ k. (disc_value (f a) w +ℤ discs_value (map f (range_with_len (a + 1) n)) (take n ws)) +ℤ discs_value (map f (range_with_len k m)) (drop n ws)) (omega arith)
-  where
-    further : (n m : ℕ) → suc n + m ≡ suc (n + m)
-    further n m = omega arith
+  discs-parts : (a n m : ℕ) (ws : List ℤ) → value_from a (n + m) ws ≡ value_from a n (take n ws) +ℤ value_from (a + n) m (drop n ws)
+  discs-parts a zero m ws =
+      let same : 0 + m ≡ m = omega arith in
+      let after : a ≡ a + 0 = omega arith in
+      ap (λ k. value_from a k ws) same ∙ no_sum (value_from a m ws) ∙ ap (λ k. pos 0 +ℤ value_from k m ws) after
+  discs-parts a (suc n) m [] = none (map f (range_with_len a (suc n + m))) ∙ sym (ap (λ z. pos 0 +ℤ z) (none (map f (range_with_len (a + suc n) m))))
+    where
+      none : (cs : List Cell) → discs_value cs [] ≡ pos 0
+      none [] = refl
+      none (c ∷ cs) = refl
+  discs-parts a (suc n) m (w ∷ ws) =
+      let further : suc n + m ≡ suc (n + m) = omega arith in
+      let first = disc_value (f a) w in
+      ap (λ k. value_from a k (w ∷ ws)) further
+      ∙ ap (λ z. first +ℤ z) (discs-parts (a + 1) n m ws)
+      ∙ more_sums first (value_from (a + 1) n (take n ws)) (value_from (a + 1 + n) m (drop n ws))
+      ∙ ap (λ k. (first +ℤ value_from (a + 1) n (take n ws)) +ℤ value_from k m (drop n ws)) (omega arith)
 
 abbrev row_sum : (ℕ → Cell) → ℕ → ℕ → List ℤ → ℤ
 row_sum f a zero ws = pos 0
@@ -232,12 +227,10 @@ row_sum f a (suc r) ws = discs_value (map f (range_with_len a 8)) (take 8 ws) +�
 discs-rows : (f : ℕ → Cell) (a r : ℕ) (ws : List ℤ) → discs_value (map f (range_with_len a (8 * r))) ws ≡ row_sum f a r ws
 discs-rows f a zero ws = refl
 discs-rows f a (suc r) ws =
-    ap (λ n. discs_value (map f (range_with_len a n)) ws) (next r)
+    let next : 8 * suc r ≡ 8 + 8 * r = omega arith in
+    ap (λ n. discs_value (map f (range_with_len a n)) ws) next
     ∙ discs-parts f a 8 (8 * r) ws
     ∙ ap (λ z. discs_value (map f (range_with_len a 8)) (take 8 ws) +ℤ z) (discs-rows f (a + 8) r (drop 8 ws))
-  where
-    next : (r : ℕ) → 8 * suc r ≡ 8 + 8 * r
-    next r = omega arith
 
 -- the rows of the board
 abbrev eight : ℕ → ℤ
@@ -255,13 +248,11 @@ byte_value byte row = discs_value (map (cell_of byte 0) (range_with_len 0 8)) (t
 maps_same : (f g : ℕ → Cell) (a b n : ℕ) → ((i : ℕ) → i < n → f (a + i) ≡ g (b + i)) → map f (range_with_len a n) ≡ map g (range_with_len b n)
 maps_same f g a b zero same = refl
 maps_same f g a b (suc n) same =
+    let plain : (a : ℕ) → a ≡ a + 0 = λ a. omega arith in
     let first : f a ≡ g b = ap f (plain a) ∙ same 0 (omega arith) ∙ ap g (sym (plain b)) in
     let rest = maps_same f g (a + 1) (b + 1) n (λ i below. ap f (later a i) ∙ same (suc i) (omega arith) ∙ ap g (sym (later b i))) in
     ap₂ (λ c cs. c ∷ cs) first rest
   where
-    plain : (a : ℕ) → a ≡ a + 0
-    plain a = omega arith
-
     later : (a i : ℕ) → a + 1 + i ≡ a + suc i
     later a i = omega arith
 
@@ -275,13 +266,10 @@ module _ (x k t : ℕ) where
 
   byte_bit : t < 8 → bit_at x (k + t) ≡ bit_at (bit_and (x / 2 ^ k) 255) t
   byte_bit below =
-      ap (bit_at x) (omega arith)
-      ∙ sym (bit_further)
-      ∙ all_set (bit_at (x / 2 ^ k) t) (bit_at 255 t) (bit_at-lt (x / 2 ^ k) t) (bit_at_ones 8 t below)
-      ∙ sym (bit_at_and (x / 2 ^ k) 255 t)
-    where
-      all_set : (a b : ℕ) → a < 2 → b ≡ 1 → a ≡ min a b
-      all_set a b h e = omega arith
+      let small = bit_at-lt (x / 2 ^ k) t in
+      let set = bit_at_ones 8 t below in
+      let all_set : bit_at (x / 2 ^ k) t ≡ min (bit_at (x / 2 ^ k) t) (bit_at 255 t) = omega (arith, small, set) in
+      ap (bit_at x) (omega arith) ∙ sym bit_further ∙ all_set ∙ sym (bit_at_and (x / 2 ^ k) 255 t)
 
   byte_cell : t < 8 → cell_of x 0 (k + t) ≡ cell_of (bit_and (x / 2 ^ k) 255) 0 (0 + t)
   byte_cell below =
@@ -290,7 +278,8 @@ module _ (x k t : ℕ) where
 
 row_of_byte : (word row : ℕ) → row_value word row ≡ byte_value (bit_and (word / 2 ^ (8 * row)) 255) row
 row_of_byte word row =
-    ap (λ cs. discs_value cs (take 8 (drop (8 * row) weights))) (maps_same (cell_of word 0) (cell_of (bit_and (word / 2 ^ (8 * row)) 255) 0) (8 * row) 0 8 (λ i below. byte_cell word (8 * row) i below))
+    let byte = bit_and (word / 2 ^ (8 * row)) 255 in
+    ap (λ cs. discs_value cs (take 8 (drop (8 * row) weights))) (maps_same (cell_of word 0) (cell_of byte 0) (8 * row) 0 8 (byte_cell word (8 * row)))
 
 abbrev in_table : ℕ → ℕ → Bool
 in_table row byte = eqb (of_z w32 (get_or (get_or ROW_VALUES (kind_of row) []) byte (pos 0))) (of_z w32 (byte_value byte row))

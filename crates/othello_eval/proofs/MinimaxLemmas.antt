@@ -51,7 +51,8 @@ greatest_or-lower v other [] c later = greatest-first (v c) (map v later)
 greatest_or-lower v other (b ∷ before) c later = greatest-lower v (v b) before c later
 
 -- the value of the first choice that attains x, or else what is found among the others
-pub found_below_max : (value x greatest : ℤ) {X : Type 0} (c : X) (more : Option X) (test : Bool) → int_equal value x ≡ test → (IsSome more → x ≤ℤ greatest) → IsSome (cond test (Some c) more) → x ≤ℤ int_max value greatest
+pub found_below_max : (value x greatest : ℤ) {X : Type 0} (c : X) (more : Option X) (test : Bool) → int_equal value x ≡ test → (IsSome more → x ≤ℤ greatest) →
+    IsSome (cond test (Some c) more) → x ≤ℤ int_max value greatest
 found_below_max value x greatest c more test h7 h8 h9 = grind (arith, same_from_int_equal, int_max-left, int_max-right)
 
 -- the greatest of x and these values is at least the greatest of these values
@@ -99,16 +100,20 @@ minimax-squares depth board some = grind (arith, squares_there, map-map)
 
 -- with one ply at least, a choice is worth what comes after it: a pass, a square, any choice
 module _ (depth : ℕ) (board : List Cell) where
-  one_pass : (theirs : List ℕ) → theirs ≡ legal_squares (exchanged board) → map (λ c. neg_ℤ (value_after (minimax depth) board c)) (cond (is_nil theirs) [] (Pass ∷ [])) ≡ map (choice_value (suc depth) board) (cond (is_nil theirs) [] (Pass ∷ []))
+  -- these choices are worth the same either way
+  abbrev AreWorth : List Choice → Type 0
+  AreWorth cs = map (λ c. neg_ℤ (value_after (minimax depth) board c)) cs ≡ map (choice_value (suc depth) board) cs
+
+  one_pass : (theirs : List ℕ) → theirs ≡ legal_squares (exchanged board) → AreWorth (cond (is_nil theirs) [] (Pass ∷ []))
   one_pass [] same = refl
   one_pass (s ∷ theirs) same =
       ap (λ v. neg_ℤ v ∷ []) (sym (minimax-squares depth (exchanged board) (ap is_nil (sym same))) ∙ ap (λ d. minimax d (exchanged board)) (omega arith))
 
-  squares_same : (own : List ℕ) → map (λ c. neg_ℤ (value_after (minimax depth) board c)) (map Square own) ≡ map (choice_value (suc depth) board) (map Square own)
+  squares_same : (own : List ℕ) → AreWorth (map Square own)
   squares_same [] = refl
   squares_same (s ∷ own) = ap₂ (λ v more. neg_ℤ v ∷ more) (ap (λ d. minimax d (played board s)) (omega arith)) (squares_same own)
 
-  by_squares : (own : List ℕ) → map (λ c. neg_ℤ (value_after (minimax depth) board c)) (cond (is_nil own) (choices_without_move board) (map Square own)) ≡ map (choice_value (suc depth) board) (cond (is_nil own) (choices_without_move board) (map Square own))
+  by_squares : (own : List ℕ) → AreWorth (cond (is_nil own) (choices_without_move board) (map Square own))
   by_squares own = grind (arith, one_pass, squares_same)
 
 pub minimax-deeper : (depth : ℕ) (board : List Cell) → 0 < depth → minimax depth board ≡ greatest_or (final_value board) (map (choice_value depth board) (choices board))
@@ -162,13 +167,15 @@ leaf_within : (board : List Cell) (cs : List Choice) → length board ≡ 64 →
 leaf_within board cs h3 = grind (arith, final_value_within, within_more, eval_within)
 
 -- what comes after a choice lies within too
-after_within : (depth : ℕ) → ((b : List Cell) → length b ≡ 64 → IsWithin 128000 (minimax depth b)) → (board : List Cell) (c : Choice) → length board ≡ 64 → IsWithin 128000 (value_after (minimax depth) board c)
+after_within : (depth : ℕ) → ((b : List Cell) → length b ≡ 64 → IsWithin 128000 (minimax depth b)) → (board : List Cell) (c : Choice) → length board ≡ 64 →
+    IsWithin 128000 (value_after (minimax depth) board c)
 after_within depth within board (Square s) e = within (played board s) (length-after board (Square s) e)
 after_within depth within board Pass e =
-    let other : length (exchanged board) ≡ 64 = length-after board Pass e in
-    greatest_or_within 128000 (λ (s : ℕ). neg_ℤ (minimax depth (played (exchanged board) s)))
-    (λ s. within_negated 128000 (minimax depth (played (exchanged board) s)) (within (played (exchanged board) s) (length-after (exchanged board) (Square s) other)))
-    (final_value (exchanged board)) (legal_squares (exchanged board)) (final_value_within (exchanged board) other)
+    let b = exchanged board in
+    let other : length b ≡ 64 = length-after board Pass e in
+    greatest_or_within 128000 (λ (s : ℕ). neg_ℤ (minimax depth (played b s)))
+    (λ s. within_negated 128000 (minimax depth (played b s)) (within (played b s) (length-after b (Square s) other)))
+    (final_value b) (legal_squares b) (final_value_within b other)
 
 -- every minimax value of a board of 64 cells lies within -128,000 and 128,000
 pub minimax_within : (depth : ℕ) (board : List Cell) → length board ≡ 64 → IsWithin 128000 (minimax depth board)
@@ -349,8 +356,9 @@ negated r h = omega (arith, ints)
 
 -- what the code computes of a choice is what it is worth
 module _ (depth : ℕ) (board : List Cell) where
-  pub child_value : (child : List Cell) (c : Choice) (r : ℤ) → child ≡ after board c → r ≡ minimax (depth - plies c) child → IsWithin 128000 r → to_z w32 (of_z w32 (pos 0 -ℤ to_z w32 (of_z w32 r))) ≡ choice_value depth board c
-  child_value child c r e f h = negated r h ∙ ap neg_ℤ (f ∙ ap (minimax (depth - plies c)) e)
+  pub child_value : {child : List Cell} {p : ℕ} {r : ℤ} (c : Choice) → child ≡ after board c → p ≡ plies c → r ≡ minimax (depth - p) child → IsWithin 128000 r →
+      to_z w32 (of_z w32 (pos 0 -ℤ to_z w32 (of_z w32 r))) ≡ choice_value depth board c
+  child_value {child} {r = r} c e same f h = negated r h ∙ ap neg_ℤ (f ∙ ap (λ q. minimax (depth - q) child) same ∙ ap (minimax (depth - plies c)) e)
 
   pub leaf_value_at : (c : Choice) (cs : List Choice) → choices board ≡ c ∷ cs → depth ≡ 0 → eval board ≡ minimax depth board
   leaf_value_at c cs e zero_depth = sym (minimax-goes_on board c cs e) ∙ ap (λ k. minimax k board) (sym zero_depth)
@@ -368,7 +376,7 @@ module _ (depth : ℕ) (board : List Cell) (w : ℤ) (c : Choice) (cs : List Cho
   start_choice = grind (arith, best_choice-running)
 
 -- one choice more
-module _ (v : Choice → ℤ) (best w : ℤ) (c e : Choice) (left es : List Choice) (is : left ≡ e ∷ es) (worth : w ≡ v e) where
+module _ (v : Choice → ℤ) (best : ℤ) (c : Choice) {w : ℤ} {e : Choice} {left es : List Choice} (is : left ≡ e ∷ es) (worth : w ≡ v e) where
   pub running_more : int_lt best w ≡ true → running v w e es ≡ running v best c left
   running_more l = grind (arith, cond-true)
 
@@ -382,7 +390,7 @@ running_all v best c left e = ap (running v best c) e
 pub left_chosen : (all left : List Choice) (c : Choice) → all ≡ c ∷ left → All (Contains all) left
 left_chosen all left c e = All-tail (Contains all) c left (subst (All (Contains all)) e (All-contains_itself all))
 
-pub next_chosen : (all old new : List Choice) (c : Choice) → All (Contains all) old → old ≡ c ∷ new → Contains all c × All (Contains all) new
-next_chosen all old new c h e =
+pub next_chosen : (all : List Choice) {old new : List Choice} {c : Choice} → All (Contains all) old → old ≡ c ∷ new → Contains all c × All (Contains all) new
+next_chosen all {old} {new} {c} h e =
     let each = subst (All (Contains all)) e h in
     (All-head (Contains all) c new each, All-tail (Contains all) c new each)

@@ -96,18 +96,18 @@ outflanked_opposing : (board : List Cell) (xs : List ℕ) (i : ℕ) → is_among
 outflanked_opposing board [] i among = absurd (false≢true among)
 outflanked_opposing board (s ∷ xs) i among = first (cell_at board s) refl (outflanked board xs) (outflanked_opposing board xs i) among
   where
-    later : (here : Bool) (ys : List ℕ) → is_opp_cell (cell_at board s) ≡ true → (is_among i ys ≡ true → is_opp_cell (cell_at board i) ≡ true) → (eqb s i || is_among i ys) ≡ true → is_opp_cell (cell_at board i) ≡ true
-    later here ys opposing below h =
+    later : (ys : List ℕ) → is_opp_cell (cell_at board s) ≡ true → (is_among i ys ≡ true → is_opp_cell (cell_at board i) ≡ true) → (eqb s i || is_among i ys) ≡ true →
+        is_opp_cell (cell_at board i) ≡ true
+    later ys opposing below h =
         elim (or_cases (eqb s i) (is_among i ys) h) [
           | inl same ↦ ap (λ k. is_opp_cell (cell_at board k)) (sym (eqb-true s i same)) ∙ opposing
           | inr more ↦ below more
         ]
 
-    first : (c : Cell) → cell_at board s ≡ c → (beyond : Option (List ℕ)) → (is_among i (unwrap_or beyond []) ≡ true → is_opp_cell (cell_at board i) ≡ true) → is_among i (unwrap_or (led_by c s beyond) []) ≡ true → is_opp_cell (cell_at board i) ≡ true
-    first Empty e beyond below h = absurd (false≢true h)
-    first Own e beyond below h = absurd (false≢true h)
-    first Opp e None below h = absurd (false≢true h)
-    first Opp e (Some ys) below h = later true ys (ap is_opp_cell e) below h
+    first : (c : Cell) → cell_at board s ≡ c → (beyond : Option (List ℕ)) → (is_among i (unwrap_or beyond []) ≡ true → is_opp_cell (cell_at board i) ≡ true) →
+        is_among i (unwrap_or (led_by c s beyond) []) ≡ true → is_opp_cell (cell_at board i) ≡ true
+    first Opp e (Some ys) below h = later ys (ap is_opp_cell e) below h
+    first _ e beyond below h = absurd (false≢true h)
 
 among-append : (i : ℕ) (xs ys : List ℕ) → is_among i (xs ++ ys) ≡ (is_among i xs || is_among i ys)
 among-append i [] ys = refl
@@ -175,28 +175,29 @@ turned_sum : (own opp next_own next_opp s a n : ℕ) (ws : List ℤ) → ((i : �
     → discs_value (map (cell_of next_own next_opp) (range_with_len a n)) ws
     ≡ neg_ℤ (discs_value (map (cell_of own opp) (range_with_len a n)) ws +ℤ (pos 2 *ℤ discs_value (map (cell_of (bit_and opp next_opp) 0) (range_with_len a n)) ws +ℤ weight_from s a ws))
 turned_sum own opp next_own next_opp s a zero [] each len = refl
-turned_sum own opp next_own next_opp s a zero (w ∷ ws) each len = absurd (omega arith)
-turned_sum own opp next_own next_opp s a (suc n) [] each len = absurd (omega arith)
 turned_sum own opp next_own next_opp s a (suc n) (w ∷ ws) each len =
     sums (disc_value (cell_of own opp a) w) (disc_value (cell_of (bit_and opp next_opp) 0 a) w) (cond (eqb s a) w (pos 0)) _ _ _ _ _
     (each a (omega arith) w)
     (turned_sum own opp next_own next_opp s (a + 1) n ws (λ i below. each i (omega arith)) (omega arith))
+turned_sum own opp next_own next_opp s a n ws each len = absurd (omega arith)
 
 -- a weight among these is the weight of the square
 weight_found : (s a : ℕ) (ws : List ℤ) → a ≤ s → weight_from s a ws ≡ get_or ws (s - a) (pos 0)
 weight_found s a [] low = refl
 weight_found s a (w ∷ ws) low = elim (cases_lt a s) [
   | inl later ↦
+      let one_later : s - a ≡ suc (s - (a + 1)) = omega arith in
       ap (λ b. cond b w (pos 0) +ℤ weight_from s (a + 1) ws) (ne_eqb s a (λ e. absurd (omega arith)))
       ∙ none_first (weight_from s (a + 1) ws)
       ∙ weight_found s (a + 1) ws (omega arith)
-      ∙ sym (ap (λ k. get_or (w ∷ ws) k (pos 0)) (one_later s a later))
+      ∙ sym (ap (λ k. get_or (w ∷ ws) k (pos 0)) one_later)
   | inr at ↦
       let same : s ≡ a = omega arith in
+      let none_before : s - a ≡ 0 = omega arith in
       ap (λ b. cond b w (pos 0) +ℤ weight_from s (a + 1) ws) (eq-eqb s a same)
       ∙ ap (λ z. w +ℤ z) (none_left s (a + 1) ws (omega arith))
       ∙ none_last w
-      ∙ sym (ap (λ k. get_or (w ∷ ws) k (pos 0)) (none_before s a same))
+      ∙ sym (ap (λ k. get_or (w ∷ ws) k (pos 0)) none_before)
 ]
   where
     none_first : (z : ℤ) → pos 0 +ℤ z ≡ z
@@ -204,12 +205,6 @@ weight_found s a (w ∷ ws) low = elim (cases_lt a s) [
 
     none_last : (z : ℤ) → z +ℤ pos 0 ≡ z
     none_last z = omega (arith, ints)
-
-    one_later : (s a : ℕ) → a < s → s - a ≡ suc (s - (a + 1))
-    one_later s a l = omega arith
-
-    none_before : (s a : ℕ) → s ≡ a → s - a ≡ 0
-    none_before s a e = omega arith
 
     none_left : (s a : ℕ) (ws : List ℤ) → s < a → weight_from s a ws ≡ pos 0
     none_left s a [] l = refl
@@ -258,11 +253,10 @@ pub after_move : (own opp next_own next_opp s : ℕ) → bit_and own opp ≡ 0 �
     ≡ neg_ℤ (discs_value (cells_of own opp) weights +ℤ (pos 2 *ℤ discs_value (cells_of (bit_and opp next_opp) 0) weights +ℤ weight_at s))
 unfolding squares
 after_move own opp next_own next_opp s before after legal is =
+    let whole : s - 0 ≡ s = omega arith in
+    let weight = weight_found s 0 weights (omega arith) ∙ ap (λ k. get_or weights k (pos 0)) whole in
     turned_sum own opp next_own next_opp s 0 64 weights (λ i below. turns_at own opp next_own next_opp s i before after legal is below) weights_length
-    ∙ ap (λ z. neg_ℤ (discs_value (cells_of own opp) weights +ℤ (pos 2 *ℤ discs_value (cells_of (bit_and opp next_opp) 0) weights +ℤ z))) (weight_found s 0 weights (omega arith) ∙ ap (λ k. get_or weights k (pos 0)) (whole s))
-  where
-    whole : (s : ℕ) → s - 0 ≡ s
-    whole s = omega arith
+    ∙ ap (λ z. neg_ℤ (discs_value (cells_of own opp) weights +ℤ (pos 2 *ℤ discs_value (cells_of (bit_and opp next_opp) 0) weights +ℤ z))) weight
 
 -- after a pass the sign turns
 exchanged_value : (c : Cell) (w : ℤ) → disc_value (exchanged_cell c) w ≡ neg_ℤ (disc_value c w)

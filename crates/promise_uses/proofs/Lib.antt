@@ -1,3 +1,4 @@
+mod Common
 mod Parts
 mod Served
 mod Turned

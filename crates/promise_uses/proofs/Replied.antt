@@ -1,15 +1,7 @@
 -- The job of a number that is done holds the reply to the words of that number; and what was taken of a list of searches is one.
-use Rattle.std.proofs.Common.{◌≡◌, ℕ, ◌==◌, ◌-◌, true, false, List, [], ◌∷◌, Some, Result, Ok, Err, refl, arith}
-use Rattle.std.specs.Prelude.{if◌then◌else◌}
+use Rattle.promise_uses.proofs.Common.{◌≡◌, ℕ, ◌==◌, ◌-◌, true, false, List, [], ◌∷◌, Some, Result, Ok, Err, refl, arith, if◌then◌else◌, Refusal, DidOf, StepOf, job_at, taken_steps, AreReplies, AreSearches, IsReplyTo, origin_at}
 use Rattle.sched_rules.specs.declared.job.Job.{Job}
 use Rattle.sched_rules.specs.declared.job.Job.TheVariants.{Done}
-use Rattle.sched_rules.specs.declared.refusal.Refusal.{Refusal}
-use Rattle.sched_rules.specs.declared.step.DidOf.{DidOf}
-use Rattle.sched_rules.specs.declared.step.StepOf.{StepOf}
-use Rattle.sched_rules.specs.Trees.{job_at}
-use Rattle.sched_rules.specs.Headline.{taken_steps}
-use Rattle.jamboree_core.specs.Replies.{AreReplies, AreSearches, IsReplyTo}
-use Rattle.jamboree_core.specs.Searching.{origin_at}
 
 pub record HasReply (origins : List (List ℕ)) (job : ℕ) (words : List ℕ) : Type 0 where
   pub origin : List ℕ

@@ -1,35 +1,24 @@
 -- What `SolvedRun` comes to, where three lines are answered.
-use Rattle.std.proofs.Common.{◌≡◌, ◌⊎◌, inl, inr, ℕ, ◌<◌, Bool, true, false, List, [], ◌∷◌, ◌++◌, map, length, codes, Option, Some, Result, Ok, Err, refl, ap, subst, sym, ◌∙◌}
-use Rattle.std.specs.List.{concat}
-use Rattle.othello_eval.specs.Minimax.{minimax, best_choice}
-use Rattle.protocol.specs.Questions.{QuestionOf, question}
-use Rattle.protocol.specs.Words.{split_at_space}
-use Rattle.protocol.specs.Texts.{error_text, value_text}
-use Rattle.protocol.specs.declared.faults.ProtocolFault.{ProtocolFault}
-use Rattle.line_io.specs.declared.faults.LineFault.{LineFault}
-use Rattle.line_io.specs.declared.faults.LineFault.TheVariants.{Read, Write, TooMuch}
-use Rattle.line_io.specs.Leads.{Leads}
-use Rattle.line_io.specs.Lines.{LineText, Whole, lines_of}
-use Rattle.line_io.specs.Streams.{ReadAnswer, WriteAnswer, Gave, Ended, Failed}
-use Rattle.line_io.specs.Runs.{IsEnding, IsOutput, bytes_due, write_result}
-use Rattle.line_io.specs.Writes.{writes_of, written_texts}
-use Rattle.solve_engine.specs.Solving.{SolvedRun, answers_unless, line_question, question_answer, solve_line_unless, solve_out_unless, solved_unless, words_question}
+use Rattle.promise_uses.proofs.Common.{◌≡◌, ◌⊎◌, inl, inr, ℕ, ◌<◌, Bool, true, false, List, [], ◌∷◌, ◌++◌, map, length, codes, Option, Some, Result, Ok, Err, refl, ap, subst, sym, ◌∙◌, concat, minimax, best_choice, QuestionOf, question, split_at_space, error_text, value_text, ProtocolFault, LineFault, Leads, LineText, Whole, lines_of, ReadAnswer, WriteAnswer, Gave, Ended, Failed, IsEnding, IsOutput, bytes_due, write_result, writes_of, written_texts, SolvedRun, answers_unless, line_question, question_answer, solve_line_unless, solve_out_unless, solved_unless, words_question}
+use Rattle.line_io.specs.declared.faults.LineFault.TheVariants.{Read, Write}
 
-ended : (r : Result (Unit {0}) LineFault) (bytes : List ℕ) (last : List ReadAnswer) (written due : List ℕ) → IsEnding r bytes last → IsOutput (write_result r) written due → r ≡ Ok tt → (last ≡ Ended ∷ []) × (written ≡ due)
-ended (Ok it) bytes last written due ends output is = (ends, output)
-ended (Err fault) bytes last written due ends output is = absurd cc
+module _ (written due : List ℕ) where
+  ended : (r : Result (Unit {0}) LineFault) (bytes : List ℕ) (last : List ReadAnswer) → IsEnding r bytes last → IsOutput (write_result r) written due → r ≡ Ok tt →
+      (last ≡ Ended ∷ []) × (written ≡ due)
+  ended (Ok it) bytes last ends output is = (ends, output)
+  ended (Err fault) bytes last ends output is = absurd cc
 
-failed : (r : Result (Unit {0}) LineFault) (bytes : List ℕ) (last : List ReadAnswer) (written due : List ℕ) → IsEnding r bytes last → IsOutput (write_result r) written due → r ≡ Err Read → (last ≡ Failed ∷ []) × (written ≡ due)
-failed (Ok it) bytes last written due ends output is = absurd cc
-failed (Err Read) bytes last written due ends output is = (ends, output)
-failed (Err Write) bytes last written due ends output is = absurd cc
-failed (Err TooMuch) bytes last written due ends output is = absurd cc
+  failed : (r : Result (Unit {0}) LineFault) (bytes : List ℕ) (last : List ReadAnswer) → IsEnding r bytes last → IsOutput (write_result r) written due → r ≡ Err Read →
+      (last ≡ Failed ∷ []) × (written ≡ due)
+  failed (Err Read) bytes last ends output is = (ends, output)
+  failed _ bytes last ends output is = absurd cc
 
-cut : (r : Result (Unit {0}) LineFault) (written due : List ℕ) → IsOutput (write_result r) written due → r ≡ Err Write → (rest : List ℕ) × (written ++ rest ≡ due) × (0 < length rest)
-cut (Ok it) written due output is = absurd cc
-cut (Err Read) written due output is = absurd cc
-cut (Err Write) written due output is = output
-cut (Err TooMuch) written due output is = absurd cc
+  cut : (r : Result (Unit {0}) LineFault) → IsOutput (write_result r) written due → r ≡ Err Write → (rest : List ℕ) × (written ++ rest ≡ due) × (0 < length rest)
+  cut (Err Write) output is = output
+  cut _ output is = absurd cc
+
+abbrev opening : LineText
+opening = Whole (codes "opening")
 
 -- a line that asks for something is answered by its value and choice, or by ERR 19
 abbrev pub IsSolved : QuestionOf → List ℕ → Type 0
@@ -40,7 +29,7 @@ solved-or-not true line asked is = inr (ap (λ (q : Result QuestionOf ProtocolFa
 solved-or-not false line asked is = inl (ap (λ (q : Result QuestionOf ProtocolFault). question_answer (solved_unless false) q) is)
 
 -- a line without a space is answered by ERR 21
-no-question : (refused : Bool) → solve_line_unless refused (Whole (codes "opening")) ≡ error_text 21
+no-question : (refused : Bool) → solve_line_unless refused opening ≡ error_text 21
 no-question true = refl
 no-question false = refl
 
@@ -53,7 +42,8 @@ abbrev later_of : List Bool → List Bool
 later_of [] = []
 later_of (flag ∷ refused) = refused
 
-next-answer : (refused : List Bool) (line : LineText) (lines : List LineText) → answers_unless refused (line ∷ lines) ≡ (solve_line_unless (first_of refused) line ++ 10 ∷ []) ++ answers_unless (later_of refused) lines
+next-answer : (refused : List Bool) (line : LineText) (lines : List LineText) →
+    answers_unless refused (line ∷ lines) ≡ (solve_line_unless (first_of refused) line ++ 10 ∷ []) ++ answers_unless (later_of refused) lines
 next-answer [] line lines = refl
 next-answer (flag ∷ refused) line lines = refl
 
@@ -64,16 +54,19 @@ none-left (flag ∷ refused) = refl
 abbrev pub Three : QuestionOf → List ℕ → Type 0
 Three asked due = (one : List ℕ) × (three : List ℕ) × (due ≡ written_texts (one ∷ error_text 21 ∷ three ∷ [])) × IsSolved asked three
 
-three-answers : (refused : List Bool) (first third : LineText) (asked : QuestionOf) → line_question third ≡ Ok asked → Three asked (answers_unless refused (first ∷ Whole (codes "opening") ∷ third ∷ []))
+three-answers : (refused : List Bool) (first third : LineText) (asked : QuestionOf) → line_question third ≡ Ok asked →
+    Three asked (answers_unless refused (first ∷ opening ∷ third ∷ []))
 three-answers refused first third asked is =
     let second = later_of refused in
     let last = later_of second in
-    let one = solve_line_unless (first_of refused) first in
-    let three = solve_line_unless (first_of last) third in
-    let at_third : answers_unless last (third ∷ []) ≡ (three ++ 10 ∷ []) ++ [] = next-answer last third [] ∙ ap (λ (l : List ℕ). (three ++ 10 ∷ []) ++ l) (none-left (later_of last)) in
-    let at_second : answers_unless second (Whole (codes "opening") ∷ third ∷ []) ≡ (error_text 21 ++ 10 ∷ []) ++ ((three ++ 10 ∷ []) ++ []) =
-    next-answer second (Whole (codes "opening")) (third ∷ []) ∙ ap (λ (l : List ℕ). (l ++ 10 ∷ []) ++ answers_unless last (third ∷ [])) (no-question (first_of second)) ∙ ap (λ (l : List ℕ). (error_text 21 ++ 10 ∷ []) ++ l) at_third in
-    (one, three, next-answer refused first (Whole (codes "opening") ∷ third ∷ []) ∙ ap (λ (l : List ℕ). (one ++ 10 ∷ []) ++ l) at_second, solved-or-not (first_of last) third asked is)
+    let one = solve_line_unless (first_of refused) first ++ 10 ∷ [] in
+    let three = solve_line_unless (first_of last) third ++ 10 ∷ [] in
+    let at_third : answers_unless last (third ∷ []) ≡ three ++ [] = next-answer last third [] ∙ ap (λ (l : List ℕ). three ++ l) (none-left (later_of last)) in
+    let fault = ap (λ (l : List ℕ). (l ++ 10 ∷ []) ++ answers_unless last (third ∷ [])) (no-question (first_of second)) in
+    let at_second : answers_unless second (opening ∷ third ∷ []) ≡ (error_text 21 ++ 10 ∷ []) ++ (three ++ []) =
+    next-answer second opening (third ∷ []) ∙ fault ∙ ap (λ (l : List ℕ). (error_text 21 ++ 10 ∷ []) ++ l) at_third in
+    let all = next-answer refused first (opening ∷ third ∷ []) ∙ ap (λ (l : List ℕ). one ++ l) at_second in
+    (solve_line_unless (first_of refused) first, solve_line_unless (first_of last) third, all, solved-or-not (first_of last) third asked is)
 
 -- all that is said of three lines
 abbrev pub SolvesThree : {S K : Type 0} → (S → ReadAnswer → S → Type 0) → (K → WriteAnswer → K → Type 0) → S → K → S → K → Result (Unit {0}) LineFault → Type 0
@@ -83,7 +76,7 @@ SolvesThree gives takes source sink source' sink' r = (blocks : List (List ℕ))
     × (r ≡ Ok tt → (last ≡ Ended ∷ []) × (concat pieces ≡ due))
     × (r ≡ Err Read → (last ≡ Failed ∷ []) × (concat pieces ≡ due))
     × (r ≡ Err Write → (rest : List ℕ) × (concat pieces ++ rest ≡ due) × (0 < length rest))
-    × ((first : LineText) (third : List ℕ) (words : List ℕ × List ℕ) (asked : QuestionOf) → lines_of (bytes_due r (concat blocks)) ≡ first ∷ Whole (codes "opening") ∷ Whole third ∷ [] →
+    × ((first : LineText) (third : List ℕ) (words : List ℕ × List ℕ) (asked : QuestionOf) → lines_of (bytes_due r (concat blocks)) ≡ first ∷ opening ∷ Whole third ∷ [] →
     split_at_space third ≡ Some words → question words.0 words.1 ≡ Ok asked → Three asked due)
 
 pub solves-three : {S K : Type 0} (gives : S → ReadAnswer → S → Type 0) (takes : K → WriteAnswer → K → Type 0) (source : S) (sink : K) (source' : S) (sink' : K) (r : Result (Unit {0}) LineFault) →
@@ -97,9 +90,10 @@ solves-three gives takes source sink source' sink' r solved =
       due,
       is.reads,
       is.writes,
-      ended r (concat is.blocks) is.last (concat is.pieces) due is.ends is.written,
-      failed r (concat is.blocks) is.last (concat is.pieces) due is.ends is.written,
-      cut r (concat is.pieces) due is.written,
+      ended (concat is.pieces) due r (concat is.blocks) is.last is.ends is.written,
+      failed (concat is.pieces) due r (concat is.blocks) is.last is.ends is.written,
+      cut (concat is.pieces) due r is.written,
       λ first third words asked lines splits question.
-          subst (λ (ls : List LineText). Three asked (answers_unless solved.0 ls)) (sym lines) (three-answers solved.0 first (Whole third) asked (ap (λ (s : Option (List ℕ × List ℕ)). words_question s) splits ∙ question)),
+          let asks = ap (λ (s : Option (List ℕ × List ℕ)). words_question s) splits ∙ question in
+          subst (λ (ls : List LineText). Three asked (answers_unless solved.0 ls)) (sym lines) (three-answers solved.0 first (Whole third) asked asks),
     )

@@ -1,32 +1,6 @@
 -- Two runs in which a tenant's own taken steps are the same, and a list with all other tenants' steps removed.
-use Rattle.std.proofs.Common.{◌≡◌, ℕ, true, false, ◌==◌, List, [], ◌∷◌, Option, Some, None, Result, Ok, Err, refl, sym, ap, ◌∙◌, subst, arith}
-use Rattle.std.specs.Prelude.{is_ok}
-use Rattle.std.proofs.lemmas.Bool.Decides.{nat_tests}
-use Rattle.tenant_quota.specs.Quota.{Quota}
-use Rattle.sched_rules.specs.declared.refusal.Refusal.{Refusal}
-use Rattle.sched_rules.specs.declared.step.StepOf.{StepOf}
-use Rattle.sched_rules.specs.declared.step.StepOf.TheVariants.{Take, Steal, Inlet, Finish}
-use Rattle.sched_rules.specs.declared.step.DidOf.{DidOf}
-use Rattle.sched_rules.specs.Functions.{Functions}
-use Rattle.sched_rules.specs.Trees.{Tenant}
-use Rattle.sched_rules.specs.Lone.{Outcome, lone, refusal_in}
-use Rattle.sched_rules.specs.Runs.{tenant_of, only, alone_from, state_after, answer_of, answers_from}
-use Rattle.sched_rules.specs.Cores.{CoreState, shared_by_nobody, tenant_in, with_tenant, without_tenant, with_outcome, is_busy_elsewhere, meets_busy}
-use Rattle.sched_rules.specs.Headline.{IsHeadline, IsAnswerTo, AreAnswersTo, AreNumbersGiven, after_answer, is_admission, taken_steps, own_answers}
-use Rattle.sched_rules.proofs.Isolation.{step-taken, shared-after-taken}
-use Rattle.sched_rules.proofs.Tenants.{tenant_in-with_outcome}
-use Rattle.promises.specs.Tenants.{own_steps, AreAdmissionsTaken}
-
-pub undisturbed : {I A : Type 0} (f : Functions I A) (totals other_totals : Quota) (steps other_steps : List (StepOf A)) (answers other_answers : List (Result (DidOf I) Refusal)) (after other_after : CoreState) (number : ℕ) →
-    IsHeadline f (shared_by_nobody totals) steps answers after → IsHeadline f (shared_by_nobody other_totals) other_steps other_answers other_after →
-    own_steps number steps answers ≡ own_steps number other_steps other_answers →
-    (tenant_in after.tenants number ≡ tenant_in other_after.tenants number) × (own_answers number steps answers ≡ own_answers number other_steps other_answers)
-undisturbed {A = A} f totals other_totals steps other_steps answers other_answers after other_after number one other e =
-    let a = one.undisturbed number in
-    let b = other.undisturbed number in (
-      a.state ∙ ap (λ (own : List (StepOf A)). alone_from f None own) e ∙ sym b.state,
-      a.replies ∙ ap (λ (own : List (StepOf A)). answers_from f None own) e ∙ sym b.replies,
-    )
+use Rattle.promises.proofs.Common.{◌≡◌, ℕ, true, false, ◌==◌, List, [], ◌∷◌, Option, Some, None, Result, Ok, Err, refl, sym, ap, ◌∙◌, subst, arith, is_ok, nat_tests, Quota, Refusal, StepOf, Take, Steal, Inlet, Finish, Functions, Tenant, Outcome, lone, refusal_in, tenant_of, only, alone_from, state_after, answer_of, answers_from, CoreState, shared_by_nobody, tenant_in, with_tenant, without_tenant, with_outcome, is_busy_elsewhere, meets_busy, IsHeadline, IsAnswerTo, AreAnswersTo, AreNumbersGiven, after_answer, is_admission, taken_steps, own_answers, step-taken, shared-after-taken, tenant_in-with_outcome, own_steps, AreAdmissionsTaken}
+use Rattle.promises.proofs.Answered.{Answer}
 
 abbrev Entries : Type 0
 Entries = List (ℕ × Tenant)
@@ -51,7 +25,8 @@ only-with_outcome n (Some t) es only = only-with_tenant n t es only
 
 nobody-busy : (worker n : ℕ) (es : Entries) → AreOnly n es → is_busy_elsewhere worker n es ≡ false
 nobody-busy worker n [] only = refl
-nobody-busy worker n (e ∷ es) only = let own : (e.0 == n) ≡ true = (let is : e.0 ≡ n = only.0 in grind (arith, nat_tests)) in rw own (nobody-busy worker n es only.1)
+nobody-busy worker n (e ∷ es) only =
+    let own : (e.0 == n) ≡ true = (let is : e.0 ≡ n = only.0 in grind (arith, nat_tests)) in rw own (nobody-busy worker n es only.1)
 
 meets-nobody : {A : Type 0} (step : StepOf A) (es : Entries) → AreOnly (tenant_of step) es → meets_busy step es ≡ false
 meets-nobody (Take worker name) es only = nobody-busy worker name.tenant es only
@@ -62,11 +37,11 @@ meets-nobody _ es only = refl
 
 -- ---- lists of one tenant's steps that it alone would take
 
-abbrev AreAllOk : {I : Type 0} → List (Result (DidOf I) Refusal) → Type 0
+abbrev AreAllOk : {I : Type 0} → List (Answer I) → Type 0
 AreAllOk [] = Unit {0}
 AreAllOk (answer ∷ answers) = (is_ok answer ≡ true) × AreAllOk answers
 
-own_answers-ok : {I A : Type 0} (number : ℕ) (steps : List (StepOf A)) (answers : List (Result (DidOf I) Refusal)) → AreAllOk (own_answers number steps answers)
+own_answers-ok : {I A : Type 0} (number : ℕ) (steps : List (StepOf A)) (answers : List (Answer I)) → AreAllOk (own_answers number steps answers)
 own_answers-ok number [] answers = tt
 own_answers-ok number (step ∷ steps) [] = tt
 own_answers-ok number (step ∷ steps) (Err refusal ∷ answers) = own_answers-ok number steps answers
@@ -87,50 +62,64 @@ only-same number (step ∷ steps) all = grind (arith, only-same number steps all
 -- ---- one step
 
 -- what its tenant alone would take, a step is answered Ok
-ok-else : {I : Type 0} (own : Result (Outcome I) Refusal) (answer : Result (DidOf I) Refusal) → is_ok (answer_of own) ≡ true → (refusal_in own ≡ None → answer ≡ answer_of own) → is_ok answer ≡ true
-ok-else {I = I} (Ok outcome) answer ok is = ap (λ (a : Result (DidOf I) Refusal). is_ok a) (is refl)
+ok-else : {I : Type 0} (own : Result (Outcome I) Refusal) (answer : Answer I) → is_ok (answer_of own) ≡ true → (refusal_in own ≡ None → answer ≡ answer_of own) →
+    is_ok answer ≡ true
+ok-else {I = I} (Ok outcome) answer ok is = ap (λ (a : Answer I). is_ok a) (is refl)
 ok-else (Err refusal) answer ok is = absurd cc
 
-answered-ok : {I A : Type 0} (f : Functions I A) (before : CoreState) (own : Option Tenant) (step : StepOf A) (answer : Result (DidOf I) Refusal) → AreOnly (tenant_of step) before.tenants → tenant_in before.tenants (tenant_of step) ≡ own →
-    is_ok (answer_of (lone f own step)) ≡ true → IsAnswerTo f before step answer → (is_admission step ≡ true → is_ok answer ≡ true) → is_ok answer ≡ true
-answered-ok f before own step answer only is ok right admitted =
-    elim (is_admission step) as (λ b. is_admission step ≡ b → is_ok answer ≡ true) [
-      | true ↦ λ admission. admitted admission
-      | false ↦ λ other.
-          let r = right.1 other in
-          ok-else (lone f (tenant_in before.tenants (tenant_of step)) step) answer (rw is ok) (λ none. r.else_taken none (meets-nobody step before.tenants only))
-    ] refl
+module _ {I A : Type 0} (f : Functions I A) where
+  answered-ok : (before : CoreState) (own : Option Tenant) (step : StepOf A) (answer : Answer I) → AreOnly (tenant_of step) before.tenants →
+      tenant_in before.tenants (tenant_of step) ≡ own → is_ok (answer_of (lone f own step)) ≡ true → IsAnswerTo f before step answer →
+      (is_admission step ≡ true → is_ok answer ≡ true) → is_ok answer ≡ true
+  answered-ok before own step answer only is ok right admitted =
+      elim (is_admission step) as (λ b. is_admission step ≡ b → is_ok answer ≡ true) [
+        | true ↦ λ admission. admitted admission
+        | false ↦ λ other.
+            let r = right.1 other in
+            let alone = lone f (tenant_in before.tenants (tenant_of step)) step in
+            ok-else alone answer (rw is ok) (λ none. r.else_taken none (meets-nobody step before.tenants only))
+      ] refl
 
--- ---- the list
+  -- ---- the list
 
-all-taken : {I A : Type 0} (f : Functions I A) (number : ℕ) (before : CoreState) (own : Option Tenant) (steps : List (StepOf A)) (answers : List (Result (DidOf I) Refusal)) →
-    AreNumbersGiven before → AreOnly number before.tenants → tenant_in before.tenants number ≡ own → AreAllOf number steps → AreAllOk (answers_from f own steps) →
-    AreAnswersTo f before steps answers → AreAdmissionsTaken steps answers → (taken_steps steps answers ≡ steps) × (own_answers number steps answers ≡ answers)
-all-taken f number before own [] [] known sole is mine ok right admitted = (refl, refl)
-all-taken f number before own [] (answer ∷ answers) known sole is mine ok right admitted = absurd right
-all-taken f number before own (step ∷ steps) [] known sole is mine ok right admitted = absurd right
-all-taken {I = I} f number before own (step ∷ steps) (Err refusal ∷ answers) known sole is mine ok right admitted =
-    let refused : Result (DidOf I) Refusal = Err refusal in
-    let ought : is_ok refused ≡ true = answered-ok f before own step (Err refusal) (rw mine.0 sole) (rw mine.0 is) ok.0 right.0 admitted.0 in absurd cc
-all-taken {I = I} {A = A} f number before own (step ∷ steps) (Ok did ∷ answers) known sole is mine ok right admitted =
-    let t = step-taken f before step did known right.0 in
-    let left = shared-after-taken f before step did t in
-    let next = after_answer f before step (Ok did) in
-    let lone_is : lone f own step ≡ Ok t.outcome = rw (mine.0, is) at t.own in
-    let own_is : tenant_in next.tenants number ≡ state_after own (lone f own step) = rw (left, lone_is, ← mine.0) (tenant_in-with_outcome (tenant_of step) t.outcome.0 before.tenants) in
-    let rest = all-taken f number next (state_after own (lone f own step)) steps answers (rw left t.known) (rw (left, mine.0) (only-with_outcome number t.outcome.0 before.tenants sole)) own_is mine.1 ok.1 right.1 admitted.1 in
-    let whose : (tenant_of step == number) ≡ true = (let is_own : tenant_of step ≡ number = mine.0 in grind (arith, nat_tests)) in
-    (ap (λ (l : List (StepOf A)). step ∷ l) rest.0, rw whose (ap (λ (l : List (Result (DidOf I) Refusal)). Ok did ∷ l) rest.1))
+  all-taken : (number : ℕ) (before : CoreState) (own : Option Tenant) (steps : List (StepOf A)) (answers : List (Answer I)) →
+      AreNumbersGiven before → AreOnly number before.tenants → tenant_in before.tenants number ≡ own → AreAllOf number steps → AreAllOk (answers_from f own steps) →
+      AreAnswersTo f before steps answers → AreAdmissionsTaken steps answers → (taken_steps steps answers ≡ steps) × (own_answers number steps answers ≡ answers)
+  all-taken number before own [] [] known sole is mine ok right admitted = (refl, refl)
+  all-taken number before own (step ∷ steps) (Err refusal ∷ answers) known sole is mine ok right admitted =
+      let refused : Answer I = Err refusal in
+      let ought : is_ok refused ≡ true = answered-ok before own step (Err refusal) (rw mine.0 sole) (rw mine.0 is) ok.0 right.0 admitted.0 in absurd cc
+  all-taken number before own (step ∷ steps) (Ok did ∷ answers) known sole is mine ok right admitted =
+      let t = step-taken f before step did known right.0 in
+      let left = shared-after-taken f before step did t in
+      let next = after_answer f before step (Ok did) in
+      let state = state_after own (lone f own step) in
+      let lone_is : lone f own step ≡ Ok t.outcome = rw (mine.0, is) at t.own in
+      let own_is : tenant_in next.tenants number ≡ state = rw (left, lone_is, ← mine.0) (tenant_in-with_outcome (tenant_of step) t.outcome.0 before.tenants) in
+      let only_its : AreOnly number next.tenants = rw (left, mine.0) (only-with_outcome number t.outcome.0 before.tenants sole) in
+      let rest = all-taken number next state steps answers (rw left t.known) only_its own_is mine.1 ok.1 right.1 admitted.1 in
+      let whose : (tenant_of step == number) ≡ true = (let is_own : tenant_of step ≡ number = mine.0 in grind (arith, nat_tests)) in
+      (ap (λ (l : List (StepOf A)). step ∷ l) rest.0, rw whose (ap (λ (l : List (Answer I)). Ok did ∷ l) rest.1))
+  all-taken number before own steps answers known sole is mine ok right admitted = absurd right
 
-pub alone : {I A : Type 0} (f : Functions I A) (totals other_totals : Quota) (steps other_steps : List (StepOf A)) (answers other_answers : List (Result (DidOf I) Refusal)) (after other_after : CoreState) (number : ℕ) →
-    IsHeadline f (shared_by_nobody totals) steps answers after → IsHeadline f (shared_by_nobody other_totals) other_steps other_answers other_after →
-    other_steps ≡ own_steps number steps answers → AreAdmissionsTaken other_steps other_answers →
-    (tenant_in after.tenants number ≡ tenant_in other_after.tenants number) × (own_answers number steps answers ≡ other_answers)
-alone {I = I} {A = A} f totals other_totals steps other_steps answers other_answers after other_after number one other are admitted =
-    let mine : AreAllOf number other_steps = rw are (only-all-of number (taken_steps steps answers)) in
-    let said : own_answers number steps answers ≡ answers_from f None other_steps = (one.undisturbed number).replies ∙ ap (λ (own : List (StepOf A)). answers_from f None own) (sym are) in
-    let ok : AreAllOk (answers_from f None other_steps) = subst (λ (l : List (Result (DidOf I) Refusal)). AreAllOk l) said (own_answers-ok number steps answers) in
-    let both = all-taken f number (shared_by_nobody other_totals) None other_steps other_answers tt tt refl mine ok other.refused admitted in
-    let same : own_steps number other_steps other_answers ≡ other_steps = ap (λ (l : List (StepOf A)). only number l) both.0 ∙ only-same number other_steps mine in
-    let und = undisturbed f totals other_totals steps other_steps answers other_answers after other_after number one other (sym are ∙ sym same) in
-    (und.0, und.1 ∙ both.1)
+module _ {I A : Type 0} (f : Functions I A) {totals other_totals : Quota} {steps other_steps : List (StepOf A)} {answers other_answers : List (Answer I)}
+    {after other_after : CoreState} (number : ℕ) (one : IsHeadline f (shared_by_nobody totals) steps answers after)
+    (other : IsHeadline f (shared_by_nobody other_totals) other_steps other_answers other_after) where
+  pub undisturbed : own_steps number steps answers ≡ own_steps number other_steps other_answers →
+      (tenant_in after.tenants number ≡ tenant_in other_after.tenants number) × (own_answers number steps answers ≡ own_answers number other_steps other_answers)
+  undisturbed e =
+      let a = one.undisturbed number in
+      let b = other.undisturbed number in
+      (a.state ∙ ap (λ (own : List (StepOf A)). alone_from f None own) e ∙ sym b.state, a.replies ∙ ap (λ (own : List (StepOf A)). answers_from f None own) e ∙ sym b.replies)
+
+  pub alone : other_steps ≡ own_steps number steps answers → AreAdmissionsTaken other_steps other_answers →
+      (tenant_in after.tenants number ≡ tenant_in other_after.tenants number) × (own_answers number steps answers ≡ other_answers)
+  alone are admitted =
+      let mine : AreAllOf number other_steps = rw are (only-all-of number (taken_steps steps answers)) in
+      let given = ap (λ (own : List (StepOf A)). answers_from f None own) (sym are) in
+      let said : own_answers number steps answers ≡ answers_from f None other_steps = (one.undisturbed number).replies ∙ given in
+      let ok : AreAllOk (answers_from f None other_steps) = subst (λ (l : List (Answer I)). AreAllOk l) said (own_answers-ok number steps answers) in
+      let both = all-taken f number (shared_by_nobody other_totals) None other_steps other_answers tt tt refl mine ok other.refused admitted in
+      let same : own_steps number other_steps other_answers ≡ other_steps = ap (λ (l : List (StepOf A)). only number l) both.0 ∙ only-same number other_steps mine in
+      let und = undisturbed (sym are ∙ sym same) in
+      (und.0, und.1 ∙ both.1)

@@ -1,3 +1,4 @@
+mod Common
 pub mod Answered
 pub mod Isolation
 pub mod Refused

@@ -1,9 +1,9 @@
 -- An act, done: the stores, and then what comes after them.
-use Rattle.sched_core.proofs.Common.{◌≡◌, ℕ, ◌+◌, Bool, true, false, List, [], ◌∷◌, Option, Some, None, Ok, refl, ◌∙◌, ap, arith, ◌||◌, IsSome, nat_tests, charge, FrameId, Frame, frame_at, tree-rising, found-serial, Act, Continuation, Grow, Spawn, Go, Wait, Compute, Return, Advance, DidOf, Functions, Tenant, has_child, stored, with_frame_words, charged_for, is_outside, is_root, holding, counted, is_bad_then, segments_for, then_done, on_tenant, named, CoreState, with_tenant, without_tenant, with_outcome, IsShaped, AreShaped, shaped-in, length-stored, children_of-with_frame_words, length-with_frame_words, charged-with_frame_words, TenantHasStepLeft, words_under, GoesOn, FollowsResult, IsCome}
+use Rattle.sched_core.proofs.Common.{or_parts, ◌≡◌, ℕ, ◌+◌, Bool, false, List, [], ◌∷◌, Option, Some, None, Ok, refl, ◌∙◌, ap, arith, IsSome, nat_tests, charge, FrameId, frame_at, tree-rising, found-serial, Act, Continuation, Grow, Advance, DidOf, Functions, Tenant, has_child, stored, with_frame_words, charged_for, is_outside, is_root, holding, counted, segments_for, then_done, on_tenant, named, CoreState, with_tenant, without_tenant, with_outcome, IsShaped, AreShaped, shaped-in, length-stored, children_of-with_frame_words, length-with_frame_words, charged-with_frame_words, TenantHasStepLeft, words_under, GoesOn, FollowsResult, IsCome, F, not-false}
 use Rattle.std.specs.Prelude.{length}
 use Rattle.sched_core.proofs.TakenStep.{IsWith, with_tenant-twice, begins, then-changed, step-left}
 use Rattle.sched_core.proofs.Ending.{named-words}
-use Rattle.sched_core.proofs.Acting.{IsSetOut, not-false, held-found}
+use Rattle.sched_core.proofs.Acting.{IsSetOut, held-at}
 
 module _ (n : ℕ) (t : Tenant) where
   without-with : (es : List (ℕ × Tenant)) → without_tenant n (with_tenant n t es) ≡ without_tenant n es
@@ -14,40 +14,27 @@ module _ (n : ℕ) (t : Tenant) where
   outcome-with None es = without-with es
   outcome-with (Some other) es = with_tenant-twice n t other es
 
--- an act that can't be done is one whose stores or whose rest can't
-act-can : (outside rest : Bool) → (outside || rest) ≡ false → rest ≡ false
-act-can true rest is = absurd cc
-act-can false rest is = is
-
-act-inside : (outside rest : Bool) → (outside || rest) ≡ false → outside ≡ false
-act-inside true rest is = absurd cc
-act-inside false rest is = refl
-
-segments-as : (frame : Frame (List ℕ)) (words : List ℕ) (after : Continuation) → length words ≡ length frame.value → segments_for (record frame { value = words }) after ≡ segments_for frame after
+segments-as : (frame : F) (words : List ℕ) (after : Continuation) → length words ≡ length frame.value →
+    segments_for (record frame { value = words }) after ≡ segments_for frame after
 segments-as frame words (Grow more) same = rw same refl
-segments-as frame words (Spawn given size) same = refl
-segments-as frame words Go same = refl
-segments-as frame words Wait same = refl
-segments-as frame words Compute same = refl
-segments-as frame words Return same = refl
+segments-as frame words _ same = refl
 
 module _ (serial : ℕ) (words : List ℕ) {tenant : Tenant} (shape : IsShaped tenant) where
   child-as : has_child (with_frame_words serial words tenant.frames) serial ≡ has_child tenant.frames serial
   child-as = grind (arith, children_of-with_frame_words, length-with_frame_words)
 
-  charged-as : (frame : Frame (List ℕ)) → frame_at tenant.frames serial ≡ Some frame → length words ≡ length frame.value →
+  charged-as : (frame : F) → frame_at tenant.frames serial ≡ Some frame → length words ≡ length frame.value →
       charged_for (with_frame_words serial words tenant.frames) ≡ charged_for tenant.frames
   charged-as frame found same =
       let sum = charged-with_frame_words serial words tenant.frames frame (tree-rising tenant.frames shape.tree) found in
-      let charges : charge (length words) ≡ charge (length frame.value) = ap charge same in
-      let both : charged_for (with_frame_words serial words tenant.frames) + charge (length frame.value) ≡ charged_for tenant.frames + charge (length frame.value) = sum ∙ ap (λ n. charged_for tenant.frames + n) charges in
-      cancel (charged_for (with_frame_words serial words tenant.frames)) (charged_for tenant.frames) (charge (length frame.value)) both
+      cancel (charged_for (with_frame_words serial words tenant.frames)) (charged_for tenant.frames) (ap charge same) sum
     where
-      cancel : (a b c : ℕ) → a + c ≡ b + c → a ≡ b
-      cancel a b c e = omega arith
+      cancel : (a b : ℕ) {c d : ℕ} → d ≡ c → a + c ≡ b + d → a ≡ b
+      cancel a b e sum = omega arith
 
 -- an act that may be done: the step is counted, and then the stores are done
-module _ {I A : Type 0} {functions : Functions I A} {shared : CoreState} {worker : ℕ} {name : FrameId} {tenant : Tenant} {frame : Frame (List ℕ)} {act : Act} (t : IsSetOut functions shared worker name tenant frame act) where
+module _ {I A : Type 0} {functions : Functions I A} {shared : CoreState} {worker : ℕ} {name : FrameId} {tenant : Tenant} {frame : F} {act : Act}
+    (t : IsSetOut functions shared worker name tenant frame act) where
   -- a step is left to it
   pub set-left : TenantHasStepLeft shared name.tenant
   set-left = step-left (begins name.tenant tenant shared t.owner) t.passes.1.0
@@ -67,34 +54,36 @@ module _ {I A : Type 0} {functions : Functions I A} {shared : CoreState} {worker
 
     -- no store is outside it
     pub counted-inside : is_outside act.stores (words_under now name) ≡ false
-    counted-inside = rw own-words (act-inside (is_outside act.stores frame.value) _ t.passes.1.1.0)
+    counted-inside = rw own-words (or_parts (is_outside act.stores frame.value) _ t.passes.1.1.0).0
 
-    module _ {next : CoreState} (stores : next ≡ on_tenant name.tenant (holding name.serial (stored act.stores (words_under now name))) now) (shaped : AreShaped shared.tenants) where
+    module _ {next : CoreState} (stores : next ≡ on_tenant name.tenant (holding name.serial (stored act.stores (words_under now name))) now)
+        (shaped : AreShaped shared.tenants) where
       -- and with the stores
       stored-is : IsWith shared name.tenant (counted (holding name.serial (stored act.stores frame.value) tenant)) next
       stored-is = then-changed _ _ _ now next (holding name.serial (stored act.stores frame.value)) counted-is (rw own-words at stores)
 
       -- after the stores the frame goes on
-      pub goes-on : GoesOn next name worker act.after (counted (holding name.serial (stored act.stores frame.value) tenant)) (record frame { value = stored act.stores frame.value })
+      pub goes-on : GoesOn next name worker act.after (counted (holding name.serial (stored act.stores frame.value) tenant))
+          (record frame { value = stored act.stores frame.value })
       goes-on =
           let words = stored act.stores frame.value in
           let shape = shaped-in name.tenant shared.tenants tenant shaped t.owner in
           let same : length words ≡ length frame.value = length-stored act.stores frame.value in
-          let can : is_bad_then (length frame.value) (has_child tenant.frames frame.serial) act.after ≡ false = act-can (is_outside act.stores frame.value) _ t.passes.1.1.0 in
-          let can' : is_bad_then (length frame.value) (has_child tenant.frames name.serial) act.after ≡ false = rw (found-serial tenant.frames name.serial frame t.found) at can in
+          let can = (or_parts (is_outside act.stores frame.value) _ t.passes.1.1.0).1 in
           record {
             owner = stored-is.there;
-            found = held-found name tenant frame t.found words;
+            found = held-at name.serial words tenant frame t.found;
             runs = not-false _ t.passes.0;
-            can = rw (same, child-as name.serial words shape) can';
+            can = rw (same, child-as name.serial words shape, ← found-serial tenant.frames name.serial frame t.found) can;
             node = t.passes.1.1.1.0;
             segments = rw (segments-as frame words act.after same, charged-as name.serial words shape frame t.found same) t.passes.1.1.1.1.0;
           }
 
       -- which is judged by what comes of that
       pub step_result-advance : {root : Bool} {did : DidOf I} {after : CoreState} → root ≡ is_root frame.path →
-          ((before : Tenant) (going : Frame (List ℕ)) → GoesOn next name worker act.after before going → root ≡ is_root going.path →
-          IsCome name.tenant (then_done functions before worker name going.path going.value act.after) next did after) → FollowsResult functions shared (Advance worker name) (Ok did) after
+          ((before : Tenant) (going : F) → GoesOn next name worker act.after before going → root ≡ is_root going.path →
+          IsCome name.tenant (then_done functions before worker name going.path going.value act.after) next did after) →
+          FollowsResult functions shared (Advance worker name) (Ok did) after
       step_result-advance root came =
           let come = came _ _ goes-on root in
           let among = rw (found-serial tenant.frames name.serial frame t.found) at t.among in

@@ -1,6 +1,6 @@
 -- The names that the proofs take of the library, of the crates below and of this crate's definitions, from one place.
 pub use Rattle.std.proofs.Common.{drop, take, vec_len, ◌==◌}
-pub use Rattle.std.proofs.Math.Bool.{or-false}
+pub use Rattle.std.proofs.Math.Bool.{or-false, or-true}
 pub use Rattle.std.proofs.lemmas.Bool.{true≢false}
 pub use Rattle.std.proofs.lemmas.Bool.Decides.{nat_tests}
 pub use Rattle.std.proofs.lemmas.Grind.{common_steps}
@@ -27,7 +27,7 @@ pub use Rattle.sched_laws.proofs.Common.{counted, does_wait, ended, eq-eqb, fals
 pub use Rattle.sched_laws.proofs.Common.{frame_at_other-without, frames_without, goes_under, has_child, has_frame, holding, in_state, inl, inlet_tests, inr}
 pub use Rattle.sched_laws.proofs.Common.{is_admission, is_bad_then, is_beyond, is_busy_in, is_child_of, is_computed_by, is_lower, is_ok, is_outside, is_ready}
 pub use Rattle.sched_laws.proofs.Common.{is_returned, is_root, is_run_by, is_spendable, job_at, job_under, kept_words, left, length, lone, mark_of_state}
-pub use Rattle.sched_laws.proofs.Common.{meets_busy, newest_ready_of, number_from, only, opened, origins_after, origins_of, parent_of, path_in, raised, refl}
+pub use Rattle.sched_laws.proofs.Common.{meets_busy, newest_ready_of, not-false, number_from, only, opened, or_parts, origins_after, origins_of, parent_of, path_in, raised, refl}
 pub use Rattle.sched_laws.proofs.Common.{refusal_in, reservations_in, reserved_by, root_of, segments_for, shared-after-taken, shared_after, shared_by_nobody}
 pub use Rattle.sched_laws.proofs.Common.{shared_with, sight, spent, staying, steal_tests, step-taken, step_result, stored, submit_tests, submitted, sym}
 pub use Rattle.sched_laws.proofs.Common.{take_tests, taken_by, taken_in, taken_steps, tenant_in, then_done, there-found, tree-rising, true, under-below}

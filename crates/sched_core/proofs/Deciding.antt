@@ -1,5 +1,5 @@
 -- The tests of a step, read off its definition.
-use Rattle.sched_core.proofs.Common.{◌≡◌, ◌≢◌, ℕ, ◌==◌, Bool, true, false, List, [], ◌∷◌, ◌++◌, Option, Some, None, Result, Ok, Err, refl, sym, ◌∙◌, ap, arith, ◌||◌, not, is_err, is_some, MatchResult, nat_tests, or-false, FrameId, Running, Frame, frame_at, has_frame, is_ready, found-serial, Refusal, NoTenant, NoFrame, NotReady, NotHere, NotRunning, NotComputing, NotReturned, Mismatch, NoSteps, BadAct, Busy, Act, StepOf, Take, Steal, Advance, Answer, Finish, Functions, Tenant, left, is_busy_in, is_outside, is_root, has_child, Outcome, unless, lone, refusal_in, is_ready_at, is_run_by, is_computed_by, is_returned, taken_by, finished, no_step, act_by_sight, act_tests, advanced, applies, is_spendable, CoreState, tenant_in, is_busy_elsewhere, meets_busy, unless_busy, shared_refusal, Seen, is_busy_among, AreAfter, AreTenantsRising, frames_in_core, sight_of, words_under, IsSeen, IsRunning, missing_in, missing}
+use Rattle.sched_core.proofs.Common.{◌≡◌, ◌≢◌, ℕ, ◌==◌, Bool, true, false, List, [], ◌∷◌, ◌++◌, Option, Some, None, Result, Ok, Err, refl, sym, ◌∙◌, ap, arith, ◌||◌, not, is_err, is_some, MatchResult, nat_tests, or-false, FrameId, Running, frame_at, has_frame, is_ready, found-serial, Refusal, NoTenant, NoFrame, NotReady, NotHere, NotRunning, NotComputing, NotReturned, Mismatch, NoSteps, BadAct, Busy, Act, StepOf, Take, Steal, Advance, Answer, Finish, Functions, Tenant, left, is_busy_in, is_outside, is_root, has_child, Outcome, unless, lone, refusal_in, is_ready_at, is_run_by, is_computed_by, is_returned, taken_by, finished, no_step, act_by_sight, act_tests, advanced, applies, is_spendable, CoreState, tenant_in, is_busy_elsewhere, meets_busy, unless_busy, shared_refusal, Seen, is_busy_among, AreAfter, AreTenantsRising, frames_in_core, sight_of, words_under, IsSeen, IsRunning, missing_in, missing, F, cases_Bool, inl, inr}
 use Rattle.frame_tree.proofs.TreeLaws.{missing as unfound}
 
 -- a step that names a frame which isn't there is refused, by its tenant's want or its own
@@ -15,7 +15,8 @@ module _ {I : Type 0} (refusal : Refusal) where
       ] refl
 
   pub lost : {A : Type 0} (functions : Functions I A) (shared : CoreState) (step : StepOf A) (name : FrameId) →
-      shared_refusal functions shared step ≡ refusal_in (unless_busy (meets_busy step shared.tenants) (lone functions (tenant_in shared.tenants name.tenant) step)) →
+      shared_refusal functions shared step
+      ≡ refusal_in (unless_busy (meets_busy step shared.tenants) (lone functions (tenant_in shared.tenants name.tenant) step)) →
       lone functions None step ≡ Err NoTenant →
       ((tenant : Tenant) → frame_at tenant.frames name.serial ≡ None → lone functions (Some tenant) step ≡ Err NoFrame) → missing shared name ≡ Some refusal →
       shared_refusal functions shared step ≡ Some refusal
@@ -32,15 +33,13 @@ busy-last ((true, refusal) ∷ tests) here elsewhere effect = refl
 busy-last ((false, refusal) ∷ tests) here elsewhere effect = busy-last tests here elsewhere effect
 
 -- a worker that is busy with some tenant's frame is busy with this one's or elsewhere
-busy-later : (worker number : ℕ) (entries : List (ℕ × Tenant)) → AreAfter number entries → is_busy_elsewhere worker number entries ≡ is_busy_among worker entries
+busy-later : (worker number : ℕ) (entries : List (ℕ × Tenant)) → AreAfter number entries →
+    is_busy_elsewhere worker number entries ≡ is_busy_among worker entries
 busy-later worker number [] after = refl
 busy-later worker number (entry ∷ entries) after = grind (arith, busy-later worker number entries after.1, nat_tests)
 
 or-swap : (own first elsewhere : Bool) → (own || (first || elsewhere)) ≡ (first || (own || elsewhere))
-or-swap true true elsewhere = refl
-or-swap true false elsewhere = refl
-or-swap false true elsewhere = refl
-or-swap false false elsewhere = refl
+or-swap own first elsewhere = grind arith
 
 pub some-is : {X : Type 0} (x y : X) → Some x ≡ Some y → x ≡ y
 some-is x y e = cc
@@ -48,13 +47,12 @@ some-is x y e = cc
 pub busy-among : (worker number : ℕ) (entries : List (ℕ × Tenant)) (tenant : Tenant) → AreTenantsRising entries → tenant_in entries number ≡ Some tenant →
     (is_busy_in worker tenant.frames || is_busy_elsewhere worker number entries) ≡ is_busy_among worker entries
 busy-among worker number [] tenant rising is = absurd cc
-busy-among worker number (entry ∷ entries) tenant rising is =
-    elim (entry.0 == number) as (λ b. (entry.0 == number) ≡ b → (is_busy_in worker tenant.frames || is_busy_elsewhere worker number (entry ∷ entries)) ≡ is_busy_among worker (entry ∷ entries)) [
-      | true ↦ grind (arith, some-is, nat_tests, busy-later)
-      | false ↦ λ other.
-          let rest = busy-among worker number entries tenant rising.1 (rw other at is) in
-          rw other (or-swap (is_busy_in worker tenant.frames) (is_busy_in worker entry.1.frames) (is_busy_elsewhere worker number entries) ∙ ap (λ b. is_busy_in worker entry.1.frames || b) rest)
-    ] refl
+busy-among worker number (entry ∷ entries) tenant rising is = elim (cases_Bool (entry.0 == number)) [
+  | inl same ↦ grind (arith, some-is, nat_tests, busy-later)
+  | inr other ↦ (let rest = busy-among worker number entries tenant rising.1 (rw other at is) in
+      let first = is_busy_in worker entry.1.frames in
+      rw other (or-swap (is_busy_in worker tenant.frames) first (is_busy_elsewhere worker number entries) ∙ ap (λ b. first || b) rest))
+]
 
 -- the tests with the worker's business anywhere as the last one
 pub busy-anywhere : {I : Type 0} (tests : List (Bool × Refusal)) (shared : CoreState) (worker number : ℕ) (tenant : Tenant) (effect : Outcome I) →
@@ -81,25 +79,29 @@ second-part ((true, told) ∷ tests) others is = absurd cc
 second-part ((false, told) ∷ tests) others is = second-part tests others is
 
 -- Take, where the tenant and the frame are there
-module _ {I A : Type 0} (functions : Functions I A) {shared : CoreState} (worker : ℕ) {name : FrameId} {tenant : Tenant} {frame : Frame (List ℕ)} {seen : Seen}
+module _ {I A : Type 0} (functions : Functions I A) {shared : CoreState} (worker : ℕ) {name : FrameId} {tenant : Tenant} {frame : F} {seen : Seen}
     (is : IsSeen shared name tenant frame seen) (rising : AreTenantsRising shared.tenants) where
-  pub take-decided : refusal_in (unless ((not (is_ready seen.state), NotReady) ∷ (not (is_ready_at worker seen.state), NotHere) ∷ (seen.left.steps == 0, NoSteps) ∷ (is_busy_among worker shared.tenants, Busy) ∷ []) (tt {0})) ≡ shared_refusal functions shared (Take worker name)
+  pub take-decided : refusal_in (unless ((not (is_ready seen.state), NotReady) ∷ (not (is_ready_at worker seen.state), NotHere)
+      ∷ (seen.left.steps == 0, NoSteps) ∷ (is_busy_among worker shared.tenants, Busy) ∷ []) (tt {0})) ≡ shared_refusal functions shared (Take worker name)
   take-decided =
-      rw (is.state, is.left, is.owner, is.found)
-      (busy-anywhere {I = I} ((not (is_ready frame.state), NotReady) ∷ (not (is_ready_at worker frame.state), NotHere) ∷ ((left tenant).steps == 0, NoSteps) ∷ []) shared worker name.tenant tenant (taken_by tenant worker frame) rising is.owner)
+      let here = not (is_ready_at worker frame.state) in
+      let tests : List (Bool × Refusal) = (not (is_ready frame.state), NotReady) ∷ (here, NotHere) ∷ ((left tenant).steps == 0, NoSteps) ∷ [] in
+      rw (is.state, is.left, is.owner, is.found) (busy-anywhere {I = I} tests shared worker name.tenant tenant (taken_by tenant worker frame) rising is.owner)
 
   -- Steal
-  pub steal-decided : (from : ℕ) →
-      refusal_in (unless ((not (is_ready seen.state), NotReady) ∷ (not (is_ready_at from seen.state) || (from == worker), NotHere) ∷ (seen.left.steps == 0, NoSteps) ∷ (is_busy_among worker shared.tenants, Busy) ∷ []) (tt {0})) ≡ shared_refusal functions shared (Steal worker from name)
+  pub steal-decided : (from : ℕ) → refusal_in (unless ((not (is_ready seen.state), NotReady) ∷ (not (is_ready_at from seen.state) || (from == worker), NotHere)
+      ∷ (seen.left.steps == 0, NoSteps) ∷ (is_busy_among worker shared.tenants, Busy) ∷ []) (tt {0})) ≡ shared_refusal functions shared (Steal worker from name)
   steal-decided from =
-      rw (is.state, is.left, is.owner, is.found)
-      (busy-anywhere {I = I} ((not (is_ready frame.state), NotReady) ∷ (not (is_ready_at from frame.state) || (from == worker), NotHere) ∷ ((left tenant).steps == 0, NoSteps) ∷ []) shared worker name.tenant tenant (taken_by tenant worker frame) rising is.owner)
+      let here = not (is_ready_at from frame.state) || (from == worker) in
+      let tests : List (Bool × Refusal) = (not (is_ready frame.state), NotReady) ∷ (here, NotHere) ∷ ((left tenant).steps == 0, NoSteps) ∷ [] in
+      rw (is.state, is.left, is.owner, is.found) (busy-anywhere {I = I} tests shared worker name.tenant tenant (taken_by tenant worker frame) rising is.owner)
 
   -- Finish
-  pub finish-decided : refusal_in (unless ((not (is_returned seen.state) || not (is_root frame.path), NotReturned) ∷ (seen.left.steps == 0, NoSteps) ∷ (is_busy_among worker shared.tenants, Busy) ∷ []) (tt {0})) ≡ shared_refusal functions shared (Finish worker name)
+  pub finish-decided : refusal_in (unless ((not (is_returned seen.state) || not (is_root frame.path), NotReturned) ∷ (seen.left.steps == 0, NoSteps)
+      ∷ (is_busy_among worker shared.tenants, Busy) ∷ []) (tt {0})) ≡ shared_refusal functions shared (Finish worker name)
   finish-decided =
-      rw (is.state, is.left, is.owner, is.found)
-      (busy-anywhere {I = I} ((not (is_returned frame.state) || not (is_root frame.path), NotReturned) ∷ ((left tenant).steps == 0, NoSteps) ∷ []) shared worker name.tenant tenant (finished tenant frame) rising is.owner)
+      let tests : List (Bool × Refusal) = (not (is_returned frame.state) || not (is_root frame.path), NotReturned) ∷ ((left tenant).steps == 0, NoSteps) ∷ [] in
+      rw (is.state, is.left, is.owner, is.found) (busy-anywhere {I = I} tests shared worker name.tenant tenant (finished tenant frame) rising is.owner)
 
   -- by its tests, whichever way they were made
   pub finish-told : (unfinished busy : Bool) (told : Result (Unit {0}) Refusal) → unfinished ≡ (not (is_returned seen.state) || not (is_root frame.path)) →
@@ -108,18 +110,23 @@ module _ {I A : Type 0} (functions : Functions I A) {shared : CoreState} (worker
   finish-told unfinished busy told u b same = grind (arith, finish-decided)
 
 -- Advance
-module _ {I A : Type 0} (functions : Functions I A) {shared : CoreState} (worker : ℕ) {name : FrameId} {tenant : Tenant} {frame : Frame (List ℕ)} {seen : Seen}
+module _ {I A : Type 0} (functions : Functions I A) {shared : CoreState} (worker : ℕ) {name : FrameId} {tenant : Tenant} {frame : F} {seen : Seen}
     (is : IsSeen shared name tenant frame seen) where
   pub advance-decided : (act : Act) → act ≡ functions.next (sight_of shared name) →
-      refusal_in (unless ((not (is_run_by worker seen.state), NotRunning) ∷ (seen.left.steps == 0, NoSteps) ∷ act_tests tenant frame act) (tt {0})) ≡ shared_refusal functions shared (Advance worker name)
+      refusal_in (unless ((not (is_run_by worker seen.state), NotRunning) ∷ (seen.left.steps == 0, NoSteps) ∷ act_tests tenant frame act) (tt {0}))
+      ≡ shared_refusal functions shared (Advance worker name)
   advance-decided act same =
+      let next = act_by_sight functions tenant frame in
       rw (same, is.state, is.left, is.owner, is.found)
-      (no-effect ((not (is_run_by worker frame.state), NotRunning) ∷ no_step tenant ∷ act_tests tenant frame (act_by_sight functions tenant frame)) (advanced functions tenant worker name frame (act_by_sight functions tenant frame))
-      ∙ sym (not-elsewhere _))
+      (no-effect ((not (is_run_by worker frame.state), NotRunning) ∷ no_step tenant ∷ act_tests tenant frame next)
+      (advanced functions tenant worker name frame next) ∙ sym (not-elsewhere _))
 
   -- Answer
   pub answer-decided : (answer : A) →
-      refusal_in (unless ((not (is_computed_by worker seen.state), NotComputing) ∷ (not (functions.same (functions.asked answer) (functions.input (words_under shared name))), Mismatch) ∷ (seen.left.steps == 0, NoSteps) ∷ (is_outside (functions.accept (words_under shared name) answer) (words_under shared name), BadAct) ∷ []) (tt {0})) ≡ shared_refusal functions shared (Answer worker name answer)
+      refusal_in (unless ((not (is_computed_by worker seen.state), NotComputing)
+      ∷ (not (functions.same (functions.asked answer) (functions.input (words_under shared name))), Mismatch) ∷ (seen.left.steps == 0, NoSteps)
+      ∷ (is_outside (functions.accept (words_under shared name) answer) (words_under shared name), BadAct) ∷ []) (tt {0}))
+      ≡ shared_refusal functions shared (Answer worker name answer)
   answer-decided answer = grind (arith, no-effect, not-elsewhere)
 
 -- a refusal that is passed on
@@ -132,7 +139,7 @@ module _ {X : Type 0} (answer : Result X Refusal) (told refusal : Refusal) (is :
   told-on P Q right = rw (is, same) right
 
 -- what is seen of a frame
-module _ {shared : CoreState} {name : FrameId} {tenant : Tenant} {frame : Frame (List ℕ)} {seen : Seen} (is : IsSeen shared name tenant frame seen) where
+module _ {shared : CoreState} {name : FrameId} {tenant : Tenant} {frame : F} {seen : Seen} (is : IsSeen shared name tenant frame seen) where
   pub seen-words : frame.value ≡ words_under shared name
   seen-words = rw (is.owner, is.found) refl
 
@@ -140,15 +147,16 @@ module _ {shared : CoreState} {name : FrameId} {tenant : Tenant} {frame : Frame 
   seen-child = rw (found-serial tenant.frames name.serial frame is.found, is.owner) refl
 
 -- Advance, where the worker runs the frame and a step is left, by the tests of the act
-module _ {I A : Type 0} (functions : Functions I A) (shared : CoreState) (worker : ℕ) (name : FrameId) (tenant : Tenant) (frame : Frame (List ℕ)) (seen : Seen)
+module _ {I A : Type 0} (functions : Functions I A) (shared : CoreState) (worker : ℕ) (name : FrameId) (tenant : Tenant) (frame : F) (seen : Seen)
     (act : Act) (answer : Result (Unit {0}) Refusal) (same : act ≡ functions.next (sight_of shared name))
     (told : answer ≡ unless (act_tests tenant frame act) (tt {0})) where
   pub advance-goes : (runs : Bool) → IsSeen shared name tenant frame seen → runs ≡ is_run_by worker seen.state →
       Ok (tt {0}) ≡ unless ((not runs, NotRunning) ∷ (seen.left.steps == 0, NoSteps) ∷ []) (tt {0}) →
       refusal_in answer ≡ shared_refusal functions shared (Advance worker name)
   advance-goes runs is run passes =
-      let passes' : unless ((not (is_run_by worker seen.state), NotRunning) ∷ (seen.left.steps == 0, NoSteps) ∷ []) (tt {0}) ≡ Ok (tt {0}) = rw (← run) (sym passes) in
-      ap refusal_in (told ∙ sym (second-part ((not (is_run_by worker seen.state), NotRunning) ∷ (seen.left.steps == 0, NoSteps) ∷ []) (act_tests tenant frame act) passes'))
+      let tests : List (Bool × Refusal) = (not (is_run_by worker seen.state), NotRunning) ∷ (seen.left.steps == 0, NoSteps) ∷ [] in
+      let passes' : unless tests (tt {0}) ≡ Ok (tt {0}) = rw (← run) (sym passes) in
+      ap refusal_in (told ∙ sym (second-part tests (act_tests tenant frame act) passes'))
       ∙ advance-decided functions worker is act same
 
   pub advance-told : IsRunning shared name worker tenant frame seen → refusal_in answer ≡ shared_refusal functions shared (Advance worker name)
@@ -157,17 +165,11 @@ module _ {I A : Type 0} (functions : Functions I A) (shared : CoreState) (worker
 
 -- a frame with no parent is a root
 pub root-is : (top : Bool) (seen : Seen) (path : List ℕ) → is_some seen.parent ≡ not top → is_some seen.parent ≡ not (is_root path) → top ≡ is_root path
-root-is top seen path is root = unnot top (is_root path) (sym is ∙ root)
-  where
-    unnot : (a b : Bool) → not a ≡ not b → a ≡ b
-    unnot true true e = refl
-    unnot true false e = absurd cc
-    unnot false true e = absurd cc
-    unnot false false e = refl
+root-is top seen path is root = grind arith
 
 -- Answer, by its tests
-pub answer-told : {I A : Type 0} (functions : Functions I A) (shared : CoreState) (worker : ℕ) (name : FrameId) (answer : A) (tenant : Tenant) (frame : Frame (List ℕ)) (seen : Seen)
-    (computes other outside : Bool) (told : Result (Unit {0}) Refusal) →
+pub answer-told : {I A : Type 0} (functions : Functions I A) (shared : CoreState) (worker : ℕ) (name : FrameId) (answer : A) (tenant : Tenant)
+    (frame : F) (seen : Seen) (computes other outside : Bool) (told : Result (Unit {0}) Refusal) →
     IsSeen shared name tenant frame seen → computes ≡ is_computed_by worker seen.state →
     other ≡ not (functions.same (functions.asked answer) (functions.input (words_under shared name))) →
     outside ≡ is_outside (functions.accept (words_under shared name) answer) (words_under shared name) →
@@ -182,8 +184,9 @@ applies-is ((true, refusal) ∷ tests) = refl
 applies-is ((false, refusal) ∷ tests) = applies-is tests
 
 -- the job of a frame that runs may be given up where its next act can't be done
-pub spend-running : {I A : Type 0} (functions : Functions I A) (shared : CoreState) (name : FrameId) (tenant : Tenant) (frame : Frame (List ℕ)) (seen : Seen) (act : Act) (holder : ℕ) (answer : Result (Unit {0}) Refusal) →
-    IsSeen shared name tenant frame seen → seen.state ≡ Running holder → seen.left.steps ≢ 0 → act ≡ functions.next (sight_of shared name) →
+pub spend-running : {I A : Type 0} (functions : Functions I A) (shared : CoreState) (name : FrameId) (tenant : Tenant) (frame : F) (seen : Seen)
+    (act : Act) (holder : ℕ) (answer : Result (Unit {0}) Refusal) → IsSeen shared name tenant frame seen → seen.state ≡ Running holder →
+    seen.left.steps ≢ 0 → act ≡ functions.next (sight_of shared name) →
     answer ≡ unless (act_tests tenant frame act) (tt {0}) → is_err answer ≡ is_spendable functions tenant frame
 spend-running functions shared name tenant frame seen act holder answer is runs some same told =
     let steps : ((left tenant).steps == 0) ≡ false = rw is.left at (none-left seen.left.steps some) in
@@ -192,3 +195,6 @@ spend-running functions shared name tenant frame seen act holder answer is runs 
   where
     none-left : (n : ℕ) → n ≢ 0 → (n == 0) ≡ false
     none-left n some = grind (arith, nat_tests)
+
+-- what is seen of a frame
+pub ruleset seen_so = (seen-words, seen-child)

@@ -1,20 +1,20 @@
 -- A job that ends, with all its frames.
-use Rattle.sched_core.proofs.Common.{◌≡◌, ℕ, false, List, [], ◌∷◌, Option, Some, None, Ok, refl, arith, IsSome, not, FrameId, Frame, frame_at, path_in, root_of, IsTree, there-found, aborted-leaf, Live, Cancelled as CancelledJob, NotSpent, Finish, Spend, Cancel, Functions, Tenant, has_child, job_at, ended, spent, finished, finish_tests, is_spendable, on_tenant, without_under, named, job_of, CoreState, tenant_in, step_result, shared_refusal, AreShaped, path-there, shaped-in, live-root, root-above, frames_in_core, words_under}
+use Rattle.sched_core.proofs.Common.{◌≡◌, ℕ, false, List, [], ◌∷◌, Option, Some, None, Ok, refl, arith, IsSome, not, FrameId, frame_at, path_in, root_of, IsTree, there-found, aborted-leaf, Live, Cancelled as CancelledJob, NotSpent, Finish, Spend, Cancel, Functions, Tenant, has_child, job_at, ended, spent, finished, finish_tests, is_spendable, on_tenant, without_under, named, job_of, CoreState, tenant_in, step_result, shared_refusal, AreShaped, path-there, shaped-in, live-root, root-above, frames_in_core, words_under, F, Bool, Refusal}
 use Rattle.sched_rules.specs.declared.step.DidOf.TheVariants.{Cancelled}
-use Rattle.sched_core.proofs.Changing.{with_change-there}
-use Rattle.sched_core.proofs.TakenStep.{IsWith, IsGoing, going}
+use Rattle.sched_core.proofs.TakenStep.{IsWith, IsGoing, going, with_change-there}
 
 -- the tenant and the frame of a name
 pub record IsNamed (shared : CoreState) (name : FrameId) : Type 0 where
   pub tenant : Tenant
-  pub frame : Frame (List ℕ)
+  pub frame : F
   pub owner : tenant_in shared.tenants name.tenant ≡ Some tenant
   pub found : frame_at tenant.frames name.serial ≡ Some frame
 
 pub named-there : (shared : CoreState) (name : FrameId) → IsSome (named shared name) → IsNamed shared name
 named-there shared name some = by-owner (tenant_in shared.tenants name.tenant) refl
   where
-    by-frame : (tenant : Tenant) → tenant_in shared.tenants name.tenant ≡ Some tenant → (found : Option (Frame (List ℕ))) → frame_at tenant.frames name.serial ≡ found → IsNamed shared name
+    by-frame : (tenant : Tenant) → tenant_in shared.tenants name.tenant ≡ Some tenant → (found : Option F) →
+        frame_at tenant.frames name.serial ≡ found → IsNamed shared name
     by-frame tenant owner None lost = absurd (let no = rw (owner, lost) at some in cc)
     by-frame tenant owner (Some frame) found = record { tenant = tenant; frame = frame; owner = owner; found = found }
 
@@ -23,7 +23,7 @@ named-there shared name some = by-owner (tenant_in shared.tenants name.tenant) r
     by-owner (Some tenant) owner = by-frame tenant owner (frame_at tenant.frames name.serial) refl
 
 -- a frame of the tenant as it is now
-module _ (name : FrameId) (tenant : Tenant) (frame : Frame (List ℕ)) (found : frame_at tenant.frames name.serial ≡ Some frame) where
+module _ (name : FrameId) (tenant : Tenant) (frame : F) (found : frame_at tenant.frames name.serial ≡ Some frame) where
   pub with-named : (before now : CoreState) → IsWith before name.tenant tenant now → IsSome (named now name)
   with-named before now is = let there = is.there in rw (there, found) refl
 
@@ -36,15 +36,17 @@ module _ (before now : CoreState) (number : ℕ) (tenant : Tenant) where
   with-there is = let there = is.there in rw there refl
 
   -- one change of the tenant
-  pub as-change : (change : Tenant → Tenant) → tenant_in before.tenants number ≡ Some tenant → IsWith before number (change tenant) now → now ≡ on_tenant number change before
+  pub as-change : (change : Tenant → Tenant) → tenant_in before.tenants number ≡ Some tenant → IsWith before number (change tenant) now →
+      now ≡ on_tenant number change before
   as-change change owner is = grind (arith, with_change-there)
 
   -- after an abort a frame has no child
-  pub aborted-childless : (serial : ℕ) → IsTree tenant.frames → IsWith before number (without_under serial tenant) now → has_child (frames_in_core now number) serial ≡ false
+  pub aborted-childless : (serial : ℕ) → IsTree tenant.frames → IsWith before number (without_under serial tenant) now →
+      has_child (frames_in_core now number) serial ≡ false
   aborted-childless serial tree is = grind (arith, aborted-leaf)
 
 -- a root whose path is known is there
-pub root-found : (frames : List (Frame (List ℕ))) (serial : ℕ) → path_in frames serial ≡ serial ∷ [] → (frame : Frame (List ℕ)) × (frame_at frames serial ≡ Some frame)
+pub root-found : (frames : List F) (serial : ℕ) → path_in frames serial ≡ serial ∷ [] → (frame : F) × (frame_at frames serial ≡ Some frame)
 root-found frames serial is = there-found frames serial (path-there frames serial is)
 
 -- Cancel: the live job
@@ -60,7 +62,9 @@ module _ (shared : CoreState) (number job root : ℕ) where
     where
       by-owner : (owner : Option Tenant) → tenant_in shared.tenants number ≡ owner → IsLive functions shared number job root
       by-owner None lost = absurd (let no = rw lost at is in cc)
-      by-owner (Some tenant) owner = let at : job_at tenant.jobs job ≡ Some (Live root) = rw owner at is in record { tenant = tenant; owner = owner; job_is = at; among = rw (owner, at) refl }
+      by-owner (Some tenant) owner =
+          let at : job_at tenant.jobs job ≡ Some (Live root) = rw owner at is in
+          record { tenant = tenant; owner = owner; job_is = at; among = rw (owner, at) refl }
 
   -- its root is there
   pub cancel-root : (tenant : Tenant) → AreShaped shared.tenants → tenant_in shared.tenants number ≡ Some tenant → job_at tenant.jobs job ≡ Some (Live root) →
@@ -77,10 +81,12 @@ module _ {I A : Type 0} (functions : Functions I A) (shared : CoreState) (name :
 
   pub spend-going : None ≡ shared_refusal functions shared (Spend name) →
       IsGoing functions shared (Spend name) name (λ tenant frame. (not (is_spendable functions tenant frame), NotSpent) ∷ []) spent
-  spend-going none = going functions shared (Spend name) name false (λ tenant frame. (not (is_spendable functions tenant frame), NotSpent) ∷ []) spent refl refl (λ tenant. refl) none
+  spend-going none =
+      let tests : Tenant → F → List (Bool × Refusal) = λ tenant frame. (not (is_spendable functions tenant frame), NotSpent) ∷ [] in
+      going functions shared (Spend name) name false tests spent refl refl (λ tenant. refl) none
 
 -- the root above a frame is there
-module _ (shared : CoreState) (name : FrameId) (tenant : Tenant) (frame : Frame (List ℕ)) (owner : tenant_in shared.tenants name.tenant ≡ Some tenant)
+module _ (shared : CoreState) (name : FrameId) (tenant : Tenant) (frame : F) (owner : tenant_in shared.tenants name.tenant ≡ Some tenant)
     (found : frame_at tenant.frames name.serial ≡ Some frame) where
   pub spend-root : AreShaped shared.tenants → IsSome (named shared (record { tenant = name.tenant; serial = root_of frame.path }))
   spend-root shaped =

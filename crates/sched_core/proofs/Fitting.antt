@@ -1,5 +1,5 @@
 -- What is seen of a core whose frames all fit.
-use Rattle.sched_core.proofs.Common.{◌≡◌, ℕ, Bool, true, List, [], ◌∷◌, Some, Result, refl, arith, is_ok, Quota, FrameId, Frame, frame_at, IsTree, IsUnder, IsTop, tree-induction, Refusal, StepOf, DidOf, Functions, Tree, Tenant, sight, Fitting, Rooting, mark_of_state, AllFit, EveryFrameFits, CoreState, shared_by_nobody, IsOneStep, RootFits, origins_after, F, kids, fits-holds, IsLawful, sight-top, sight-under, FitsSomehow, sight_of, words_under, Seen, IsKeptFitting, IsFitting, IsSeen, IsReturnedUnder}
+use Rattle.sched_core.proofs.Common.{◌≡◌, ℕ, Bool, true, [], ◌∷◌, Some, Result, refl, arith, is_ok, Quota, FrameId, frame_at, IsTree, IsUnder, IsTop, tree-induction, Refusal, StepOf, DidOf, Functions, Tree, Tenant, sight, Fitting, Rooting, mark_of_state, AllFit, EveryFrameFits, CoreState, shared_by_nobody, IsOneStep, RootFits, origins_after, F, kids, fits-holds, IsLawful, sight-top, sight-under, FitsSomehow, sight_of, words_under, Seen, IsKeptFitting, IsFitting, IsSeen, IsReturnedUnder}
 use Rattle.sched_core.proofs.Parents.{parent-of}
 use Rattle.sched_core.proofs.Stepping.{kept-still, fits-still}
 
@@ -22,7 +22,7 @@ module _ (fits : Fitting) (tree : Tree) (every : EveryFrameFits fits tree) where
       under f u above s at = rw (sight-under tree s f at u) (found-fits s f at, above u.parent u.there)
 
 -- a frame that is there
-module _ (fits : Fitting) (rooted : Rooting) {shared : CoreState} {name : FrameId} {tenant : Tenant} {frame : Frame (List ℕ)} {seen : Seen}
+module _ (fits : Fitting) (rooted : Rooting) {shared : CoreState} {name : FrameId} {tenant : Tenant} {frame : F} {seen : Seen}
     (core : IsFitting fits rooted shared) (is : IsSeen shared name tenant frame seen) where
   tenant-fits : EveryFrameFits fits tenant.frames
   tenant-fits = (core.1.tenants name.tenant tenant is.owner).frames
@@ -37,7 +37,7 @@ module _ (fits : Fitting) (rooted : Rooting) {shared : CoreState} {name : FrameI
 
 -- and its parent
 module _ (fits : Fitting) (rooted : Rooting) where
-  pub parent-fits : (shared : CoreState) (name above : FrameId) (tenant : Tenant) (frame : Frame (List ℕ)) (seen : Seen) → IsFitting fits rooted shared →
+  pub parent-fits : (shared : CoreState) (name above : FrameId) (tenant : Tenant) (frame : F) (seen : Seen) → IsFitting fits rooted shared →
       IsReturnedUnder shared name above tenant frame seen → AllFit fits (words_under shared above ∷ words_under shared name ∷ [])
   parent-fits shared name above tenant frame seen core is =
       let p = parent-of shared name tenant frame seen above is.seen_so is.above in
@@ -53,11 +53,12 @@ module _ (fits : Fitting) (rooted : Rooting) where
       }
 
 -- a core keeps what it keeps
-pub kept-fitting : {I A : Type 0} (functions : Functions I A) (fits : Fitting) (rooted : Rooting) (before : CoreState) (step : StepOf A) (answer : Result (DidOf I) Refusal) (after : CoreState) (was is : Bool) → IsLawful functions fits rooted →
-    IsKeptFitting fits rooted was before → IsOneStep functions before step answer after → (is ≡ true → was ≡ true) → (is ≡ true → is_ok answer ≡ true → RootFits fits rooted step) → IsKeptFitting fits rooted is after
-kept-fitting functions fits rooted before step answer after was is lawful core one earlier root =
-    record {
-      kept = kept-still functions before step after answer core.kept one;
-      fit = λ so. (let origins = core.fit (earlier so) in
-          (origins_after origins.0 step answer, fits-still before lawful step answer after core.kept one origins.0 origins.1 (root so)));
-    }
+module _ {I A : Type 0} (functions : Functions I A) (fits : Fitting) (rooted : Rooting) (before : CoreState) (step : StepOf A)
+    (answer : Result (DidOf I) Refusal) (after : CoreState) (was is : Bool) where
+  pub kept-fitting : IsLawful functions fits rooted → IsKeptFitting fits rooted was before → IsOneStep functions before step answer after →
+      (is ≡ true → was ≡ true) → (is ≡ true → is_ok answer ≡ true → RootFits fits rooted step) → IsKeptFitting fits rooted is after
+  kept-fitting lawful core one earlier root = record {
+    kept = kept-still functions before step after answer core.kept one;
+    fit = λ so. (let origins = core.fit (earlier so) in
+        (origins_after origins.0 step answer, fits-still before lawful step answer after core.kept one origins.0 origins.1 (root so)));
+  }

@@ -1,39 +1,46 @@
 -- A returned frame is taken in by its parent.
-use Rattle.sched_core.proofs.Common.{◌≡◌, ◌≢◌, ℕ, ◌<◌, ◌==◌, Bool, true, false, List, [], ◌∷◌, Option, Some, None, Result, Ok, Err, refl, sym, ◌∙◌, ap, arith, ◌||◌, ◌&&◌, not, IsSome, if◌then◌else◌, nat_tests, eq-eqb, FrameId, State, Ready, Running, Computing, Waiting, Returned, Frame, frame_at, name_of, parent_of, goes_under, aborted, frames_without, IsTree, is_child_of, Each, tree-rising, found-each, found-serial, there-found, under-there, under-below, child-under-parent, aborted-itself, frame_at_other-without, Refusal, NoTenant, NoFrame, NotReturned, BadAct, Busy, InletAct, Inlet, TakenIn, Functions, Tenant, Tree, words_in, is_outside, has_child, stored, Outcome, unless, lone, refusal_in, inlet_tests, taken_in, staying, aborted_beside, does_wait, is_waiting, is_returned, holding, counted, in_state, on_tenant, named, CoreState, tenant_in, is_busy_elsewhere, unless_busy, step_result, shared_refusal, AreShaped, shaped-in, returned-leaf, is_busy_among, AreTenantsRising, words_under, frames_in_core, TenantHasStepLeft, Seen, MayBeTakenIn, IsReturnedUnder, FollowsResult, staying_with, AllPass}
+use Rattle.sched_core.proofs.Common.{◌≡◌, if◌then◌else◌, ◌≢◌, ℕ, ◌<◌, ◌==◌, Bool, true, false, List, [], ◌∷◌, Option, Some, None, Result, Ok, Err, refl, sym, ◌∙◌, ap, arith, ◌||◌, ◌&&◌, not, IsSome, nat_tests, eq-eqb, FrameId, State, Ready, Returned, frame_at, name_of, parent_of, goes_under, aborted, frames_without, IsTree, is_child_of, Each, tree-rising, found-each, found-serial, there-found, under-there, under-below, child-under-parent, aborted-itself, frame_at_other-without, Refusal, NoTenant, NoFrame, NotReturned, BadAct, Busy, InletAct, Inlet, TakenIn, Functions, Tenant, Tree, words_in, is_outside, has_child, stored, Outcome, unless, lone, refusal_in, inlet_tests, taken_in, staying, aborted_beside, does_wait, is_waiting, is_returned, holding, counted, in_state, on_tenant, named, CoreState, tenant_in, is_busy_elsewhere, unless_busy, step_result, shared_refusal, AreShaped, shaped-in, returned-leaf, is_busy_among, AreTenantsRising, words_under, frames_in_core, TenantHasStepLeft, Seen, MayBeTakenIn, IsReturnedUnder, FollowsResult, staying_with, AllPass, F, not-false, cases_Bool, inl, inr}
 use Rattle.sched_core.proofs.Deciding.{some-is}
 use Rattle.sched_core.proofs.Parents.{inlet-told}
 use Rattle.sched_core.proofs.TakenStep.{all-pass, IsWith, begins, then-changed, step-left}
-use Rattle.sched_core.proofs.Acting.{not-false, held-at}
+use Rattle.sched_core.proofs.Acting.{held-at}
 
 -- what an inlet that is taken comes to
 pub record IsInlet {I A : Type 0} (functions : Functions I A) (shared : CoreState) (worker : ℕ) (name : FrameId) : Type 0 where
   pub tenant : Tenant
-  pub frame : Frame (List ℕ)
+  pub frame : F
   pub parent : ℕ
   pub owner : tenant_in shared.tenants name.tenant ≡ Some tenant
   pub found : frame_at tenant.frames name.serial ≡ Some frame
   pub path : parent_of frame.path ≡ Some parent
   pub passes : AllPass (inlet_tests tenant worker frame parent (functions.inlet (words_in tenant.frames parent) frame.value))
-  pub among : step_result functions shared (Inlet worker name) ≡ Ok (taken_in tenant worker name parent (functions.inlet (words_in tenant.frames parent) frame.value))
+  pub among : step_result functions shared (Inlet worker name)
+      ≡ Ok (taken_in tenant worker name parent (functions.inlet (words_in tenant.frames parent) frame.value))
 
-pub inlet-going : {I A : Type 0} (functions : Functions I A) (shared : CoreState) (worker : ℕ) (name : FrameId) → None ≡ shared_refusal functions shared (Inlet worker name) → IsInlet functions shared worker name
+pub inlet-going : {I A : Type 0} (functions : Functions I A) (shared : CoreState) (worker : ℕ) (name : FrameId) →
+    None ≡ shared_refusal functions shared (Inlet worker name) → IsInlet functions shared worker name
 inlet-going {I = I} {A = A} functions shared worker name none = by-owner (tenant_in shared.tenants name.tenant) refl
   where
-    refused : (refusal : Refusal) (alone : Result (Outcome I) Refusal) → alone ≡ Err refusal → None ≡ refusal_in (unless_busy (is_busy_elsewhere worker name.tenant shared.tenants) alone) → ⊥
+    refused : (refusal : Refusal) (alone : Result (Outcome I) Refusal) → alone ≡ Err refusal →
+        None ≡ refusal_in (unless_busy (is_busy_elsewhere worker name.tenant shared.tenants) alone) → ⊥
     refused refusal alone is right = let wrong : None ≡ Some refusal = rw is at right in cc
 
-    by-parent : (tenant : Tenant) (frame : Frame (List ℕ)) → tenant_in shared.tenants name.tenant ≡ Some tenant → frame_at tenant.frames name.serial ≡ Some frame → (parent : Option ℕ) → parent_of frame.path ≡ parent → IsInlet functions shared worker name
+    by-parent : (tenant : Tenant) (frame : F) → tenant_in shared.tenants name.tenant ≡ Some tenant → frame_at tenant.frames name.serial ≡ Some frame →
+        (parent : Option ℕ) → parent_of frame.path ≡ parent → IsInlet functions shared worker name
     by-parent tenant frame owner found None path =
         absurd (refused NotReturned (lone functions (tenant_in shared.tenants name.tenant) (Inlet worker name)) (rw (owner, found, path) refl) none)
     by-parent tenant frame owner found (Some parent) path =
         let act = functions.inlet (words_in tenant.frames parent) frame.value in
         let effect : Outcome I = taken_in tenant worker name parent act in
-        let is : lone functions (tenant_in shared.tenants name.tenant) (Inlet worker name) ≡ unless (inlet_tests tenant worker frame parent act) effect = rw (owner, found, path) refl in
-        let passed = all-pass {I = I} (is_busy_elsewhere worker name.tenant shared.tenants) (inlet_tests tenant worker frame parent act) effect (sym (rw is at none)) in
+        let tests = inlet_tests tenant worker frame parent act in
+        let is : lone functions (tenant_in shared.tenants name.tenant) (Inlet worker name) ≡ unless tests effect = rw (owner, found, path) refl in
+        let passed = all-pass {I = I} (is_busy_elsewhere worker name.tenant shared.tenants) tests effect (sym (rw is at none)) in
         record { tenant = tenant; frame = frame; parent = parent; owner = owner; found = found; path = path; passes = passed.1; among = rw is passed.0 }
 
-    by-frame : (tenant : Tenant) → tenant_in shared.tenants name.tenant ≡ Some tenant → (found : Option (Frame (List ℕ))) → frame_at tenant.frames name.serial ≡ found → IsInlet functions shared worker name
-    by-frame tenant owner None lost = absurd (refused NoFrame (lone functions (tenant_in shared.tenants name.tenant) (Inlet worker name)) (rw (owner, lost) refl) none)
+    by-frame : (tenant : Tenant) → tenant_in shared.tenants name.tenant ≡ Some tenant → (found : Option F) → frame_at tenant.frames name.serial ≡ found →
+        IsInlet functions shared worker name
+    by-frame tenant owner None lost =
+        absurd (refused NoFrame (lone functions (tenant_in shared.tenants name.tenant) (Inlet worker name)) (rw (owner, lost) refl) none)
     by-frame tenant owner (Some frame) found = by-parent tenant frame owner found (parent_of frame.path) refl
 
     by-owner : (owner : Option Tenant) → tenant_in shared.tenants name.tenant ≡ owner → IsInlet functions shared worker name
@@ -44,11 +51,9 @@ inlet-going {I = I} {A = A} functions shared worker name none = by-owner (tenant
 pub parent-is : (number parent : ℕ) (above : FrameId) → name_of number (Some parent) ≡ Some above → above ≡ record { tenant = number; serial = parent }
 parent-is number parent above is = cc
 
-pub same-tenant : (x y : Tenant) → Some x ≡ Some y → x ≡ y
-same-tenant x y e = cc
-
 -- an inlet that may be done: no test applies, and this comes of it
-pub record IsTakingIn {I A : Type 0} (functions : Functions I A) (shared : CoreState) (worker : ℕ) (name above : FrameId) (tenant : Tenant) (frame : Frame (List ℕ)) (act : InletAct) : Type 0 where
+pub record IsTakingIn {I A : Type 0} (functions : Functions I A) (shared : CoreState) (worker : ℕ) (name above : FrameId) (tenant : Tenant)
+    (frame : F) (act : InletAct) : Type 0 where
   pub parent : ℕ
   pub is : above ≡ record { tenant = name.tenant; serial = parent }
   pub owner : tenant_in shared.tenants name.tenant ≡ Some tenant
@@ -57,67 +62,58 @@ pub record IsTakingIn {I A : Type 0} (functions : Functions I A) (shared : CoreS
   pub passes : AllPass (inlet_tests tenant worker frame parent act)
   pub among : step_result functions shared (Inlet worker name) ≡ Ok (taken_in tenant worker name parent act)
 
-module _ {I A : Type 0} (functions : Functions I A) (shared : CoreState) (worker : ℕ) (name above : FrameId) (tenant : Tenant) (frame : Frame (List ℕ))
+module _ {I A : Type 0} (functions : Functions I A) (shared : CoreState) (worker : ℕ) (name above : FrameId) (tenant : Tenant) (frame : F)
     (act : InletAct) (does : act ≡ functions.inlet (words_under shared above) (words_under shared name)) where
-  takes-in-as : (other : Tenant) (another : Frame (List ℕ)) (parent : ℕ) → tenant_in shared.tenants name.tenant ≡ Some tenant →
-      frame_at tenant.frames name.serial ≡ Some frame → other ≡ tenant → another ≡ frame → name_of name.tenant (parent_of frame.path) ≡ Some above →
-      parent_of another.path ≡ Some parent → AllPass (inlet_tests other worker another parent (functions.inlet (words_in other.frames parent) another.value)) →
-      step_result functions shared (Inlet worker name) ≡ Ok (taken_in other worker name parent (functions.inlet (words_in other.frames parent) another.value)) →
+  takes-in-as : (t : IsInlet functions shared worker name) → tenant_in shared.tenants name.tenant ≡ Some tenant →
+      frame_at tenant.frames name.serial ≡ Some frame → name_of name.tenant (parent_of frame.path) ≡ Some above →
       IsTakingIn functions shared worker name above tenant frame act
-  takes-in-as other another parent owner found own same names path passes among = grind (arith, parent-is)
+  takes-in-as t owner found names = grind (arith, parent-is, some-is)
 
   pub takes-in : (seen : Seen) → IsReturnedUnder shared name above tenant frame seen → AreTenantsRising shared.tenants →
       Ok (tt {0}) ≡ unless ((is_outside act.stores (words_under shared above), BadAct) ∷ (is_busy_among worker shared.tenants, Busy) ∷ []) (tt {0}) →
       IsTakingIn functions shared worker name above tenant frame act
   takes-in seen is rising told =
       let t = inlet-going functions shared worker name (inlet-told functions shared worker name tenant frame seen above act _ rising is does told) in
-      let owner = is.seen_so.owner in
-      let found = is.seen_so.found in
-      let own : t.tenant ≡ tenant = same-tenant t.tenant tenant (sym t.owner ∙ owner) in
-      takes-in-as t.tenant t.frame t.parent owner found own (one-frame name tenant t.tenant frame t.frame own found t.found) (sym is.seen_so.parent ∙ is.above) t.path t.passes t.among
-    where
-      one-frame : (name : FrameId) (tenant other : Tenant) (frame another : Frame (List ℕ)) → other ≡ tenant → frame_at tenant.frames name.serial ≡ Some frame → frame_at other.frames name.serial ≡ Some another → another ≡ frame
-      one-frame name tenant other frame another own found at = let at' : frame_at tenant.frames name.serial ≡ Some another = rw own at at in some-is another frame (sym at' ∙ found)
+      takes-in-as t is.seen_so.owner is.seen_so.found (sym is.seen_so.parent ∙ is.above)
 
 has-returned : (state : State) → is_returned state ≡ true → state ≡ Returned
-has-returned (Ready home) is = absurd cc
-has-returned (Running worker) is = absurd cc
-has-returned (Computing worker) is = absurd cc
-has-returned Waiting is = absurd cc
-has-returned Returned is = refl
+has-returned state is = grind arith
 
 -- it may be taken in
-pub may-be-taken-in : {I A : Type 0} {functions : Functions I A} {shared : CoreState} {worker : ℕ} {name above : FrameId} {tenant : Tenant} {frame : Frame (List ℕ)} {act : InletAct} →
-    IsTakingIn functions shared worker name above tenant frame act → AreShaped shared.tenants → MayBeTakenIn shared name above tenant frame
+pub may-be-taken-in : {I A : Type 0} {functions : Functions I A} {shared : CoreState} {worker : ℕ} {name above : FrameId} {tenant : Tenant}
+    {frame : F} {act : InletAct} → IsTakingIn functions shared worker name above tenant frame act → AreShaped shared.tenants →
+    MayBeTakenIn shared name above tenant frame
 may-be-taken-in {shared = shared} {name = name} {tenant = tenant} {frame = frame} t shaped = grind (arith, shaped-in, has-returned, not-false, returned-leaf)
 
 -- the parent stays
 other : (p c : ℕ) → p < c → c ≢ p
 other p c low is = omega (arith, low, is)
 
-module _ (frames : List (Frame (List ℕ))) (child parent : ℕ) (frame : Frame (List ℕ)) (tree : IsTree frames) (found : frame_at frames child ≡ Some frame)
+module _ (frames : List F) (child parent : ℕ) (frame : F) (tree : IsTree frames) (found : frame_at frames child ≡ Some frame)
     (path : parent_of frame.path ≡ Some parent) where
-  pub parent-found : (above : Frame (List ℕ)) × (frame_at frames parent ≡ Some above)
+  pub parent-found : (above : F) × (frame_at frames parent ≡ Some above)
   parent-found = there-found frames parent (under-there frames child parent frame tree found path)
 
-  pub stays-beside : (above : Frame (List ℕ)) → frame_at frames parent ≡ Some above → frame_at (frames_without child frames) parent ≡ Some above
+  pub stays-beside : (above : F) → frame_at frames parent ≡ Some above → frame_at (frames_without child frames) parent ≡ Some above
   stays-beside above at = grind (arith, frame_at_other-without, other, under-below)
 
-  pub parent-stays : (abort : Bool) (above : Frame (List ℕ)) → frame_at frames parent ≡ Some above →
+  pub parent-stays : (abort : Bool) (above : F) → frame_at frames parent ≡ Some above →
       frame_at (staying frames child parent abort) parent ≡ Some above
   parent-stays true above at = aborted-itself parent frames above tree at
   parent-stays false above at = stays-beside above at
 
 -- the child is taken out, and the parent stays
-pub record IsTakenOut {I A : Type 0} (functions : Functions I A) (shared : CoreState) (worker : ℕ) (name above : FrameId) (tenant : Tenant) (frame : Frame (List ℕ)) (act : InletAct) (now : CoreState) : Type 0 where
+pub record IsTakenOut {I A : Type 0} (functions : Functions I A) (shared : CoreState) (worker : ℕ) (name above : FrameId) (tenant : Tenant)
+    (frame : F) (act : InletAct) (now : CoreState) : Type 0 where
   pub takes : IsTakingIn functions shared worker name above tenant frame act
   pub changed : IsWith shared name.tenant (staying_with name.serial takes.parent act.abort tenant) now
-  pub parent : Frame (List ℕ)
+  pub parent : F
   pub found : frame_at tenant.frames takes.parent ≡ Some parent
   pub stays : frame_at (staying tenant.frames name.serial takes.parent act.abort) takes.parent ≡ Some parent
 
-pub takes-out : {I A : Type 0} (functions : Functions I A) (shared : CoreState) (worker : ℕ) (name above : FrameId) (tenant : Tenant) (frame : Frame (List ℕ)) (seen : Seen) (act : InletAct) (now : CoreState) →
-    AreShaped shared.tenants → IsReturnedUnder shared name above tenant frame seen → AreTenantsRising shared.tenants → act ≡ functions.inlet (words_under shared above) (words_under shared name) →
+pub takes-out : {I A : Type 0} (functions : Functions I A) (shared : CoreState) (worker : ℕ) (name above : FrameId) (tenant : Tenant) (frame : F)
+    (seen : Seen) (act : InletAct) (now : CoreState) → AreShaped shared.tenants → IsReturnedUnder shared name above tenant frame seen →
+    AreTenantsRising shared.tenants → act ≡ functions.inlet (words_under shared above) (words_under shared name) →
     Ok (tt {0}) ≡ unless ((is_outside act.stores (words_under shared above), BadAct) ∷ (is_busy_among worker shared.tenants, Busy) ∷ []) (tt {0}) →
     now ≡ on_tenant name.tenant (staying_with name.serial above.serial act.abort) shared → IsTakenOut functions shared worker name above tenant frame act now
 takes-out functions shared worker name above tenant frame seen act now shaped is rising same told outs =
@@ -134,20 +130,17 @@ takes-out functions shared worker name above tenant frame seen act now shaped is
     }
 
 -- an abort removes the child too
-abbrev IsBelow : ℕ → ℕ → Frame (List ℕ) → Type 0
+abbrev IsBelow : ℕ → ℕ → F → Type 0
 IsBelow parent child frame = (frame.serial == child) ≡ true → goes_under parent frame.path ≡ true
 
 module _ (parent child : ℕ) where
-  dropped : (frames : List (Frame (List ℕ))) → Each (IsBelow parent child) frames → aborted parent (frames_without child frames) ≡ aborted parent frames
+  dropped : (frames : List F) → Each (IsBelow parent child) frames → aborted parent (frames_without child frames) ≡ aborted parent frames
   dropped [] each = refl
   dropped (frame ∷ frames) each =
       let rest = dropped frames each.1 in
-      elim (frame.serial == child) as (λ b. (frame.serial == child) ≡ b → aborted parent (frames_without child (frame ∷ frames)) ≡ aborted parent (frame ∷ frames)) [
-        | true ↦ λ same. (let below = each.0 same in rw (same, below) rest)
-        | false ↦ grind arith
-      ] refl
+      elim (cases_Bool (frame.serial == child)) [ inl same ↦ (let below = each.0 same in rw (same, below) rest) | inr other ↦ grind arith ]
 
-  pub aborts-child : (frames : List (Frame (List ℕ))) (frame : Frame (List ℕ)) → IsTree frames → frame_at frames child ≡ Some frame →
+  pub aborts-child : (frames : List F) (frame : F) → IsTree frames → frame_at frames child ≡ Some frame →
       parent_of frame.path ≡ Some parent → aborted parent (frames_without child frames) ≡ aborted parent frames
   aborts-child frames frame tree found path =
       dropped frames (found-each (IsBelow parent child) frames (tree-rising frames tree) (λ serial x at same.
@@ -157,8 +150,8 @@ module _ (parent child : ℕ) where
       child-under-parent frames parent child x tree at_child child_path))
 
 -- after that the parent's words are stored, the step is counted, and the parent is woken or not
-module _ {I A : Type 0} {functions : Functions I A} {shared : CoreState} {worker : ℕ} {name above : FrameId} {tenant : Tenant} {frame : Frame (List ℕ)} {act : InletAct} {out : CoreState}
-    (o : IsTakenOut functions shared worker name above tenant frame act out) where
+module _ {I A : Type 0} {functions : Functions I A} {shared : CoreState} {worker : ℕ} {name above : FrameId} {tenant : Tenant} {frame : F}
+    {act : InletAct} {out : CoreState} (o : IsTakenOut functions shared worker name above tenant frame act out) where
   -- the frames that stay
   abbrev frames : Tree
   frames = staying tenant.frames name.serial o.takes.parent act.abort
@@ -194,8 +187,10 @@ module _ {I A : Type 0} {functions : Functions I A} {shared : CoreState} {worker
       counted-there = rw (o.takes.is, counted-is.there, held-at o.takes.parent words (record tenant { frames = frames }) o.parent o.stays) refl
 
       -- what is answered and left, by whether the parent is woken
-      by-waking : (woken : Bool) {gone : ℕ} {after : CoreState} → (does_wait (frame_at frames o.takes.parent) && (act.abort || act.wake || not (has_child frames o.takes.parent))) ≡ woken →
-          gone ≡ aborted_beside tenant.frames name.serial o.takes.parent act.abort → after ≡ (if woken then on_tenant above.tenant (in_state above.serial (Ready worker)) now else now) →
+      by-waking : (woken : Bool) {gone : ℕ} {after : CoreState} →
+          (does_wait (frame_at frames o.takes.parent) && (act.abort || act.wake || not (has_child frames o.takes.parent))) ≡ woken →
+          gone ≡ aborted_beside tenant.frames name.serial o.takes.parent act.abort →
+          after ≡ (if woken then on_tenant above.tenant (in_state above.serial (Ready worker)) now else now) →
           FollowsResult functions shared (Inlet worker name) (Ok (TakenIn (if woken then Some above else None) gone)) after
       by-waking false wakes gone stays = record { told = rw (o.takes.among, wakes, gone) refl; left = rw (o.takes.among, wakes) (stays ∙ counted-is.is) }
       by-waking true wakes gone stays =
@@ -203,11 +198,13 @@ module _ {I A : Type 0} {functions : Functions I A} {shared : CoreState} {worker
           record { told = rw (o.takes.is, o.takes.among, wakes, gone) refl; left = rw (o.takes.among, wakes) ready.is }
 
       -- a parent that waited is woken where the inlet says it, or no child is left
-      pub step_result-inlet : (woken : Bool) {state : State} {waits : Bool} {gone : ℕ} {after : CoreState} → ((parent : Frame (List ℕ)) → named shared above ≡ Some parent → state ≡ parent.state) → waits ≡ is_waiting state →
+      pub step_result-inlet : (woken : Bool) {state : State} {waits : Bool} {gone : ℕ} {after : CoreState} →
+          ((parent : F) → named shared above ≡ Some parent → state ≡ parent.state) → waits ≡ is_waiting state →
           ((before : Tenant) → tenant_in shared.tenants name.tenant ≡ Some before → gone ≡ aborted_beside before.frames name.serial above.serial act.abort) →
           (waits && (act.abort || act.wake || not (has_child (frames_in_core out above.tenant) above.serial))) ≡ woken →
           after ≡ (if woken then on_tenant above.tenant (in_state above.serial (Ready worker)) now else now) →
           FollowsResult functions shared (Inlet worker name) (Ok (TakenIn (if woken then Some above else None) gone)) after
       step_result-inlet woken {waits = waits} seen waiting aborts wakes =
-          let waits_so : waits ≡ does_wait (frame_at frames o.takes.parent) = waiting ∙ ap is_waiting (seen o.parent (rw (o.takes.is, o.takes.owner, o.found) refl)) ∙ rw o.stays refl in
+          let own = seen o.parent (rw (o.takes.is, o.takes.owner, o.found) refl) in
+          let waits_so : waits ≡ does_wait (frame_at frames o.takes.parent) = waiting ∙ ap is_waiting own ∙ rw o.stays refl in
           by-waking woken (rw (o.takes.is, o.changed.there, waits_so) at wakes) (rw o.takes.is at (aborts tenant o.takes.owner))

@@ -1,21 +1,22 @@
 -- The parent of a frame that is seen.
-use Rattle.sched_core.proofs.Common.{◌≡◌, ℕ, Bool, true, List, [], ◌∷◌, Option, Some, None, Result, Ok, refl, sym, ◌∙◌, arith, IsSome, not, FrameId, Frame, frame_at, name_of, parent_of, there-found, under-there, Refusal, NotReturned, NoSteps, BadAct, Busy, InletAct, Inlet, Functions, Tenant, words_in, is_outside, left, unless, refusal_in, is_returned, taken_in, named, CoreState, shared_refusal, Seen, is_busy_among, AreTenantsRising, words_under, IsSeen, IsReturnedUnder}
+use Rattle.sched_core.proofs.Common.{◌≡◌, ℕ, Bool, true, [], ◌∷◌, Option, Some, None, Result, Ok, refl, sym, ◌∙◌, arith, IsSome, not, FrameId, frame_at, name_of, parent_of, there-found, under-there, Refusal, NotReturned, NoSteps, BadAct, Busy, InletAct, Inlet, Functions, Tenant, words_in, is_outside, left, unless, refusal_in, is_returned, taken_in, named, CoreState, shared_refusal, Seen, is_busy_among, AreTenantsRising, words_under, IsSeen, IsReturnedUnder, F, List}
 use Rattle.std.specs.Prelude.{◌==◌}
 use Rattle.sched_core.proofs.Deciding.{busy-anywhere, second-part, seen-words}
 
 -- the parent that is named
-pub record IsParent (shared : CoreState) (name : FrameId) (tenant : Tenant) (frame : Frame (List ℕ)) (above : FrameId) : Type 0 where
+pub record IsParent (shared : CoreState) (name : FrameId) (tenant : Tenant) (frame : F) (above : FrameId) : Type 0 where
   pub serial : ℕ
   pub path : parent_of frame.path ≡ Some serial
   pub is : above ≡ record { tenant = name.tenant; serial = serial }
-  pub parent : Frame (List ℕ)
+  pub parent : F
   pub found : frame_at tenant.frames serial ≡ Some parent
 
-parent-named : (number : ℕ) (parent : Option ℕ) (above : FrameId) → name_of number parent ≡ Some above → (serial : ℕ) × (parent ≡ Some serial) × (above ≡ record { tenant = number; serial = serial })
+parent-named : (number : ℕ) (parent : Option ℕ) (above : FrameId) → name_of number parent ≡ Some above →
+    (serial : ℕ) × (parent ≡ Some serial) × (above ≡ record { tenant = number; serial = serial })
 parent-named number None above is = absurd cc
 parent-named number (Some serial) above is = (serial, refl, cc)
 
-module _ (shared : CoreState) (name : FrameId) (tenant : Tenant) (frame : Frame (List ℕ)) (seen : Seen) (above : FrameId) where
+module _ (shared : CoreState) (name : FrameId) (tenant : Tenant) (frame : F) (seen : Seen) (above : FrameId) where
   pub parent-of : IsSeen shared name tenant frame seen → seen.parent ≡ Some above → IsParent shared name tenant frame above
   parent-of is at =
       let p = parent-named name.tenant (parent_of frame.path) above (sym is.parent ∙ at) in
@@ -35,23 +36,29 @@ module _ (shared : CoreState) (name : FrameId) (tenant : Tenant) (frame : Frame 
   parent-words is p = rw (p.is, is.owner) refl
 
 -- Inlet of a frame under this parent, by its tests
-module _ {I A : Type 0} (functions : Functions I A) {shared : CoreState} (worker : ℕ) {name : FrameId} {tenant : Tenant} {frame : Frame (List ℕ)} {seen : Seen}
+module _ {I A : Type 0} (functions : Functions I A) {shared : CoreState} (worker : ℕ) {name : FrameId} {tenant : Tenant} {frame : F} {seen : Seen}
     (above : FrameId) (act : InletAct) (is : IsSeen shared name tenant frame seen) (rising : AreTenantsRising shared.tenants) where
   inlet-under : (parent : ℕ) → parent_of frame.path ≡ Some parent → words_under shared above ≡ words_in tenant.frames parent →
       act ≡ functions.inlet (words_under shared above) (words_under shared name) →
-      refusal_in (unless ((not (is_returned seen.state), NotReturned) ∷ (seen.left.steps == 0, NoSteps) ∷ (is_outside act.stores (words_under shared above), BadAct) ∷ (is_busy_among worker shared.tenants, Busy) ∷ []) (tt {0})) ≡ shared_refusal functions shared (Inlet worker name)
+      refusal_in (unless ((not (is_returned seen.state), NotReturned) ∷ (seen.left.steps == 0, NoSteps)
+      ∷ (is_outside act.stores (words_under shared above), BadAct) ∷ (is_busy_among worker shared.tenants, Busy) ∷ []) (tt {0}))
+      ≡ shared_refusal functions shared (Inlet worker name)
   inlet-under parent path words same =
       let inlet = functions.inlet (words_in tenant.frames parent) frame.value in
+      let outside = is_outside inlet.stores (words_in tenant.frames parent) in
+      let tests : List (Bool × Refusal) = (not (is_returned frame.state), NotReturned) ∷ ((left tenant).steps == 0, NoSteps) ∷ (outside, BadAct) ∷ [] in
       rw (same, words, sym (seen-words is), is.state, is.left, is.owner, is.found, path)
-      (busy-anywhere {I = I} ((not (is_returned frame.state), NotReturned) ∷ ((left tenant).steps == 0, NoSteps) ∷ (is_outside inlet.stores (words_in tenant.frames parent), BadAct) ∷ []) shared worker name.tenant tenant (taken_in tenant worker name parent inlet) rising is.owner)
+      (busy-anywhere {I = I} tests shared worker name.tenant tenant (taken_in tenant worker name parent inlet) rising is.owner)
 
   -- Inlet, by its tests
   pub inlet-decided : seen.parent ≡ Some above → act ≡ functions.inlet (words_under shared above) (words_under shared name) →
-      refusal_in (unless ((not (is_returned seen.state), NotReturned) ∷ (seen.left.steps == 0, NoSteps) ∷ (is_outside act.stores (words_under shared above), BadAct) ∷ (is_busy_among worker shared.tenants, Busy) ∷ []) (tt {0})) ≡ shared_refusal functions shared (Inlet worker name)
+      refusal_in (unless ((not (is_returned seen.state), NotReturned) ∷ (seen.left.steps == 0, NoSteps)
+      ∷ (is_outside act.stores (words_under shared above), BadAct) ∷ (is_busy_among worker shared.tenants, Busy) ∷ []) (tt {0}))
+      ≡ shared_refusal functions shared (Inlet worker name)
   inlet-decided at same = grind (arith, parent-of, inlet-under, parent-words)
 
 -- Inlet, where the frame has returned and a step is left, by the tests of the inlet
-module _ {I A : Type 0} (functions : Functions I A) (shared : CoreState) (worker : ℕ) (name : FrameId) (tenant : Tenant) (frame : Frame (List ℕ)) (seen : Seen)
+module _ {I A : Type 0} (functions : Functions I A) (shared : CoreState) (worker : ℕ) (name : FrameId) (tenant : Tenant) (frame : F) (seen : Seen)
     (above : FrameId) (act : InletAct) (answer : Result (Unit {0}) Refusal) (rising : AreTenantsRising shared.tenants) where
   pub inlet-goes : (returned outside busy : Bool) → IsSeen shared name tenant frame seen → seen.parent ≡ Some above →
       act ≡ functions.inlet (words_under shared above) (words_under shared name) → returned ≡ is_returned seen.state →
@@ -64,5 +71,8 @@ module _ {I A : Type 0} (functions : Functions I A) (shared : CoreState) (worker
       answer ≡ unless ((is_outside act.stores (words_under shared above), BadAct) ∷ (is_busy_among worker shared.tenants, Busy) ∷ []) (tt {0}) →
       refusal_in answer ≡ shared_refusal functions shared (Inlet worker name)
   inlet-told is same told =
-      let left = is.some in
-      inlet-goes true (is_outside act.stores (words_under shared above)) (is_busy_among worker shared.tenants) is.seen_so is.above same (sym is.returned) refl refl (rw left refl) told
+      inlet-goes true (is_outside act.stores (words_under shared above)) (is_busy_among worker shared.tenants) is.seen_so is.above same
+      (sym is.returned) refl refl (rw is.some refl) told
+
+-- the parent of a frame is there
+pub ruleset parent_there = (parent-there)

@@ -50,30 +50,30 @@ module _ {I A : Type 0} (functions : Functions I A) (before : CoreState) (step :
       }
 
 -- a list of steps, of which some were answered
-pub record IsRunning {I A : Type 0} (functions : Functions I A) (before : CoreState) (steps : List (StepOf A)) (earlier items : List (Result (DidOf I) Refusal)) (now : CoreState) : Type 0 where
+pub record IsRunning {I A : Type 0} (functions : Functions I A) (before : CoreState) (steps : List (StepOf A))
+    (earlier items : List (Result (DidOf I) Refusal)) (now : CoreState) : Type 0 where
   pub answered : List (Result (DidOf I) Refusal)
   pub appended : items ≡ earlier ++ answered
   pub right : AreAnswersTo functions before steps answered
   pub left : now ≡ after_answers functions before steps answered
 
-module _ {I A : Type 0} (functions : Functions I A) where
-  answers-snoc : (before : CoreState) (steps : List (StepOf A)) (answers : List (Result (DidOf I) Refusal)) (step : StepOf A) (answer : Result (DidOf I) Refusal) →
-      AreAnswersTo functions before steps answers → IsAnswerTo functions (after_answers functions before steps answers) step answer →
+-- one more answered step at the end
+module _ {I A : Type 0} (functions : Functions I A) (step : StepOf A) (answer : Result (DidOf I) Refusal) where
+  answers-snoc : (before : CoreState) (steps : List (StepOf A)) (answers : List (Result (DidOf I) Refusal)) → AreAnswersTo functions before steps answers →
+      IsAnswerTo functions (after_answers functions before steps answers) step answer →
       AreAnswersTo functions before (steps ++ step ∷ []) (answers ++ answer ∷ [])
-  answers-snoc before [] [] step answer right is = (is, tt)
-  answers-snoc before [] (other ∷ answers) step answer right is = absurd right
-  answers-snoc before (first ∷ steps) [] step answer right is = absurd right
-  answers-snoc before (first ∷ steps) (other ∷ answers) step answer right is =
-      (right.0, answers-snoc (after_answer functions before first other) steps answers step answer right.1 is)
+  answers-snoc before [] [] right is = (is, tt)
+  answers-snoc before (first ∷ steps) (other ∷ answers) right is = (right.0, answers-snoc (after_answer functions before first other) steps answers right.1 is)
+  answers-snoc before steps answers right is = grind arith
 
-  after-snoc : (before : CoreState) (steps : List (StepOf A)) (answers : List (Result (DidOf I) Refusal)) (step : StepOf A) (answer : Result (DidOf I) Refusal) →
-      AreAnswersTo functions before steps answers →
-      after_answers functions before (steps ++ step ∷ []) (answers ++ answer ∷ []) ≡ after_answer functions (after_answers functions before steps answers) step answer
-  after-snoc before [] [] step answer right = refl
-  after-snoc before [] (other ∷ answers) step answer right = absurd right
-  after-snoc before (first ∷ steps) [] step answer right = absurd right
-  after-snoc before (first ∷ steps) (other ∷ answers) step answer right = after-snoc (after_answer functions before first other) steps answers step answer right.1
+  after-snoc : (before : CoreState) (steps : List (StepOf A)) (answers : List (Result (DidOf I) Refusal)) → AreAnswersTo functions before steps answers →
+      after_answers functions before (steps ++ step ∷ []) (answers ++ answer ∷ [])
+      ≡ after_answer functions (after_answers functions before steps answers) step answer
+  after-snoc before [] [] right = refl
+  after-snoc before (first ∷ steps) (other ∷ answers) right = after-snoc (after_answer functions before first other) steps answers right.1
+  after-snoc before steps answers right = grind arith
 
+module _ {I A : Type 0} (functions : Functions I A) where
   pub runs-begin : (before : CoreState) (items : List (Result (DidOf I) Refusal)) → IsRunning functions before [] items items before
   runs-begin before items = record { answered = []; appended = sym (append-nil items); right = tt; left = refl }
 
@@ -85,8 +85,8 @@ module _ {I A : Type 0} (functions : Functions I A) (before : CoreState) (steps 
       record {
         answered = runs.answered ++ answer ∷ [];
         appended = rw runs.appended (append_assoc earlier runs.answered (answer ∷ []));
-        right = answers-snoc functions before steps runs.answered step answer runs.right (rw runs.left at is.answered);
-        left = is.left ∙ rw (runs.left, after-snoc functions before steps runs.answered step answer runs.right) refl;
+        right = answers-snoc functions step answer before steps runs.answered runs.right (rw runs.left at is.answered);
+        left = is.left ∙ rw (runs.left, after-snoc functions step answer before steps runs.answered runs.right) refl;
       }
 
   -- at its end the headline holds
@@ -117,3 +117,6 @@ module _ {I A : Type 0} {functions : Functions I A} {fits : Fitting} {rooted : R
       append-left : {X : Type 0} (xs ys zs : List X) → xs ++ ys ≡ xs ++ zs → ys ≡ zs
       append-left [] ys zs e = e
       append-left (x ∷ xs) ys zs e = append-left xs ys zs (cc)
+
+-- one step, admissions among them
+pub ruleset one_step = (one-step, one-admission)

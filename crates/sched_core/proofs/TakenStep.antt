@@ -1,7 +1,19 @@
 -- A step that is taken: what it comes to, and one change of its tenant after another.
-use Rattle.sched_core.proofs.Common.{◌≡◌, ℕ, ◌==◌, Bool, true, false, List, [], ◌∷◌, Option, Some, None, Result, Ok, Err, inl, inr, refl, sym, ◌∙◌, ap, arith, MatchResult, OnOk, OnErr, nat_tests, FrameId, State, Running, Frame, frame_at, Refusal, NoTenant, OutOfMemory, StepOf, Take, Steal, DidOf, Functions, Tenant, left, Outcome, unless, lone, refusal_in, at_frame, take_tests, steal_tests, taken_by, in_state, counted, on_tenant, with_change, CoreState, tenant_in, with_tenant, unless_busy, step_result, shared_refusal, shared_with, tenant_in-with_tenant, AllPass, TenantHasStepLeft, FollowsResult, IsAdmitted}
-use Rattle.sched_core.proofs.Changing.{with_change-there}
+use Rattle.sched_core.proofs.Common.{◌≡◌, ℕ, ◌==◌, Bool, true, false, List, [], ◌∷◌, Option, Some, None, Result, Ok, Err, inl, inr, refl, sym, ◌∙◌, arith, MatchResult, OnOk, OnErr, nat_tests, FrameId, State, Running, frame_at, Refusal, NoTenant, OutOfMemory, StepOf, Take, Steal, DidOf, Functions, Tenant, left, Outcome, unless, lone, refusal_in, at_frame, take_tests, steal_tests, taken_by, in_state, counted, on_tenant, CoreState, tenant_in, with_tenant, unless_busy, step_result, shared_refusal, shared_with, tenant_in-with_tenant, AllPass, TenantHasStepLeft, FollowsResult, IsAdmitted, F, NoFrame, ◌++◌, with_change}
 use Rattle.sched_core.proofs.Deciding.{some-is}
+
+abbrev Entries : Type 0
+Entries = List (ℕ × Tenant)
+
+-- a tenant that is there, changed
+pub with_change-there : (n : ℕ) (f : Tenant → Tenant) (es : Entries) (t : Tenant) → tenant_in es n ≡ Some t → with_change n f es ≡ with_tenant n (f t) es
+with_change-there n f [] t is = absurd cc
+with_change-there n f (e ∷ es) t is = grind (arith, with_change-there n f es t, nat_tests)
+
+-- a new tenant is the last
+pub with_tenant-new : (n : ℕ) (t : Tenant) (es : Entries) → tenant_in es n ≡ None → with_tenant n t es ≡ es ++ (n, t) ∷ []
+with_tenant-new n t [] none = refl
+with_tenant-new n t (e ∷ es) none = grind (arith, with_tenant-new n t es, nat_tests)
 
 -- a step that is refused, as it is judged
 module _ {I A : Type 0} (functions : Functions I A) (before : CoreState) (step : StepOf A) (answer : Result (DidOf I) Refusal) (after : CoreState) where
@@ -34,30 +46,35 @@ all-pass busy ((true, refusal) ∷ tests) effect none = absurd cc
 all-pass busy ((false, refusal) ∷ tests) effect none = let rest = all-pass busy tests effect none in (rest.0, (refl, rest.1))
 
 -- a step that names a frame and is taken: the frame is there, no test applies, and this comes of it
-pub record IsGoing {I A : Type 0} (functions : Functions I A) (shared : CoreState) (step : StepOf A) (name : FrameId) (tests : Tenant → Frame (List ℕ) → List (Bool × Refusal)) (effect : Tenant → Frame (List ℕ) → Outcome I) : Type 0 where
+pub record IsGoing {I A : Type 0} (functions : Functions I A) (shared : CoreState) (step : StepOf A) (name : FrameId)
+    (tests : Tenant → F → List (Bool × Refusal)) (effect : Tenant → F → Outcome I) : Type 0 where
   pub tenant : Tenant
-  pub frame : Frame (List ℕ)
+  pub frame : F
   pub owner : tenant_in shared.tenants name.tenant ≡ Some tenant
   pub found : frame_at tenant.frames name.serial ≡ Some frame
   pub passes : AllPass (tests tenant frame)
   pub among : step_result functions shared step ≡ Ok (effect tenant frame)
 
-pub going : {I A : Type 0} (functions : Functions I A) (shared : CoreState) (step : StepOf A) (name : FrameId) (busy : Bool) (tests : Tenant → Frame (List ℕ) → List (Bool × Refusal)) (effect : Tenant → Frame (List ℕ) → Outcome I) →
+pub going : {I A : Type 0} (functions : Functions I A) (shared : CoreState) (step : StepOf A) (name : FrameId) (busy : Bool)
+    (tests : Tenant → F → List (Bool × Refusal)) (effect : Tenant → F → Outcome I) →
     step_result functions shared step ≡ unless_busy busy (lone functions (tenant_in shared.tenants name.tenant) step) →
     lone functions None step ≡ Err NoTenant →
-    ((tenant : Tenant) → lone functions (Some tenant) step ≡ at_frame (frame_at tenant.frames name.serial) (λ frame. unless (tests tenant frame) (effect tenant frame))) →
+    ((tenant : Tenant) →
+    lone functions (Some tenant) step ≡ at_frame (frame_at tenant.frames name.serial) (λ frame. unless (tests tenant frame) (effect tenant frame))) →
     None ≡ shared_refusal functions shared step → IsGoing functions shared step name tests effect
 going {I = I} {A = A} functions shared step name busy tests effect at nobody somebody none = by-owner (tenant_in shared.tenants name.tenant) refl
   where
-    by-frame : (tenant : Tenant) → tenant_in shared.tenants name.tenant ≡ Some tenant → (found : Option (Frame (List ℕ))) → frame_at tenant.frames name.serial ≡ found → IsGoing functions shared step name tests effect
-    by-frame tenant owner None lost = absurd (let no : None ≡ refusal_in (unless_busy busy (lone functions (Some tenant) step)) = rw (at, owner) at none in let no' = rw (somebody tenant, lost) at no in cc)
+    by-frame : (tenant : Tenant) → tenant_in shared.tenants name.tenant ≡ Some tenant → (found : Option F) → frame_at tenant.frames name.serial ≡ found →
+        IsGoing functions shared step name tests effect
+    by-frame tenant owner None lost = absurd (let no : None ≡ Some NoFrame = rw (at, owner, somebody tenant, lost) at none in cc)
     by-frame tenant owner (Some frame) found =
-        let is : step_result functions shared step ≡ unless_busy busy (unless (tests tenant frame) (effect tenant frame)) = at ∙ rw (owner, somebody tenant, found) refl in
+        let tested = unless (tests tenant frame) (effect tenant frame) in
+        let is : step_result functions shared step ≡ unless_busy busy tested = at ∙ rw (owner, somebody tenant, found) refl in
         let passed = all-pass busy (tests tenant frame) (effect tenant frame) (sym (rw is at none)) in
         record { tenant = tenant; frame = frame; owner = owner; found = found; passes = passed.1; among = is ∙ passed.0 }
 
     by-owner : (owner : Option Tenant) → tenant_in shared.tenants name.tenant ≡ owner → IsGoing functions shared step name tests effect
-    by-owner None lost = absurd (let no : None ≡ refusal_in (unless_busy busy (lone functions None step)) = rw (at, lost) at none in let no' = rw nobody at no in cc)
+    by-owner None lost = absurd (let no : None ≡ Some NoTenant = rw (at, lost, nobody) at none in cc)
     by-owner (Some tenant) owner = by-frame tenant owner (frame_at tenant.frames name.serial) refl
 
 -- a core in which one tenant came to this, and nothing else changed
@@ -67,11 +84,7 @@ pub record IsWith (before : CoreState) (number : ℕ) (tenant : Tenant) (now : C
 
 with_tenant-same : (n : ℕ) (t : Tenant) (es : List (ℕ × Tenant)) → tenant_in es n ≡ Some t → with_tenant n t es ≡ es
 with_tenant-same n t [] is = absurd cc
-with_tenant-same n t (e ∷ es) is =
-    elim (e.0 == n) as (λ b. (e.0 == n) ≡ b → with_tenant n t (e ∷ es) ≡ e ∷ es) [
-      | true ↦ λ same. (let own : e.1 ≡ t = some-is e.1 t (rw same at is) in let at : e.0 ≡ n = grind (arith, nat_tests, same) in rw same (rw (← at, ← own) refl))
-      | false ↦ λ other. rw other (ap (λ rest. e ∷ rest) (with_tenant-same n t es (rw other at is)))
-    ] refl
+with_tenant-same n t (e ∷ es) is = grind (arith, with_tenant-same n t es, nat_tests, some-is)
 
 pub with_tenant-twice : (n : ℕ) (s t : Tenant) (es : List (ℕ × Tenant)) → with_tenant n t (with_tenant n s es) ≡ with_tenant n t es
 with_tenant-twice n s t [] = grind (arith, nat_tests)
@@ -83,10 +96,12 @@ module _ (number : ℕ) (tenant : Tenant) where
   begins shared owner = record { is = rw (with_tenant-same number tenant shared.tenants owner) refl; there = owner }
 
   -- and one more change
-  pub then-changed : (before now next : CoreState) (change : Tenant → Tenant) → IsWith before number tenant now → next ≡ on_tenant number change now → IsWith before number (change tenant) next
+  pub then-changed : (before now next : CoreState) (change : Tenant → Tenant) → IsWith before number tenant now → next ≡ on_tenant number change now →
+      IsWith before number (change tenant) next
   then-changed before now next change is at =
-      let there : with_change number change now.tenants ≡ with_tenant number (change tenant) now.tenants = with_change-there number change _ tenant is.there in
-      let tenants : with_tenant number (change tenant) now.tenants ≡ with_tenant number (change tenant) before.tenants = rw is.is (with_tenant-twice number tenant (change tenant) before.tenants) in
+      let t = change tenant in
+      let there = with_change-there number change now.tenants tenant is.there in
+      let tenants : with_tenant number t now.tenants ≡ with_tenant number t before.tenants = rw is.is (with_tenant-twice number tenant t before.tenants) in
       record {
         is = at ∙ rw (there, tenants, is.is) refl;
         there = rw (at, there) (tenant_in-with_tenant number (change tenant) now.tenants);
@@ -103,7 +118,8 @@ module _ {before : CoreState} {number : ℕ} {tenant : Tenant} {now : CoreState}
   step-left some = rw is.there (grind (arith, nat_tests, some))
 
 -- and still is where a frame of it has another state
-pub left-still : (shared : CoreState) (number serial : ℕ) (state : State) (next : CoreState) → TenantHasStepLeft shared number → next ≡ on_tenant number (in_state serial state) shared → TenantHasStepLeft next number
+pub left-still : (shared : CoreState) (number serial : ℕ) (state : State) (next : CoreState) → TenantHasStepLeft shared number →
+    next ≡ on_tenant number (in_state serial state) shared → TenantHasStepLeft next number
 left-still shared number serial state next left is = by-owner (tenant_in shared.tenants number) refl
   where
     by-owner : (owner : Option Tenant) → tenant_in shared.tenants number ≡ owner → TenantHasStepLeft next number
@@ -119,4 +135,9 @@ module _ {I A : Type 0} (functions : Functions I A) (shared : CoreState) (worker
 
   pub steal-going : (from : ℕ) → None ≡ shared_refusal functions shared (Steal worker from name) →
       IsGoing functions shared (Steal worker from name) name (λ tenant. steal_tests tenant worker from) (λ tenant. taken_by tenant worker)
-  steal-going from none = going functions shared (Steal worker from name) name _ (λ tenant. steal_tests tenant worker from) (λ tenant. taken_by tenant worker) refl refl (λ tenant. refl) none
+  steal-going from none =
+      let tests = λ (tenant : Tenant). steal_tests tenant worker from in
+      going functions shared (Steal worker from name) name _ tests (λ tenant. taken_by tenant worker) refl refl (λ tenant. refl) none
+
+-- a step is still left
+pub ruleset left_still = (left-still)

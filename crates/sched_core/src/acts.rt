@@ -138,6 +138,7 @@ impl<P: Procedure, A: Allocator> Engine<P, A> {
     }
 
     /// Whether the inlet of this frame stores beyond its parent's words; false for a root.
+    #[tactic(auto, using(crate::proofs::Parents::parent_there))]
     fn is_bad_inlet(&self, name: FrameId, seen: Seen) -> bool
         requires { (tenant : Tenant) × (frame : Frame (List ℕ)) × IsSeen self.now.store name tenant frame seen }
         ensures { (tenant : Tenant) (frame : Frame (List ℕ)) → IsSeen self.now.store name tenant frame seen
@@ -173,6 +174,7 @@ fn has_child_for<A: Allocator>(store: &Store<A>, name: FrameId, after: &Continua
 /// Ok where a frame of these words may do this act with what its tenant has left; else BadAct, NoNodes or
 /// NoSegments.
 #[inline(always)]
+#[tactic(auto, using(crate::proofs::Deciding::seen_so))]
 pub(crate) fn may_do<A: Allocator>(
     store: &Store<A>,
     name: FrameId,

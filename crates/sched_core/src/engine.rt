@@ -45,6 +45,7 @@ pub(crate) struct Found<'a> {
 /// Looks a frame up: its parent, its state, and what its tenant has left. NoTenant or NoFrame where it isn't
 /// there.
 #[inline(always)]
+#[tactic(auto, using(crate::proofs::Showing::no_frame))]
 pub(crate) fn look<A: Allocator>(store: &Store<A>, name: FrameId) -> Result<Seen, Refusal>
     ensures { MatchResult result
         (λ seen. (tenant : Tenant) × (frame : Frame (List ℕ)) × IsSeen store.now name tenant frame seen)
@@ -66,6 +67,7 @@ pub(crate) fn look<A: Allocator>(store: &Store<A>, name: FrameId) -> Result<Seen
 /// Looks a frame up as `look` does, with its words and what it sees, by one look-up. NoTenant or NoFrame where
 /// it isn't there.
 #[inline(always)]
+#[tactic(auto, using(crate::proofs::Showing::no_frame))]
 pub(crate) fn look_in<A: Allocator>(store: &Store<A>, name: FrameId) -> Result<Found<'_>, Refusal>
     ensures frame { MatchResult result
         (λ found. (tenant : Tenant) × (frame : Frame (List ℕ)) × IsSeen store.now name tenant frame found.seen)

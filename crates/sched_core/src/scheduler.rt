@@ -122,6 +122,7 @@ impl<P: Procedure, A: Allocator> Core<P, A> {
     }
 
     /// What a tenant has left, which with what it used is what it reserved; `None` where it isn't there.
+    #[tactic(auto, using(crate::proofs::Showing::shown))]
     pub fn left(&self, tenant: u64) -> Option<Left>
         ensures is { result ≡ left_in_core self.now.shared tenant }
         ensures whole { IfSome result (λ left. IsRestOf (tenant_in self.now.shared.tenants tenant) left) }
@@ -175,6 +176,7 @@ impl<P: Procedure, A: Allocator> Core<P, A> {
     }
 
     /// How many segments are free: the total less those that all frames are charged for.
+    #[tactic(auto, using(crate::proofs::Showing::shown))]
     pub fn free_segments(&self) -> usize
         ensures is { result ≡ free_in self.now.shared }
         ensures whole { result + charged_in self.now.shared.tenants ≡ self.now.shared.totals.segments }

@@ -15,6 +15,7 @@ impl<P: Procedure, A: Allocator> Engine<P, A> {
     /// Does one step: what it did, or its refusal. `fitting` says that all frames are known to fit (the procedure's
     /// invariant holds of them); the result is the same without.
     #[inline(always)]
+    #[tactic(auto, using(crate::proofs::Stepping::one_step))]
     pub(crate) fn step(&mut self, step: &Step<P>, fitting: bool) -> StepAnswer<P>
     where
         A: Clone,

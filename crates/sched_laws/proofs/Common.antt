@@ -8,7 +8,7 @@ pub use Rattle.std.proofs.lemmas.List.{length-replicate, length-set, map-append,
 pub use Rattle.std.proofs.lemmas.List.Elements.{filter-append}
 pub use Rattle.std.proofs.lemmas.List.Sums.{sum_by-append, sum_by-cons}
 pub use Rattle.std.specs.List.{filter}
-pub use Rattle.std.specs.Prelude.{is_ok, ◌==◌}
+pub use Rattle.std.specs.Prelude.{if◌then◌else◌, is_ok, ◌==◌}
 pub use Rattle.frame_tree.proofs.Forest.{AllBelow-append, EndsIn, has_frame-above, path_in-left, path_in-right}
 pub use Rattle.frame_tree.proofs.TreeChanges.{AllBelow-filter, aborted-itself, aborted-leaf, filter-found, frame_at-filter, frame_at-stays, frame_at-without}
 pub use Rattle.frame_tree.proofs.TreeChanges.{frame_at_other-without, rising-filter, tree-aborted, tree-without, tree-without_job}

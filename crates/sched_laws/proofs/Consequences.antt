@@ -1,9 +1,10 @@
 -- What the shape of a tenant gives.
-use Rattle.sched_laws.proofs.Common.{◌≡◌, ℕ, suc, ◌+◌, ◌-◌, ◌≤◌, inl, inr, true, List, [], ◌∷◌, Some, length, ap, ◌∙◌, arith, Bool, false, eqb, Option, None, Result, Ok, Err, ◌++◌, cases_Bool, ne_eqb, sum_by-cons, charge, IsWithinLimits, Quota, IsWithinReserve, Computing, Returned, Frame, frame_at, path_in, root_of, children_of, root-there, Job, Live, Cancelled as CancelledJob, Tree, Tenant, account_in, charged_for, is_root, job_at, is_live_at, number_from, job_under, with_ended, mark_of_state, IsShaped, live_count, AreRootsLive, AreLiveRootsThere, HaveWords, AreShaped, Refusal, NoTenant, DidOf, StepOf, Admit, AdmitMore, Functions, Outcome, lone, lone_step, tenant_of, CoreState, tenant_in, with_tenant, without_tenant, with_outcome, meets_busy, unless_busy, unless_beyond, is_beyond, reserved_by, reservations_in, step_among, step_result, shared_after, after_answer, after_answers, HasEnded, KeepsEnded}
+use Rattle.sched_laws.proofs.Common.{◌≡◌, ℕ, suc, ◌+◌, ◌-◌, ◌≤◌, inl, inr, true, List, [], ◌∷◌, Some, length, ap, ◌∙◌, arith, Bool, false, eqb, Option, None, Result, Ok, Err, ◌++◌, cases_Bool, ne_eqb, sum_by-cons, charge, IsWithinLimits, Quota, IsWithinReserve, Computing, Returned, frame_at, path_in, root_of, children_of, root-there, Job, Live, Cancelled as CancelledJob, Tree, Tenant, account_in, charged_for, is_root, job_at, is_live_at, number_from, job_under, with_ended, mark_of_state, IsShaped, live_count, AreRootsLive, AreLiveRootsThere, HaveWords, AreShaped, Refusal, NoTenant, DidOf, StepOf, Admit, AdmitMore, Functions, Outcome, lone, lone_step, tenant_of, CoreState, tenant_in, with_tenant, without_tenant, with_outcome, meets_busy, unless_busy, unless_beyond, is_beyond, reserved_by, reservations_in, step_among, step_result, shared_after, after_answer, after_answers, HasEnded, KeepsEnded}
 use Rattle.sched_laws.proofs.Shaped.{returned-childless, LeftShaped, unless-passed, step-shaped, admitted-shaped, came, by-kinds}
+use Rattle.sched_laws.proofs.Holds.{F}
 
 -- a frame that has returned or computes has no child
-module _ (tenant : Tenant) (s : ℕ) (f : Frame (List ℕ)) (shape : IsShaped tenant) where
+module _ (tenant : Tenant) (s : ℕ) (f : F) (shape : IsShaped tenant) where
   pub returned-leaf : frame_at tenant.frames s ≡ Some f → f.state ≡ Returned → children_of tenant.frames s ≡ []
   returned-leaf at is = returned-childless tenant s f shape at (λ e. let k = ap mark_of_state is in absurd cc)
 
@@ -11,7 +12,8 @@ module _ (tenant : Tenant) (s : ℕ) (f : Frame (List ℕ)) (shape : IsShaped te
   computing-leaf worker at is = returned-childless tenant s f shape at (λ e. let k = ap mark_of_state is in absurd cc)
 
 -- the root of a live job is there
-job-there : (tree : Tree) (jobs : List Job) (number root : ℕ) → AreLiveRootsThere tree jobs → job_at jobs number ≡ Some (Live root) → path_in tree root ≡ root ∷ []
+job-there : (tree : Tree) (jobs : List Job) (number root : ℕ) → AreLiveRootsThere tree jobs → job_at jobs number ≡ Some (Live root) →
+    path_in tree root ≡ root ∷ []
 job-there tree [] number root live is = absurd cc
 job-there tree (job ∷ jobs) number root live is = grind (arith, job-there tree jobs (number - 1) root)
 
@@ -40,17 +42,19 @@ job-found root (job ∷ jobs) some = elim (cases_Bool (is_live_at root job)) [
     minus : (n : ℕ) → n + 1 - 1 ≡ n
     minus n = omega arith
 
-    later : 1 ≤ live_count root jobs → job_at jobs (number_from 1 root jobs) ≡ Some (Live root) → job_at (job ∷ jobs) (number_from (1 + 1) root jobs) ≡ Some (Live root)
+    later : 1 ≤ live_count root jobs → job_at jobs (number_from 1 root jobs) ≡ Some (Live root) →
+        job_at (job ∷ jobs) (number_from (1 + 1) root jobs) ≡ Some (Live root)
     later rest found =
         let above = number-above 1 root jobs rest in
         let n = number_from 1 root jobs in
         ap (job_at (job ∷ jobs)) (number-shift 1 root jobs rest) ∙ (rw (ne_eqb (n + 1) 1 (λ e. omega (arith, e, above))) (ap (job_at jobs) (minus n) ∙ found))
 
-pub root-counted : (jobs : List Job) (xs : Tree) (s : ℕ) (f : Frame (List ℕ)) → AreRootsLive jobs xs → frame_at xs s ≡ Some f → is_root f.path ≡ true → live_count s jobs ≡ 1
+pub root-counted : (jobs : List Job) (xs : Tree) (s : ℕ) (f : F) → AreRootsLive jobs xs → frame_at xs s ≡ Some f → is_root f.path ≡ true →
+    live_count s jobs ≡ 1
 root-counted jobs [] s f roots at root = absurd cc
 root-counted jobs (x ∷ xs) s f roots at root = grind (arith, root-counted jobs xs s f)
 
-module _ (tenant : Tenant) (s : ℕ) (f : Frame (List ℕ)) (shape : IsShaped tenant) (at : frame_at tenant.frames s ≡ Some f) where
+module _ (tenant : Tenant) (s : ℕ) (f : F) (shape : IsShaped tenant) (at : frame_at tenant.frames s ≡ Some f) where
   pub root-live : is_root f.path ≡ true → job_at tenant.jobs (job_under s tenant.jobs) ≡ Some (Live s)
   root-live root = (let one = root-counted tenant.jobs tenant.frames s f shape.roots at root in job-found s tenant.jobs (omega (arith, one)))
 
@@ -66,7 +70,7 @@ within-reserve tenant limits shape = grind arith
 frames-charged : (xs : Tree) → HaveWords xs → length xs ≤ charged_for xs
 frames-charged [] words = omega arith
 frames-charged (x ∷ xs) words =
-    let own = sum_by-cons (λ (frame : Frame (List ℕ)). charge (length frame.value)) x xs in
+    let own = sum_by-cons (λ (frame : F). charge (length frame.value)) x xs in
     more (length xs) (charged_for xs) (charged_for (x ∷ xs)) (charge (length x.value)) (frames-charged xs words.1) own (some (length x.value) words.0.0)
   where
     some : (n : ℕ) → 1 ≤ n → 1 ≤ charge n
@@ -92,11 +96,11 @@ shaped-in n (e ∷ es) t all is = grind (arith, shaped-in n es t)
 
 with-shaped : (n : ℕ) (t : Tenant) (es : Entries) → IsShaped t → AreShaped es → AreShaped (with_tenant n t es)
 with-shaped n t [] s all = (s, tt)
-with-shaped n t (e ∷ es) s all = elim (cases_Bool (eqb e.0 n)) [ inl same ↦ rw same (s, all.1) | inr other ↦ rw other (all.0, with-shaped n t es s all.1) ]
+with-shaped n t (e ∷ es) s all = grind (arith, with-shaped n t es s)
 
 without-shaped : (n : ℕ) (es : Entries) → AreShaped es → AreShaped (without_tenant n es)
 without-shaped n [] all = tt
-without-shaped n (e ∷ es) all = elim (cases_Bool (eqb e.0 n)) [ inl same ↦ rw same (without-shaped n es all.1) | inr other ↦ rw other (all.0, without-shaped n es all.1) ]
+without-shaped n (e ∷ es) all = grind (arith, without-shaped n es)
 
 outcome-shaped : (n : ℕ) (t : Option Tenant) (es : Entries) → LeftShaped t → AreShaped es → AreShaped (with_outcome n t es)
 outcome-shaped n t es s all = grind (arith, without-shaped, with-shaped)
@@ -105,7 +109,8 @@ outcome-shaped n t es s all = grind (arith, without-shaped, with-shaped)
 refused : {I : Type 0} (refusal : Refusal) (outcome : Outcome I) → ◌≡◌ {A = Result (Outcome I) Refusal} (Err refusal) (Ok outcome) → LeftShaped outcome.0
 refused refusal outcome e = absurd cc
 
-pub lone-shaped : {I A : Type 0} (functions : Functions I A) (own : Option Tenant) (step : StepOf A) (outcome : Outcome I) → lone functions own step ≡ Ok outcome → LeftShaped own → LeftShaped outcome.0
+pub lone-shaped : {I A : Type 0} (functions : Functions I A) (own : Option Tenant) (step : StepOf A) (outcome : Outcome I) →
+    lone functions own step ≡ Ok outcome → LeftShaped own → LeftShaped outcome.0
 lone-shaped functions (Some tenant) step outcome is s = step-shaped functions tenant step outcome is s
 lone-shaped {I} functions None (Admit number quota) outcome is s = grind (arith, came, admitted-shaped)
 lone-shaped functions None _ outcome is s = refused NoTenant outcome is
@@ -120,8 +125,10 @@ module _ {I : Type 0} (alone : Result (Outcome I) Refusal) (outcome : Outcome I)
   not-beyond beyond is = grind arith
 
 -- what was taken of an admission of more
-pub more-taken : {I A : Type 0} (functions : Functions I A) (before : CoreState) (number : ℕ) (quota : Quota) (outcome : Outcome I) → step_result {A = A} functions before (AdmitMore number quota) ≡ Ok outcome →
-    (is_beyond (reservations_in before) (reserved_by (tenant_in before.tenants number)) quota ≡ false) × (lone {A = A} functions (tenant_in before.tenants number) (AdmitMore number quota) ≡ Ok outcome)
+pub more-taken : {I A : Type 0} (functions : Functions I A) (before : CoreState) (number : ℕ) (quota : Quota) (outcome : Outcome I) →
+    step_result {A = A} functions before (AdmitMore number quota) ≡ Ok outcome →
+    (is_beyond (reservations_in before) (reserved_by (tenant_in before.tenants number)) quota ≡ false)
+    × (lone {A = A} functions (tenant_in before.tenants number) (AdmitMore number quota) ≡ Ok outcome)
 more-taken {A = A} functions before number quota outcome is =
     let own = tenant_in before.tenants number in
     not-beyond (lone {A = A} functions own (AdmitMore number quota)) outcome (is_beyond (reservations_in before) (reserved_by own) quota) is
@@ -141,13 +148,16 @@ module _ {I A : Type 0} (functions : Functions I A) (before : CoreState) (outcom
   step_result-shaped step is = among-shaped step is
 
 module _ {I A : Type 0} (functions : Functions I A) where
-  after-shaped : (before : CoreState) (step : StepOf A) (came_to : Result (Outcome I) Refusal) → step_result functions before step ≡ came_to → AreShaped before.tenants → AreShaped (shared_after before step came_to).tenants
+  after-shaped : (before : CoreState) (step : StepOf A) (came_to : Result (Outcome I) Refusal) → step_result functions before step ≡ came_to →
+      AreShaped before.tenants → AreShaped (shared_after before step came_to).tenants
   after-shaped before step came_to is all = grind (arith, outcome-shaped, step_result-shaped)
 
-  pub shaped_answer : (before : CoreState) (step : StepOf A) (answer : Result (DidOf I) Refusal) → AreShaped before.tenants → AreShaped (after_answer functions before step answer).tenants
+  pub shaped_answer : (before : CoreState) (step : StepOf A) (answer : Result (DidOf I) Refusal) → AreShaped before.tenants →
+      AreShaped (after_answer functions before step answer).tenants
   shaped_answer before step answer all = grind (arith, after-shaped)
 
-  pub shaped_answers : (before : CoreState) (steps : List (StepOf A)) (answers : List (Result (DidOf I) Refusal)) → AreShaped before.tenants → AreShaped (after_answers functions before steps answers).tenants
+  pub shaped_answers : (before : CoreState) (steps : List (StepOf A)) (answers : List (Result (DidOf I) Refusal)) → AreShaped before.tenants →
+      AreShaped (after_answers functions before steps answers).tenants
   shaped_answers before (step ∷ steps) (answer ∷ answers) all =
       shaped_answers (after_answer functions before step answer) steps answers (shaped_answer before step answer all)
   shaped_answers before steps answers all = grind arith
@@ -171,7 +181,8 @@ module _ (root : ℕ) (job : Job) (has : HasEnded job) where
     | inr later ↦ rw later (at-ended end xs (number - 1) (rw later at at))
   ]
 
-pub step-ended : {I A : Type 0} (functions : Functions I A) (tenant : Tenant) (step : StepOf A) (outcome : Outcome I) → lone_step functions tenant step ≡ Ok outcome → KeepsEnded tenant.jobs outcome.0
+pub step-ended : {I A : Type 0} (functions : Functions I A) (tenant : Tenant) (step : StepOf A) (outcome : Outcome I) →
+    lone_step functions tenant step ≡ Ok outcome → KeepsEnded tenant.jobs outcome.0
 step-ended functions tenant step outcome is = by-kinds functions tenant step outcome (KeepsEnded tenant.jobs) is (record {
   at_raise = λ number quota raises k job has at. at;
   at_submit = λ serials root frames k job has at. at-append tenant.jobs _ k job at;
@@ -181,3 +192,6 @@ step-ended functions tenant step outcome is = by-kinds functions tenant step out
   at_cancel = λ number root found k job has at. at-ended root job has CancelledJob tenant.jobs k at;
   at_leave = λ number leaves. tt;
 })
+
+-- ended jobs stay
+pub ruleset ended_stay = (step-ended)

@@ -1,45 +1,44 @@
 -- Every answer leaves a core fitting, and so does every list of them.
-use Rattle.sched_laws.proofs.Common.{◌≡◌, ◌≢◌, ℕ, ◌<◌, ◌≤◌, inl, inr, true, false, eqb, List, [], ◌∷◌, ◌++◌, Option, Some, None, Result, Ok, Err, refl, ap, sym, ◌∙◌, subst, arith, append_assoc, append-nil, suc, ◌+◌, length, is_ok, ◌==◌, cases_Bool, cases_eq, eq-eqb, ne_eqb, Quota, root_of, Refusal, Continuation, StepOf, Admit, AdmitMore, Submit, DidOf, Admitted, Submitted, Functions, Tenant, admitted_with, Tree, Fitting, Rooting, ParentFits, NewChildFits, Outcome, lone, lone_step, submit_tests, submitted, tenant_of, only, state_after, answer_of, alone_from, answers_from, CoreState, shared_by_nobody, tenant_in, with_outcome, meets_busy, step_result, newest_after, shared_with, is_admission, IsAnswerTo, AreAnswersTo, after_answer, after_answers, taken_steps, AreNumbersGiven, tenant_in-with_outcome, tenant_in_other-with_outcome, known-number, step-taken, there, more-there, above, step_result-step, shared-after-taken, found, IsShaped, AreShaped, TenantFits, CoreFits, submits, origins_of, RootFits, RootsFit, origins_after, StaysFitting, JobsFit, filter-append, Job, Spent as SpentJob, Cancelled as CancelledJob}
+use Rattle.sched_laws.proofs.Common.{◌≡◌, ◌≢◌, ℕ, ◌<◌, ◌≤◌, inl, inr, true, false, eqb, List, [], ◌∷◌, ◌++◌, Option, Some, None, Result, Ok, Err, refl, ap, sym, ◌∙◌, arith, append_assoc, append-nil, suc, ◌+◌, length, is_ok, ◌==◌, cases_Bool, cases_eq, eq-eqb, ne_eqb, Quota, root_of, Refusal, Continuation, StepOf, Admit, AdmitMore, Submit, DidOf, Admitted, Submitted, Functions, Tenant, admitted_with, Tree, Fitting, Rooting, ParentFits, NewChildFits, Outcome, lone, lone_step, submit_tests, submitted, tenant_of, only, state_after, alone_from, answers_from, CoreState, shared_by_nobody, tenant_in, with_outcome, meets_busy, step_result, newest_after, shared_with, is_admission, IsAnswerTo, AreAnswersTo, after_answer, after_answers, taken_steps, AreNumbersGiven, tenant_in-with_outcome, tenant_in_other-with_outcome, known-number, step-taken, there, more-there, above, step_result-step, shared-after-taken, found, IsShaped, AreShaped, TenantFits, CoreFits, submits, origins_of, RootFits, RootsFit, origins_after, StaysFitting, JobsFit, filter-append, Job, Spent as SpentJob, Cancelled as CancelledJob}
 use Rattle.sched_laws.proofs.Shaped.{unless-passed, came, by-effects}
 use Rattle.sched_laws.proofs.Consequences.{root-above, live-root, shaped-in, not-busy, more-taken, shaped_answer}
-use Rattle.sched_laws.proofs.Holds.{Lists}
+use Rattle.sched_laws.proofs.Holds.{Lists, among}
 use Rattle.sched_laws.proofs.Fits.{IsLawful, LeftFits}
 use Rattle.sched_laws.proofs.FitSteps.{ended-fits, submit-fits, taken-fits, advanced-fits, answered-fits, inlet-fits, finished-fits}
 
--- a step that submits nothing adds no origin
-same-origins : (fits : Fitting) (rooted : Rooting) (origins : Lists) (o : Option Tenant) → LeftFits fits rooted origins o → LeftFits fits rooted (origins ++ []) o
-same-origins fits rooted origins o left = let P : Lists → Type 0 = λ os. LeftFits fits rooted os o in subst P (sym (append-nil origins)) left
-
 -- the number of an admission that was taken is above all
 module _ {I A : Type 0} (functions : Functions I A) (before : CoreState) (outcome : Outcome I) where
-  admitted-above : (number : ℕ) (quota : Quota) → step_result {A = A} functions before (Admit number quota) ≡ Ok outcome → (before.newest < number) × ((Some (admitted_with quota), Admitted) ≡ outcome)
+  admitted-above : (number : ℕ) (quota : Quota) → step_result {A = A} functions before (Admit number quota) ≡ Ok outcome →
+      (before.newest < number) × ((Some (admitted_with quota), Admitted) ≡ outcome)
   admitted-above number quota is = grind (arith, unless-passed, above)
 
   -- a taken step that is no admission is taken alone
-  pub taken-alone : (step : StepOf A) → is_admission step ≡ false → step_result functions before step ≡ Ok outcome → lone functions (tenant_in before.tenants (tenant_of step)) step ≡ Ok outcome
-  taken-alone step no_admission is =
-      not-busy _ outcome (meets_busy step before.tenants) (sym (step_result-step functions before step no_admission) ∙ is)
+  pub taken-alone : (step : StepOf A) → is_admission step ≡ false → step_result functions before step ≡ Ok outcome →
+      lone functions (tenant_in before.tenants (tenant_of step)) step ≡ Ok outcome
+  taken-alone step no_admission is = not-busy _ outcome (meets_busy step before.tenants) (sym (step_result-step functions before step no_admission) ∙ is)
 
   -- so is an admission of more, of a tenant that is there
-  pub taken-more-there : (number : ℕ) (quota : Quota) → step_result {A = A} functions before (AdmitMore number quota) ≡ Ok outcome → tenant_in before.tenants number ≢ None
+  pub taken-more-there : (number : ℕ) (quota : Quota) → step_result {A = A} functions before (AdmitMore number quota) ≡ Ok outcome →
+      tenant_in before.tenants number ≢ None
   taken-more-there number quota is = more-there {A = A} functions _ number quota outcome (more-taken {A = A} functions before number quota outcome is).1
 
--- the greatest number after a taken step: the step's tenant has one that is no greater, and it is no less than before
 module _ {I A : Type 0} (functions : Functions I A) (before : CoreState) (step : StepOf A) where
-  numbers-after : (outcome : Outcome I) → AreNumbersGiven before → step_result functions before step ≡ Ok outcome → (tenant_of step ≤ newest_after before.newest step) × (before.newest ≤ newest_after before.newest step)
+  -- the greatest number after a taken step: the step's tenant has one that is no greater, and it is no less than before
+  numbers-after : (outcome : Outcome I) → AreNumbersGiven before → step_result functions before step ≡ Ok outcome →
+      (tenant_of step ≤ newest_after before.newest step) × (before.newest ≤ newest_after before.newest step)
   numbers-after outcome known is = grind (arith, admitted-above, known-number, taken-more-there, there, taken-alone)
 
   -- whatever a step is answered
-  pub known-answer : (answer : Result (DidOf I) Refusal) → AreNumbersGiven before → IsAnswerTo functions before step answer → AreNumbersGiven (after_answer functions before step answer)
+  pub known-answer : (answer : Result (DidOf I) Refusal) → AreNumbersGiven before → IsAnswerTo functions before step answer →
+      AreNumbersGiven (after_answer functions before step answer)
   known-answer (Err refusal) known right = known
-  known-answer (Ok did) known right =
-      let t = step-taken functions before step did known right in
-      let K : CoreState → Type 0 = λ after. AreNumbersGiven after in subst K (sym (shared-after-taken functions before step did t)) t.known
+  known-answer (Ok did) known right = let t = step-taken functions before step did known right in rw (shared-after-taken functions before step did t) t.known
 
 -- the origins after a list of steps
-same-core : (fits : Fitting) (rooted : Rooting) (a b : ℕ → Lists) (shared : CoreState) → ((number : ℕ) → a number ≡ b number) → CoreFits fits rooted a shared → CoreFits fits rooted b shared
+same-core : (fits : Fitting) (rooted : Rooting) (a b : ℕ → Lists) (shared : CoreState) → ((number : ℕ) → a number ≡ b number) →
+    CoreFits fits rooted a shared → CoreFits fits rooted b shared
 same-core fits rooted a b shared same core = record {
-  tenants = λ number tenant at. let P : Lists → Type 0 = λ os. TenantFits fits rooted os tenant in subst P (same number) (core.tenants number tenant at);
+  tenants = λ number tenant at. rw (← same number) (core.tenants number tenant at);
   unused = λ number low. sym (same number) ∙ core.unused number low;
 }
 
@@ -54,81 +53,78 @@ origins-on origins step did rest number = elim (cases_Bool (eqb (tenant_of step)
 pub nobody-fits : (fits : Fitting) (rooted : Rooting) (totals : Quota) → CoreFits fits rooted (λ number. []) (shared_by_nobody totals)
 nobody-fits fits rooted totals = record { tenants = λ number tenant at. absurd cc; unused = λ number low. refl }
 
--- a procedure, and what it keeps of its frames and roots
-module _ {I A : Type 0} (functions : Functions I A) (fits : Fitting) (rooted : Rooting) where
-  -- every step but Submit
-  own-fits : (origins : Lists) (tenant : Tenant) (step : StepOf A) (outcome : Outcome I) → IsLawful functions fits rooted → IsShaped tenant → TenantFits fits rooted origins tenant →
-      submits step ≡ [] → lone_step functions tenant step ≡ Ok outcome → LeftFits fits rooted origins outcome.0
-  own-fits origins tenant step outcome lawful shape fitting none is = by-effects functions tenant step outcome (LeftFits fits rooted origins) is (record {
+-- every step of a tenant but Submit
+module _ {I A : Type 0} {functions : Functions I A} {fits : Fitting} {rooted : Rooting} {origins : Lists} {tenant : Tenant}
+    (lawful : IsLawful functions fits rooted) (shape : IsShaped tenant) (fitting : TenantFits fits rooted origins tenant)
+    (step : StepOf A) (outcome : Outcome I) where
+  own-fits : submits step ≡ [] → lone_step functions tenant step ≡ Ok outcome → LeftFits fits rooted origins outcome.0
+  own-fits none is = by-effects functions tenant step outcome (LeftFits fits rooted origins) is (record {
     at_raise = λ number quota _ enough. record { frames = fitting.frames; jobs = fitting.jobs };
     at_submit = λ number words size submit passed. (let no : words ∷ [] ≡ [] = sym (ap submits submit) ∙ none in absurd cc);
-    at_take = λ worker serial f at ready some. taken-fits I fits rooted origins tenant worker serial f shape fitting at ready;
-    at_advance = λ worker name f at passed. advanced-fits functions fits rooted origins tenant worker name f lawful shape fitting at passed;
-    at_answer = λ worker serial f answer at passed. answered-fits functions fits rooted origins tenant worker serial f answer lawful shape fitting at passed;
-    at_inlet = λ worker name f parent at named passed. inlet-fits _ fits rooted origins tenant worker name f parent lawful shape fitting at named passed;
-    at_finish = λ worker serial f at passed. finished-fits I fits rooted origins tenant worker serial f shape fitting at passed;
-    at_spend = λ serial f at. ended-fits fits rooted origins tenant _ SpentJob shape fitting (root-above tenant serial f shape at) (λ origin was. tt);
-    at_cancel = λ number root at. ended-fits fits rooted _ tenant root CancelledJob shape fitting (live-root tenant number root shape at) (λ origin was. tt);
+    at_take = λ worker serial f at ready some. taken-fits lawful shape fitting worker serial f at ready;
+    at_advance = λ worker name f at passed. advanced-fits lawful shape fitting worker name f at passed;
+    at_answer = λ worker serial f answer at passed. answered-fits lawful shape fitting worker serial f answer at passed;
+    at_inlet = λ worker name f parent at named passed. inlet-fits lawful shape fitting worker name f parent at named passed;
+    at_finish = λ worker serial f at passed. finished-fits lawful shape fitting worker serial f at passed;
+    at_spend = λ serial f at. ended-fits shape fitting (root_of f.path) SpentJob (root-above tenant serial f shape at) (λ origin was. tt);
+    at_cancel = λ number root at. ended-fits shape fitting root CancelledJob (live-root tenant number root shape at) (λ origin was. tt);
     at_leave = λ number leaves. tt;
   })
 
-  -- every step
-  others-fit : (origins : Lists) (tenant : Tenant) (step : StepOf A) (outcome : Outcome I) → IsLawful functions fits rooted → IsShaped tenant → TenantFits fits rooted origins tenant →
-      submits step ≡ [] → lone_step functions tenant step ≡ Ok outcome → LeftFits fits rooted (origins ++ submits step) outcome.0
-  others-fit origins tenant step outcome lawful shape fitting none is = grind (arith, same-origins, own-fits)
+  others-fit : submits step ≡ [] → lone_step functions tenant step ≡ Ok outcome → LeftFits fits rooted (origins ++ submits step) outcome.0
+  others-fit none is = rw (none, append-nil origins) (own-fits none is)
 
-  pub step-fits : (origins : Lists) (tenant : Tenant) (step : StepOf A) (outcome : Outcome I) → IsLawful functions fits rooted → IsShaped tenant → TenantFits fits rooted origins tenant →
+-- every step of a tenant
+module _ {I A : Type 0} (functions : Functions I A) (fits : Fitting) (rooted : Rooting) (origins : Lists) (tenant : Tenant) where
+  pub step-fits : (step : StepOf A) (outcome : Outcome I) → IsLawful functions fits rooted → IsShaped tenant → TenantFits fits rooted origins tenant →
       RootFits fits rooted step → lone_step functions tenant step ≡ Ok outcome → LeftFits fits rooted (origins ++ submits step) outcome.0
-  step-fits origins tenant (Submit number words size) outcome lawful shape fitting root is = grind (arith, unless-passed, came, submit-fits)
-  step-fits origins tenant step outcome lawful shape fitting root is = others-fit origins tenant step outcome lawful shape fitting refl is
+  step-fits (Submit number words size) outcome lawful shape fitting root is = grind (arith, unless-passed, came, submit-fits)
+  step-fits step outcome lawful shape fitting root is = others-fit lawful shape fitting step outcome refl is
 
-  -- among several tenants: a step of a tenant that is there
-  among-fits : (origins : ℕ → Lists) (before : CoreState) (step : StepOf A) (outcome : Outcome I) → IsLawful functions fits rooted → AreShaped before.tenants → CoreFits fits rooted origins before →
-      RootFits fits rooted step → tenant_in before.tenants (tenant_of step) ≢ None → lone functions (tenant_in before.tenants (tenant_of step)) step ≡ Ok outcome → LeftFits fits rooted (origins (tenant_of step) ++ submits step) outcome.0
-  among-fits origins before step outcome lawful shaped core root there is = by (tenant_in before.tenants (tenant_of step)) refl
+-- a step among several tenants that fit
+module _ {I A : Type 0} {functions : Functions I A} {fits : Fitting} {rooted : Rooting} {origins : ℕ → Lists} {before : CoreState}
+    (lawful : IsLawful functions fits rooted) (shaped : AreShaped before.tenants) (core : CoreFits fits rooted origins before) (outcome : Outcome I) where
+  -- a step of a tenant that is there
+  among-fits : (step : StepOf A) → RootFits fits rooted step → tenant_in before.tenants (tenant_of step) ≢ None →
+      lone functions (tenant_in before.tenants (tenant_of step)) step ≡ Ok outcome → LeftFits fits rooted (origins (tenant_of step) ++ submits step) outcome.0
+  among-fits step root there is = by (tenant_in before.tenants (tenant_of step)) refl
     where
       by : (own : Option Tenant) → tenant_in before.tenants (tenant_of step) ≡ own → LeftFits fits rooted (origins (tenant_of step) ++ submits step) outcome.0
       by None e = absurd (there e)
       by (Some tenant) e =
-          step-fits _ tenant step outcome lawful (shaped-in (tenant_of step) before.tenants tenant shaped e) (core.tenants (tenant_of step) tenant e) root
-          (ap (λ o. lone functions o step) (sym e) ∙ is)
+          let shape = shaped-in (tenant_of step) before.tenants tenant shaped e in
+          step-fits functions fits rooted _ tenant step outcome lawful shape (core.tenants (tenant_of step) tenant e) root (rw e at is)
+
+  admit-left : (number : ℕ) (quota : Quota) → step_result {A = A} functions before (Admit number quota) ≡ Ok outcome →
+      LeftFits fits rooted (origins number ++ []) outcome.0
+  admit-left number quota is = grind (arith, admitted-above, came)
 
   -- a taken step: what its tenant comes to
-  admit-left : (origins : ℕ → Lists) (before : CoreState) (number : ℕ) (quota : Quota) (outcome : Outcome I) → CoreFits fits rooted origins before →
-      step_result {A = A} functions before (Admit number quota) ≡ Ok outcome → LeftFits fits rooted (origins number ++ []) outcome.0
-  admit-left origins before number quota outcome core is = grind (arith, admitted-above, came)
-
-  more-left : (origins : ℕ → Lists) (before : CoreState) (number : ℕ) (quota : Quota) (outcome : Outcome I) → IsLawful functions fits rooted → AreShaped before.tenants → CoreFits fits rooted origins before →
-      step_result {A = A} functions before (AdmitMore number quota) ≡ Ok outcome → LeftFits fits rooted (origins number ++ []) outcome.0
-  more-left origins before number quota outcome lawful shaped core is =
-      among-fits origins before (AdmitMore number quota) outcome lawful shaped core tt (taken-more-there {A = A} functions before outcome number quota is) (more-taken {A = A} functions before number quota outcome is).1
-
-  taken-left : (origins : ℕ → Lists) (before : CoreState) (step : StepOf A) (outcome : Outcome I) → IsLawful functions fits rooted → AreShaped before.tenants → CoreFits fits rooted origins before →
-      RootFits fits rooted step → step_result functions before step ≡ Ok outcome → LeftFits fits rooted (origins (tenant_of step) ++ submits step) outcome.0
-  taken-left origins before (Admit number quota) outcome lawful shaped core root is = admit-left origins before number quota outcome core is
-  taken-left origins before (AdmitMore number quota) outcome lawful shaped core root is = more-left origins before number quota outcome lawful shaped core is
-  taken-left origins before step outcome lawful shaped core root is =
-      let alone = taken-alone functions before outcome step refl is in among-fits _ before step _ lawful shaped core root (there functions _ step outcome refl alone) alone
+  taken-left : (step : StepOf A) → RootFits fits rooted step → step_result functions before step ≡ Ok outcome →
+      LeftFits fits rooted (origins (tenant_of step) ++ submits step) outcome.0
+  taken-left (Admit number quota) root is = admit-left number quota is
+  taken-left (AdmitMore number quota) root is =
+      let alone = (more-taken {A = A} functions before number quota outcome is).1 in
+      among-fits (AdmitMore number quota) tt (taken-more-there {A = A} functions before outcome number quota is) alone
+  taken-left step root is =
+      let alone = taken-alone functions before outcome step refl is in
+      among-fits step root (there functions _ step outcome refl alone) alone
 
   -- a core after a taken step
-  core-after : (origins : ℕ → Lists) (before : CoreState) (step : StepOf A) (did : DidOf I) (outcome : Outcome I) → IsLawful functions fits rooted → AreNumbersGiven before → AreShaped before.tenants → CoreFits fits rooted origins before →
-      RootFits fits rooted step → step_result functions before step ≡ Ok outcome → CoreFits fits rooted (origins_after origins step (Ok did)) (shared_with before step outcome.0)
-  core-after origins before step did outcome lawful known shaped core root is = record {
-    tenants = λ number tenant at. tenants number tenant at;
-    unused = λ number low. unused number low;
-  }
+  core-after : (step : StepOf A) (did : DidOf I) → AreNumbersGiven before → RootFits fits rooted step → step_result functions before step ≡ Ok outcome →
+      CoreFits fits rooted (origins_after origins step (Ok did)) (shared_with before step outcome.0)
+  core-after step did known root is = record { tenants = λ number tenant at. tenants number tenant at; unused = λ number low. unused number low }
     where
       other : (number : ℕ) → tenant_of step ≢ number → origins_after origins step (Ok did) number ≡ origins number
       other number ne = rw (ne_eqb (tenant_of step) number ne) refl
 
-      tenants : (number : ℕ) (tenant : Tenant) → tenant_in (with_outcome (tenant_of step) outcome.0 before.tenants) number ≡ Some tenant → TenantFits fits rooted (origins_after origins step (Ok did) number) tenant
+      tenants : (number : ℕ) (tenant : Tenant) → tenant_in (with_outcome (tenant_of step) outcome.0 before.tenants) number ≡ Some tenant →
+          TenantFits fits rooted (origins_after origins step (Ok did) number) tenant
       tenants number tenant at = elim (cases_eq (tenant_of step) number) [
-        | inl same ↦ (let own : outcome.0 ≡ Some tenant = sym (tenant_in-with_outcome (tenant_of step) outcome.0 before.tenants) ∙ ap (tenant_in (with_outcome (tenant_of step) outcome.0 before.tenants)) same ∙ at in
-            let P : Option Tenant → Type 0 = λ o. LeftFits fits rooted (origins (tenant_of step) ++ submits step) o in
-            let Q : ℕ → Type 0 = λ n. TenantFits fits rooted (origins n ++ submits step) tenant in
-            rw (eq-eqb (tenant_of step) number same) (subst Q same (subst P own (taken-left origins before step outcome lawful shaped core root is))))
-        | inr ne ↦ (let P : Lists → Type 0 = λ os. TenantFits fits rooted os tenant in
-            subst P (sym (other number ne)) (core.tenants number tenant (sym (tenant_in_other-with_outcome number (tenant_of step) outcome.0 before.tenants ne) ∙ at)))
+        | inl same ↦ (let own : outcome.0 ≡ Some tenant = sym (tenant_in-with_outcome (tenant_of step) outcome.0 before.tenants) ∙ ap (tenant_in _) same ∙ at in
+            let left = rw own at (taken-left step root is) in rw (eq-eqb (tenant_of step) number same, ← same) left)
+        | inr ne ↦ rw (other number ne)
+            (core.tenants number tenant (sym (tenant_in_other-with_outcome number (tenant_of step) outcome.0 before.tenants ne) ∙ at))
       ]
 
       unused : (number : ℕ) → newest_after before.newest step < number → origins_after origins step (Ok did) number ≡ []
@@ -136,17 +132,20 @@ module _ {I A : Type 0} (functions : Functions I A) (fits : Fitting) (rooted : R
           let numbers = numbers-after functions before step outcome known is in
           other number (λ e. omega (arith, e, low, numbers.0)) ∙ core.unused number (omega (arith, low, numbers.1))
 
-  pub answer-keeps : (origins : ℕ → Lists) (before : CoreState) (step : StepOf A) (answer : Result (DidOf I) Refusal) → IsLawful functions fits rooted → AreNumbersGiven before → AreShaped before.tenants → CoreFits fits rooted origins before →
-      (is_ok answer ≡ true → RootFits fits rooted step) → IsAnswerTo functions before step answer → AreNumbersGiven (after_answer functions before step answer) × CoreFits fits rooted (origins_after origins step answer) (after_answer functions before step answer)
+-- a procedure, and what it keeps of its frames and roots
+module _ {I A : Type 0} (functions : Functions I A) (fits : Fitting) (rooted : Rooting) where
+  pub answer-keeps : (origins : ℕ → Lists) (before : CoreState) (step : StepOf A) (answer : Result (DidOf I) Refusal) →
+      IsLawful functions fits rooted → AreNumbersGiven before → AreShaped before.tenants → CoreFits fits rooted origins before →
+      (is_ok answer ≡ true → RootFits fits rooted step) → IsAnswerTo functions before step answer →
+      AreNumbersGiven (after_answer functions before step answer)
+      × CoreFits fits rooted (origins_after origins step answer) (after_answer functions before step answer)
   answer-keeps origins before step (Err refusal) lawful known shaped core root right = (known, core)
   answer-keeps origins before step (Ok did) lawful known shaped core root right =
       let t = step-taken functions before step did known right in
-      let is = shared-after-taken functions before step did t in
-      let P : CoreState → Type 0 = λ after. CoreFits fits rooted (origins_after origins step (Ok did)) after in
-      let K : CoreState → Type 0 = λ after. AreNumbersGiven after in
-      (subst K (sym is) t.known, subst P (sym is) (core-after origins before step did t.outcome lawful known shaped core (root refl) t.among))
+      rw (shared-after-taken functions before step did t) (t.known, core-after lawful shaped core t.outcome step did known (root refl) t.among)
 
-  pub stays-fitting : (origins : ℕ → Lists) (before : CoreState) (steps : List (StepOf A)) (answers : List (Result (DidOf I) Refusal)) → IsLawful functions fits rooted → AreNumbersGiven before → AreShaped before.tenants → CoreFits fits rooted origins before →
+  pub stays-fitting : (origins : ℕ → Lists) (before : CoreState) (steps : List (StepOf A)) (answers : List (Result (DidOf I) Refusal)) →
+      IsLawful functions fits rooted → AreNumbersGiven before → AreShaped before.tenants → CoreFits fits rooted origins before →
       AreAnswersTo functions before steps answers → StaysFitting functions fits rooted origins before steps answers
   stays-fitting origins before (step ∷ steps) (answer ∷ answers) lawful known shaped core right = (
     core,
@@ -155,29 +154,33 @@ module _ {I A : Type 0} (functions : Functions I A) (fits : Fitting) (rooted : R
   )
   stays-fitting origins before steps answers lawful known shaped core right = grind arith
 
-  pub run-fits : (origins : ℕ → Lists) (before : CoreState) (steps : List (StepOf A)) (answers : List (Result (DidOf I) Refusal)) → IsLawful functions fits rooted → AreNumbersGiven before → AreShaped before.tenants → CoreFits fits rooted origins before →
-      AreAnswersTo functions before steps answers → RootsFit fits rooted (taken_steps steps answers) → CoreFits fits rooted (λ number. origins number ++ origins_of (only number (taken_steps steps answers))) (after_answers functions before steps answers)
+  pub run-fits : (origins : ℕ → Lists) (before : CoreState) (steps : List (StepOf A)) (answers : List (Result (DidOf I) Refusal)) →
+      IsLawful functions fits rooted → AreNumbersGiven before → AreShaped before.tenants → CoreFits fits rooted origins before →
+      AreAnswersTo functions before steps answers → RootsFit fits rooted (taken_steps steps answers) →
+      CoreFits fits rooted (λ number. origins number ++ origins_of (only number (taken_steps steps answers))) (after_answers functions before steps answers)
   run-fits origins before [] answers lawful known shaped core right roots = same-core fits rooted _ _ before (λ number. sym (append-nil (origins number))) core
   run-fits origins before (step ∷ steps) [] lawful known shaped core right roots = absurd right
-  run-fits origins before (step ∷ steps) (Err refusal ∷ answers) lawful known shaped core right roots = grind (arith, run-fits origins before steps answers lawful known shaped core right.1 roots)
+  run-fits origins before (step ∷ steps) (Err refusal ∷ answers) lawful known shaped core right roots =
+      run-fits origins before steps answers lawful known shaped core right.1 roots
   run-fits origins before (step ∷ steps) (Ok did ∷ answers) lawful known shaped core right roots =
-      let answer : Result (DidOf I) Refusal = Ok did in
-      let next = answer-keeps origins before step answer lawful known shaped core (λ is. roots.0) right.0 in
-      same-core fits rooted _ _ (after_answers functions (after_answer functions before step answer) steps answers) (λ number. origins-on origins step did (taken_steps steps answers) number)
-      (run-fits (origins_after origins step answer) _ steps answers lawful next.0 (shaped_answer functions before step answer shaped) next.1 right.1 roots.1)
+      let next = answer-keeps origins before step (Ok did) lawful known shaped core (λ is. roots.0) right.0 in
+      let after = shaped_answer functions before step (Ok did) shaped in
+      same-core fits rooted _ _ _ (λ number. origins-on origins step did (taken_steps steps answers) number)
+      (run-fits (origins_after origins step (Ok did)) _ steps answers lawful next.0 after next.1 right.1 roots.1)
 
 -- Lists of steps in parts, and the numbers of jobs.
 
 -- a list of steps in two parts
 module _ {I A : Type 0} (functions : Functions I A) where
-  pub alone_from-append : (before : Option Tenant) (steps more : List (StepOf A)) → alone_from functions before (steps ++ more) ≡ alone_from functions (alone_from functions before steps) more
+  pub alone_from-append : (before : Option Tenant) (steps more : List (StepOf A)) →
+      alone_from functions before (steps ++ more) ≡ alone_from functions (alone_from functions before steps) more
   alone_from-append before [] more = refl
   alone_from-append before (step ∷ steps) more = alone_from-append (state_after before (lone functions before step)) steps more
 
   pub answers_from-append : (before : Option Tenant) (steps more : List (StepOf A)) →
       answers_from functions before (steps ++ more) ≡ answers_from functions before steps ++ answers_from functions (alone_from functions before steps) more
   answers_from-append before [] more = refl
-  answers_from-append before (step ∷ steps) more = ap (λ (rest : List (Result (DidOf I) Refusal)). answer_of (lone functions before step) ∷ rest) (answers_from-append (state_after before (lone functions before step)) steps more)
+  answers_from-append before (step ∷ steps) more = rw (answers_from-append (state_after before (lone functions before step)) steps more) refl
 
 pub only-append : {A : Type 0} (number : ℕ) (steps more : List (StepOf A)) → only number (steps ++ more) ≡ only number steps ++ only number more
 only-append {A} number steps more = filter-append (λ (step : StepOf A). tenant_of step == number) steps more
@@ -191,7 +194,7 @@ AlwaysFits own children mark = Unit {0}
 AlwaysRooted : Rooting
 AlwaysRooted origin own = Unit {0}
 
-parent-always : (origin : List ℕ) (above older : List (List ℕ)) (own : List ℕ) (younger : List (List ℕ)) → ParentFits AlwaysFits AlwaysRooted origin above older own younger
+parent-always : (origin : List ℕ) (above older : Lists) (own : List ℕ) (younger : Lists) → ParentFits AlwaysFits AlwaysRooted origin above older own younger
 unfolding AlwaysFits AlwaysRooted
 parent-always origin above older own younger = grind arith
 
@@ -212,7 +215,8 @@ roots-always [] = tt
 roots-always (step ∷ steps) = (root-always step, roots-always steps)
 
 -- as many jobs as origins
-as-many : (fits : Fitting) (rooted : Rooting) (tree : Tree) (origins : List (List ℕ)) (jobs : List Job) → JobsFit fits rooted tree origins jobs → length jobs ≡ length origins
+as-many : (fits : Fitting) (rooted : Rooting) (tree : Tree) (origins : Lists) (jobs : List Job) → JobsFit fits rooted tree origins jobs →
+    length jobs ≡ length origins
 as-many fits rooted tree (origin ∷ origins) (job ∷ jobs) all = ap (λ (n : ℕ). suc n) (as-many fits rooted tree origins jobs all.1)
 as-many fits rooted tree origins jobs all = grind arith
 
@@ -222,7 +226,8 @@ module _ {I A : Type 0} (functions : Functions I A) (number : ℕ) (tenant : Ten
       tenant_in (after_answers functions (shared_by_nobody totals) steps answers).tenants number ≡ Some tenant →
       length tenant.jobs ≡ length (origins_of (only number (taken_steps steps answers)))
   jobs_counted totals steps answers right at =
-      let core = run-fits functions AlwaysFits AlwaysRooted (λ n. []) (shared_by_nobody totals) steps answers (always-lawful functions) tt tt (nobody-fits AlwaysFits AlwaysRooted totals) right (roots-always (taken_steps steps answers)) in
+      let core = run-fits functions AlwaysFits AlwaysRooted (λ n. []) (shared_by_nobody totals) steps answers (always-lawful functions) tt tt
+      (nobody-fits AlwaysFits AlwaysRooted totals) right (roots-always (taken_steps steps answers)) in
       as-many AlwaysFits AlwaysRooted tenant.frames _ tenant.jobs (core.tenants number tenant at).jobs
 
   -- the number that a taken Submit is answered

@@ -1,5 +1,9 @@
 -- A tree with other words in a frame: what is found, whose children, and what is charged.
-use Rattle.sched_laws.proofs.Common.{◌≡◌, ◌≢◌, ℕ, suc, ◌+◌, ◌≤◌, inl, inr, Bool, false, eqb, List, [], ◌∷◌, ◌++◌, Some, length, refl, ap, sym, ◌∙◌, arith, true, not, Option, None, subst, append-nil, filter, length-set, sum_by-append, sum_by-cons, cases_Bool, eqb-true, cases_eq, false≢true, ne_eqb, not-true, not_from_false, charge, Frame, frame_at, has_frame, children_of, values_of, IsTree, parent_of, goes_under, aborted, frames_without, with_state, IsNextFrame, is_child_of, AreSerialsRising, AreAlike, is_that, Each, if_kept, above-missing, children-by-paths, there-found, found-serial, missing, frame_at-push, frame_at_other-push, tree-rising, placed, under-through, found-each, each-found, tree-alike, children_of-push, frame_at-with_state, frame_at_other-with_state, children_of-with_state, values_of-with_state, Tree, charged_for, with_frame_words, stored, State, aborted-itself, rising-filter, frame_at-filter, frame_at-stays, filter-found, tree-aborted, tree-without, frame_at-without, frame_at_other-without, aborted-leaf, Fitting, Mark, mark_of_state, EachFits, EveryFrameFits}
+use Rattle.sched_laws.proofs.Common.{◌≡◌, ◌≢◌, ℕ, suc, ◌+◌, ◌≤◌, inl, inr, Bool, false, eqb, List, [], ◌∷◌, ◌++◌, Some, length, refl, ap, sym, ◌∙◌, arith, true, not, Option, None, append-nil, filter, length-set, sum_by-append, sum_by-cons, cases_Bool, eqb-true, cases_eq, false≢true, ne_eqb, not-true, not_from_false, charge, Frame, frame_at, has_frame, children_of, values_of, IsTree, parent_of, goes_under, aborted, frames_without, with_state, IsNextFrame, is_child_of, AreSerialsRising, AreAlike, is_that, Each, above-missing, children-by-paths, there-found, found-serial, missing, frame_at-push, frame_at_other-push, tree-rising, placed, under-through, tree-push, has_frame-above, children_under, without_job, found-each, each-found, tree-alike, children_of-push, frame_at_other-with_state, children_of-with_state, values_of-with_state, Tree, charged_for, with_frame_words, stored, State, aborted-itself, rising-filter, frame_at-filter, frame_at-stays, filter-found, tree-aborted, tree-without, frame_at-without, frame_at_other-without, aborted-leaf, Fitting, Mark, mark_of_state, EachFits, EveryFrameFits}
+
+-- a frame with its words
+abbrev pub F : Type 0
+F = Frame (List ℕ)
 
 -- stores keep the number of words
 pub length-stored : (stores : List (ℕ × ℕ)) (words : List ℕ) → length (stored stores words) ≡ length words
@@ -15,7 +19,7 @@ module _ (n : ℕ) (words : List ℕ) where
   pub tree-with_frame_words : (xs : Tree) → IsTree xs → IsTree (with_frame_words n words xs)
   tree-with_frame_words xs t = tree-alike xs (with_frame_words n words xs) (with_frame_words-alike xs) t
 
-  pub frame_at-with_frame_words : (xs : Tree) (f : Frame (List ℕ)) → frame_at xs n ≡ Some f → frame_at (with_frame_words n words xs) n ≡ Some (record f { value = words })
+  pub frame_at-with_frame_words : (xs : Tree) (f : F) → frame_at xs n ≡ Some f → frame_at (with_frame_words n words xs) n ≡ Some (record f { value = words })
   frame_at-with_frame_words [] f at = absurd cc
   frame_at-with_frame_words (x ∷ xs) f at = grind (arith, frame_at-with_frame_words xs f)
 
@@ -24,13 +28,14 @@ module _ (n : ℕ) (words : List ℕ) where
   frame_at_other-with_frame_words (x ∷ xs) s other = grind (arith, frame_at_other-with_frame_words xs s other)
 
   -- the frames that pass a test on paths
-  pub paths-with_frame_words : (p : List ℕ → Bool) (xs : Tree) → filter (λ x. p x.path) (with_frame_words n words xs) ≡ with_frame_words n words (filter (λ x. p x.path) xs)
+  pub paths-with_frame_words : (p : List ℕ → Bool) (xs : Tree) →
+      filter (λ x. p x.path) (with_frame_words n words xs) ≡ with_frame_words n words (filter (λ x. p x.path) xs)
   paths-with_frame_words p [] = refl
   paths-with_frame_words p (x ∷ xs) = grind (arith, paths-with_frame_words p xs)
 
   pub children_of-with_frame_words : (xs : Tree) (s : ℕ) → IsTree xs → children_of (with_frame_words n words xs) s ≡ with_frame_words n words (children_of xs s)
   children_of-with_frame_words xs s t =
-      children-by-paths (with_frame_words n words xs) s (tree-with_frame_words xs t) ∙ paths-with_frame_words (is_child_of s) xs ∙ sym (ap (with_frame_words n words) (children-by-paths xs s t))
+      rw (children-by-paths _ s (tree-with_frame_words xs t), children-by-paths xs s t) (paths-with_frame_words (is_child_of s) xs)
 
   pub length-with_frame_words : (xs : Tree) → length (with_frame_words n words xs) ≡ length xs
   length-with_frame_words [] = refl
@@ -42,7 +47,7 @@ module _ (n : ℕ) (words : List ℕ) where
   with_frame_words-missing (x ∷ xs) lacks = grind (arith, with_frame_words-missing xs)
 
 -- what is charged, frame by frame
-module _ (x : Frame (List ℕ)) where
+module _ (x : F) where
   charged-cons : (xs : Tree) → charged_for (x ∷ xs) ≡ charge (length x.value) + charged_for xs
   charged-cons xs = sum_by-cons (λ frame. charge (length frame.value)) x xs
 
@@ -51,11 +56,11 @@ module _ (x : Frame (List ℕ)) where
 
 -- that of the new words in place of the old
 module _ (n : ℕ) (words : List ℕ) where
-  charged-here : (x : Frame (List ℕ)) (xs : Tree) → x.serial ≡ n → AreSerialsRising (x ∷ xs) →
+  charged-here : (x : F) (xs : Tree) → x.serial ≡ n → AreSerialsRising (x ∷ xs) →
       charged_for (with_frame_words n words (x ∷ xs)) + charge (length x.value) ≡ charged_for (x ∷ xs) + charge (length words)
   charged-here x xs serial rising = grind (arith, with_frame_words-missing, above-missing, charged-cons)
 
-  pub charged-with_frame_words : (xs : Tree) (f : Frame (List ℕ)) → AreSerialsRising xs → frame_at xs n ≡ Some f →
+  pub charged-with_frame_words : (xs : Tree) (f : F) → AreSerialsRising xs → frame_at xs n ≡ Some f →
       charged_for (with_frame_words n words xs) + charge (length f.value) ≡ charged_for xs + charge (length words)
   charged-with_frame_words [] f rising at = absurd cc
   charged-with_frame_words (x ∷ xs) f rising at = grind (arith, charged-with_frame_words xs f, charged-here, eqb-true, charged-cons)
@@ -65,7 +70,7 @@ pub charged-append : (xs ys : Tree) → charged_for (xs ++ ys) ≡ charged_for x
 charged-append xs ys = sum_by-append (λ frame. charge (length frame.value)) xs ys
 
 -- and for those that pass a test
-pub charged-filter : (keep : Frame (List ℕ) → Bool) (xs : Tree) → charged_for (filter keep xs) ≤ charged_for xs
+pub charged-filter : (keep : F → Bool) (xs : Tree) → charged_for (filter keep xs) ≤ charged_for xs
 charged-filter keep [] = omega arith
 charged-filter keep (x ∷ xs) = grind (arith, charged-filter keep xs, charged-cons)
 
@@ -80,9 +85,6 @@ charged-values (x ∷ xs) (y ∷ ys) e = grind (arith, charged-values xs ys, cha
 
 abbrev pub Lists : Type 0
 Lists = List (List ℕ)
-
-abbrev pub F : Type 0
-F = Frame (List ℕ)
 
 -- a fact of a serial, words, words of children, and a mark
 abbrev pub Fact : Type 1
@@ -116,36 +118,33 @@ module _ (fits : Fitting) (tree : Tree) where
 pub found-same : (tree : Tree) (s n : ℕ) (f g : F) → s ≡ n → frame_at tree s ≡ Some f → frame_at tree n ≡ Some g → f ≡ g
 found-same tree s n f g e at_s at_n = let both : ◌≡◌ {A = Option F} (Some f) (Some g) = sym at_s ∙ ap (frame_at tree) e ∙ at_n in cc
 
+-- a found frame, by its own serial
+pub found-own : (tree : Tree) (s : ℕ) (f : F) → frame_at tree s ≡ Some f → frame_at tree f.serial ≡ Some f
+found-own tree s f at = ap (frame_at tree) (found-serial tree s f at) ∙ at
+
 -- another state
 abbrev pub BeforeState : Fact → ℕ → State → Fact
 BeforeState Q n state s w k m = (s ≡ n → Q s w k (mark_of_state state)) × (s ≢ n → Q s w k m)
 
-pub holds-with_state : (Q : Fact) (n : ℕ) (state : State) (tree : Tree) → IsTree tree → Holds (BeforeState Q n state) tree → Holds Q (with_state n state tree)
-holds-with_state Q n state tree t all s f at = elim (cases_eq s n) [
-  | inr other ↦ (let old : frame_at tree s ≡ Some f = sym (frame_at_other-with_state n state tree s (λ e. other (sym e))) ∙ at in
-      subst (λ k. Q s f.value k (mark_of_state f.state)) (sym same) ((all s f old).1 other))
-  | inl is ↦ here is (has_frame tree n) refl
+-- what is found in another state was there before
+pub found-with_state : (n : ℕ) (state : State) (xs : Tree) (f : F) → frame_at (with_state n state xs) n ≡ Some f →
+    (g : F) × (frame_at xs n ≡ Some g) × (record g { state = state } ≡ f)
+found-with_state n state [] f at = absurd cc
+found-with_state n state (x ∷ xs) f at = elim (cases_Bool (eqb x.serial n)) [
+  | inl same ↦ (x, rw same refl, (let both : ◌≡◌ {A = Option F} (Some (record x { state = state })) (Some f) = rw (same, same) at at in cc))
+  | inr other ↦ rw other (found-with_state n state xs f (rw (other, other) at at))
 ]
-  where
-    same : kids (with_state n state tree) s ≡ kids tree s
-    same = grind (arith, children_of-with_state, values_of-with_state)
 
-    lacking : (xs : Tree) → has_frame xs n ≡ false → has_frame (with_state n state xs) n ≡ false
-    lacking [] lacks = refl
-    lacking (x ∷ xs) lacks = elim (cases_Bool (eqb x.serial n)) [
-      | inl same ↦ absurd (false≢true (sym lacks ∙ (rw same refl)))
-      | inr other ↦ rw (other, other) (lacking xs (rw other at lacks))
-    ]
-
-    here : s ≡ n → (there : Bool) → has_frame tree n ≡ there → Q s f.value (kids (with_state n state tree) s) (mark_of_state f.state)
-    here is true there =
-        let g = there-found tree n there in
-        let e : record g.0 { state = state } ≡ f = found-same (with_state n state tree) n s _ f (sym is) (frame_at-with_state n state tree g.0 g.1) at in
-        let P : F → Type 0 = λ h. Q s h.value (kids (with_state n state tree) s) (mark_of_state h.state) in
-        subst P e (subst (λ k. Q s g.0.value k (mark_of_state state)) (sym same) ((all s g.0 (ap (frame_at tree) is ∙ g.1)).0 is))
-    here is false lacks =
-        let none : frame_at (with_state n state tree) n ≡ None = missing (with_state n state tree) n (lacking tree lacks) in
-        let both : ◌≡◌ {A = Option F} None (Some f) = sym none ∙ ap (frame_at (with_state n state tree)) (sym is) ∙ at in absurd cc
+module _ (Q : Fact) (n : ℕ) (state : State) (tree : Tree) (t : IsTree tree) where
+  pub holds-with_state : Holds (BeforeState Q n state) tree → Holds Q (with_state n state tree)
+  holds-with_state all s f at = elim (cases_eq s n) [
+    | inl is ↦ (let g = found-with_state n state tree f (ap (frame_at (with_state n state tree)) (sym is) ∙ at) in
+        rw (same, ← g.2) ((all s g.0 (ap (frame_at tree) is ∙ g.1)).0 is))
+    | inr other ↦ rw same ((all s f (sym (frame_at_other-with_state n state tree s (λ e. other (sym e))) ∙ at)).1 other)
+  ]
+    where
+      same : kids (with_state n state tree) s ≡ kids tree s
+      same = grind (arith, children_of-with_state, values_of-with_state)
 
 -- a frame among others: those before it and those behind it
 pub record IsAmong (xs : Tree) (n : ℕ) (f : F) : Type 0 where
@@ -189,26 +188,28 @@ pub record IsAmongKids (tree : Tree) (s n : ℕ) (f : F) : Type 0 where
   pub frames : (words : List ℕ) → children_of (with_frame_words n words tree) s ≡ with_frame_words n words (children_of tree s)
   pub removed : values_of (frames_without n (children_of tree s)) ≡ older ++ younger
 
-pub among-kids : (tree : Tree) (s n : ℕ) (f : F) → IsTree tree → frame_at tree n ≡ Some f → IsChildOf s f → IsAmongKids tree s n f
-among-kids tree s n f t at child =
-    let rising = tree-rising tree t in
-    let list = filter (λ x. is_child_of s x.path) tree in
-    let is = children-by-paths tree s t in
-    let a = among list n f (rising-filter (λ x. is_child_of s x.path) tree rising) (frame_at-stays (λ x. is_child_of s x.path) tree n f rising at child) in
-    record {
-      older = values_of a.older;
-      younger = values_of a.younger;
-      all = ap values_of (is ∙ a.all) ∙ values-append a.older (f ∷ a.younger);
-      stored = λ words. ap values_of (children_of-with_frame_words n words tree s t ∙ ap (with_frame_words n words) is ∙ a.stored words) ∙ values-append a.older (record f { value = words } ∷ a.younger);
-      frames = λ words. children_of-with_frame_words n words tree s t;
-      removed = ap (λ (ys : Tree). values_of (frames_without n ys)) is ∙ ap values_of a.removed ∙ values-append a.older a.younger;
-    }
-
 pub no-frame : (xs : Tree) (n : ℕ) → frame_at xs n ≡ None → has_frame xs n ≡ false
 no-frame xs n none = grind (arith, there-found)
 
-pub not-among : (tree : Tree) (s n : ℕ) (f : F) → IsTree tree → frame_at tree n ≡ Some f → is_child_of s f.path ≡ false → has_frame (children_of tree s) n ≡ false
-not-among tree s n f t at child = grind (arith, no-frame, children-by-paths, frame_at-filter, tree-rising)
+module _ (tree : Tree) (s n : ℕ) (f : F) (t : IsTree tree) (at : frame_at tree n ≡ Some f) where
+  pub among-kids : IsChildOf s f → IsAmongKids tree s n f
+  among-kids child =
+      let rising = tree-rising tree t in
+      let list = filter (λ x. is_child_of s x.path) tree in
+      let is = children-by-paths tree s t in
+      let a = among list n f (rising-filter (λ x. is_child_of s x.path) tree rising) (frame_at-stays (λ x. is_child_of s x.path) tree n f rising at child) in
+      let frames = λ (words : List ℕ). children_of-with_frame_words n words tree s t in
+      record {
+        older = values_of a.older;
+        younger = values_of a.younger;
+        all = ap values_of (is ∙ a.all) ∙ values-append a.older (f ∷ a.younger);
+        stored = λ words. ap values_of (frames words ∙ ap (with_frame_words n words) is ∙ a.stored words) ∙ values-append a.older (_ ∷ a.younger);
+        frames = frames;
+        removed = ap (λ (ys : Tree). values_of (frames_without n ys)) is ∙ ap values_of a.removed ∙ values-append a.older a.younger;
+      }
+
+  pub not-among : is_child_of s f.path ≡ false → has_frame (children_of tree s) n ≡ false
+  not-among child = grind (arith, no-frame, children-by-paths, frame_at-filter, tree-rising)
 
 -- other words
 abbrev pub BeforeWords : Fact → ℕ → F → List ℕ → Fact
@@ -217,61 +218,52 @@ BeforeWords Q n f words s w k m =
     × (s ≢ n → is_child_of s f.path ≡ true → (older younger : Lists) → k ≡ older ++ f.value ∷ younger → Q s w (older ++ words ∷ younger) m)
     × (s ≢ n → is_child_of s f.path ≡ false → Q s w k m)
 
-module _ (n : ℕ) (f : F) (tree : Tree) (t : IsTree tree) where
-  pub holds-with_frame_words : (Q : Fact) (words : List ℕ) → frame_at tree n ≡ Some f → is_child_of n f.path ≡ false → Holds (BeforeWords Q n f words) tree → Holds Q (with_frame_words n words tree)
-  holds-with_frame_words Q words at_n apart all s h at = elim (cases_eq s n) [
+module _ (n : ℕ) (f : F) (tree : Tree) (t : IsTree tree) (at_n : frame_at tree n ≡ Some f) where
+  -- no frame is its own child
+  not-own-child : is_child_of n f.path ≡ false
+  not-own-child = elim (placed tree n f t at_n) [
+    | inl top ↦ ap (is_that n) top.0
+    | inr u ↦ (let below = u.below in let e = found-serial tree n f at_n in ap (is_that n) u.named ∙ ne_eqb u.parent n (λ is. omega (arith, below, e, is)))
+  ]
+
+  pub holds-with_frame_words : (Q : Fact) (words : List ℕ) → Holds (BeforeWords Q n f words) tree → Holds Q (with_frame_words n words tree)
+  holds-with_frame_words Q words all s h at = elim (cases_eq s n) [
     | inl is ↦ (let e : record f { value = words } ≡ h = found-same _ n s _ h (sym is) (frame_at-with_frame_words n words tree f at_n) at in
-        let P : F → Type 0 = λ y. Q s y.value (kids (with_frame_words n words tree) s) (mark_of_state y.state) in
-        let R : Lists → Type 0 = λ k. Q s words k (mark_of_state f.state) in
-        subst P e (subst R (sym (same (ap (λ (i : ℕ). is_child_of i f.path) is ∙ apart))) ((all s f (ap (frame_at tree) is ∙ at_n)).0 is)))
-    | inr other ↦ (let old : frame_at tree s ≡ Some h = sym (frame_at_other-with_frame_words n words tree s (λ e. other (sym e))) ∙ at in
-        let P : Lists → Type 0 = λ k. Q s h.value k (mark_of_state h.state) in
+        rw (← e, same (rw is not-own-child)) ((all s f (ap (frame_at tree) is ∙ at_n)).0 is))
+    | inr other ↦ (let old = all s h (sym (frame_at_other-with_frame_words n words tree s (λ e. other (sym e))) ∙ at) in
         elim (cases_Bool (is_child_of s f.path)) [
-          | inl child ↦ (let a = among-kids tree s n f t at_n child in subst P (sym (a.stored words)) ((all s h old).1 other child a.older a.younger a.all))
-          | inr none ↦ subst P (sym (same none)) ((all s h old).2 other none)
+          | inl child ↦ (let a = among-kids tree s n f t at_n child in rw (a.stored words) (old.1 other child a.older a.younger a.all))
+          | inr none ↦ rw (same none) (old.2 other none)
         ])
   ]
     where
       same : is_child_of s f.path ≡ false → kids (with_frame_words n words tree) s ≡ kids tree s
-      same none = ap values_of (children_of-with_frame_words n words tree s t ∙ with_frame_words-missing n words (children_of tree s) (not-among tree s n f t at_n none))
-
-  -- no frame is its own child
-  pub not-own-child : frame_at tree n ≡ Some f → is_child_of n f.path ≡ false
-  not-own-child at = elim (placed tree n f t at) [
-    | inl top ↦ ap (is_that n) top.0
-    | inr u ↦ (let below = u.below in let e = found-serial tree n f at in ap (is_that n) u.named ∙ ne_eqb u.parent n (λ is. omega (arith, below, e, is)))
-  ]
+      same none = ap values_of (children_of-with_frame_words n words tree s t ∙ with_frame_words-missing n words _ (not-among tree s n f t at_n none))
 
 -- a frame more
 abbrev pub BeforePush : Fact → F → Fact
 BeforePush Q y s w k m = (is_child_of s y.path ≡ true → Q s w (k ++ y.value ∷ []) m) × (is_child_of s y.path ≡ false → Q s w k m)
 
-pub holds-push : (Q : Fact) (tree : Tree) (y : F) → IsTree tree → IsNextFrame tree y → is_child_of y.serial y.path ≡ false → children_of tree y.serial ≡ [] → Q y.serial y.value [] (mark_of_state y.state) →
-    Holds (BeforePush Q y) tree → Holds Q (tree ++ y ∷ [])
-holds-push Q tree y t next apart leaf new all s f at = elim (cases_eq y.serial s) [
-  | inl is ↦ (let e : y ≡ f = found-same (tree ++ y ∷ []) y.serial s y f is (frame_at-push tree y next.above) at in
-      let R : Lists → Type 0 = λ k. Q s y.value k (mark_of_state y.state) in
-      let S : ℕ → Type 0 = λ n. Q n y.value [] (mark_of_state y.state) in
-      subst (λ h. Q s h.value (kids (tree ++ y ∷ []) s) (mark_of_state h.state)) e (subst R (sym (none is)) (subst S is new)))
-  | inr other ↦ (let old : frame_at tree s ≡ Some f = sym (frame_at_other-push tree y s other) ∙ at in
-      let P : Lists → Type 0 = λ k. Q s f.value k (mark_of_state f.state) in
-      elim (cases_Bool (is_child_of s y.path)) [
-        | inl child ↦ subst P (sym (more child)) ((all s f old).0 child)
-        | inr no_child ↦ subst P (sym (same no_child)) ((all s f old).1 no_child)
-      ])
-]
-  where
-    grown : kids (tree ++ y ∷ []) s ≡ values_of (children_of tree s ++ filter (λ x. is_child_of s x.path) (y ∷ []))
-    grown = grind (arith, children_of-push)
+module _ (Q : Fact) (tree : Tree) (y : F) (t : IsTree tree) (next : IsNextFrame tree y) where
+  pub holds-push : Q y.serial y.value [] (mark_of_state y.state) → Holds (BeforePush Q y) tree → Holds Q (tree ++ y ∷ [])
+  holds-push new all s f at = elim (cases_eq y.serial s) [
+    | inl is ↦ (let e : y ≡ f = found-same (tree ++ y ∷ []) y.serial s y f is (frame_at-push tree y next.above) at in rw (← e, none is, ← is) new)
+    | inr other ↦ (let old = all s f (sym (frame_at_other-push tree y s other) ∙ at) in
+        elim (cases_Bool (is_child_of s y.path)) [ inl child ↦ rw (more child) (old.0 child) | inr no_child ↦ rw (same no_child) (old.1 no_child) ])
+  ]
+    where
+      grown : kids (tree ++ y ∷ []) s ≡ values_of (children_of tree s ++ filter (λ x. is_child_of s x.path) (y ∷ []))
+      grown = grind (arith, children_of-push)
 
-    more : is_child_of s y.path ≡ true → kids (tree ++ y ∷ []) s ≡ kids tree s ++ y.value ∷ []
-    more child = grown ∙ (rw child (values-append (children_of tree s) (y ∷ [])))
+      more : is_child_of s y.path ≡ true → kids (tree ++ y ∷ []) s ≡ kids tree s ++ y.value ∷ []
+      more child = grown ∙ (rw child (values-append (children_of tree s) (y ∷ [])))
 
-    same : is_child_of s y.path ≡ false → kids (tree ++ y ∷ []) s ≡ kids tree s
-    same no_child = grown ∙ (rw no_child (values-append (children_of tree s) [] ∙ append-nil (kids tree s)))
+      same : is_child_of s y.path ≡ false → kids (tree ++ y ∷ []) s ≡ kids tree s
+      same no_child = grown ∙ (rw no_child (values-append (children_of tree s) [] ∙ append-nil (kids tree s)))
 
-    none : y.serial ≡ s → kids (tree ++ y ∷ []) s ≡ []
-    none is = same (ap (λ (n : ℕ). is_child_of n y.path) (sym is) ∙ apart) ∙ ap (kids tree) (sym is) ∙ ap values_of leaf
+      none : y.serial ≡ s → kids (tree ++ y ∷ []) s ≡ []
+      none is = same (rw (← is) (not-own-child y.serial y _ (tree-push tree y t next) (frame_at-push tree y next.above)))
+          ∙ (rw (← is) (ap values_of (ap (λ o. children_under o tree) (missing tree y.serial (has_frame-above tree y.serial next.above)))))
 
 -- a leaf removed
 abbrev pub BeforeWithout : Fact → ℕ → F → Fact
@@ -279,34 +271,29 @@ BeforeWithout Q n f s w k m =
     s ≢ n → (is_child_of s f.path ≡ true → (older younger : Lists) → k ≡ older ++ f.value ∷ younger → Q s w (older ++ younger) m)
     × (is_child_of s f.path ≡ false → Q s w k m)
 
-children-filter : (keep : F → Bool) (tree : Tree) (s : ℕ) → IsTree tree → IsTree (filter keep tree) → children_of (filter keep tree) s ≡ filter keep (children_of tree s)
-children-filter keep tree s t left =
-    children-by-paths (filter keep tree) s left ∙ swap keep (λ x. is_child_of s x.path) tree ∙ sym (ap (filter keep) (children-by-paths tree s t))
+children-filter : (keep : F → Bool) (tree : Tree) (s : ℕ) → IsTree tree → IsTree (filter keep tree) →
+    children_of (filter keep tree) s ≡ filter keep (children_of tree s)
+children-filter keep tree s t left = rw (children-by-paths _ s left, children-by-paths tree s t) (swap keep (λ x. is_child_of s x.path) tree)
   where
     swap : (p q : F → Bool) (xs : Tree) → filter q (filter p xs) ≡ filter p (filter q xs)
     swap p q [] = refl
-    swap p q (x ∷ xs) = elim (cases_Bool (p x)) [
-      | inl kept ↦ elim (cases_Bool (q x)) [
-        | inl is ↦ rw (kept, is, kept) (ap (λ (ys : Tree). x ∷ ys) (swap p q xs))
-        | inr not_so ↦ rw (kept, not_so) (swap p q xs)
-      ]
-      | inr gone ↦ elim (cases_Bool (q x)) [
-        | inl is ↦ rw (gone, is, gone) (swap p q xs)
-        | inr not_so ↦ rw (gone, not_so) (swap p q xs)
-      ]
-    ]
+    swap p q (x ∷ xs) = grind (arith, swap p q xs)
 
-pub holds-without : (Q : Fact) (n : ℕ) (f : F) (tree : Tree) → IsTree tree → frame_at tree n ≡ Some f → children_of tree n ≡ [] → Holds (BeforeWithout Q n f) tree → Holds Q (frames_without n tree)
-holds-without Q n f tree t at_n leaf all s h at =
-    let left = tree-without n tree t leaf in
-    let apart : s ≢ n = λ e. (let both : ◌≡◌ {A = Option F} None (Some h) = sym (frame_at-without n tree) ∙ ap (frame_at (frames_without n tree)) (sym e) ∙ at in absurd cc) in
-    let old : frame_at tree s ≡ Some h = sym (frame_at_other-without n tree s (λ e. apart (sym e))) ∙ at in
-    let kept : kids (frames_without n tree) s ≡ values_of (frames_without n (children_of tree s)) = ap values_of (children-filter (λ x. not (eqb x.serial n)) tree s t left) in
-    let P : Lists → Type 0 = λ k. Q s h.value k (mark_of_state h.state) in
-    elim (cases_Bool (is_child_of s f.path)) [
-      | inl child ↦ (let a = among-kids tree s n f t at_n child in subst P (sym (kept ∙ a.removed)) ((all s h old apart).0 child a.older a.younger a.all))
-      | inr none ↦ subst P (sym (kept ∙ ap values_of (without-missing n (children_of tree s) (not-among tree s n f t at_n none)))) ((all s h old apart).1 none)
-    ]
+module _ (Q : Fact) (n : ℕ) (f : F) (tree : Tree) (t : IsTree tree) (at_n : frame_at tree n ≡ Some f) where
+  pub holds-without : children_of tree n ≡ [] → Holds (BeforeWithout Q n f) tree → Holds Q (frames_without n tree)
+  holds-without leaf all s h at = elim (cases_Bool (is_child_of s f.path)) [
+    | inl child ↦ (let a = among-kids tree s n f t at_n child in rw (kept ∙ a.removed) ((old apart).0 child a.older a.younger a.all))
+    | inr none ↦ rw (kept ∙ ap values_of (without-missing n (children_of tree s) (not-among tree s n f t at_n none))) ((old apart).1 none)
+  ]
+    where
+      apart : s ≢ n
+      apart e = let both : ◌≡◌ {A = Option F} None (Some h) = sym (frame_at-without n tree) ∙ ap (frame_at (frames_without n tree)) (sym e) ∙ at in cc
+
+      old : BeforeWithout Q n f s h.value (kids tree s) (mark_of_state h.state)
+      old = all s h (sym (frame_at_other-without n tree s (λ e. apart (sym e))) ∙ at)
+
+      kept : kids (frames_without n tree) s ≡ values_of (frames_without n (children_of tree s))
+      kept = ap values_of (children-filter (λ x. not (eqb x.serial n)) tree s t (tree-without n tree t leaf))
 
 -- an abort
 abbrev pub BeforeAbort : Fact → ℕ → Fact
@@ -317,43 +304,32 @@ filter-all keep [] all = refl
 filter-all keep (x ∷ xs) all = rw all.0 (ap (λ (ys : Tree). x ∷ ys) (filter-all keep xs all.1))
 
 module _ (p : ℕ) (tree : Tree) (t : IsTree tree) where
-  children-stay : (s : ℕ) (h : F) → frame_at tree s ≡ Some h → goes_under p h.path ≡ false → s ≢ p → filter (λ x. not (goes_under p x.path)) (children_of tree s) ≡ children_of tree s
+  children-stay : (s : ℕ) (h : F) → frame_at tree s ≡ Some h → goes_under p h.path ≡ false → s ≢ p → aborted p (children_of tree s) ≡ children_of tree s
   children-stay s h at stays other =
-      let is = children-by-paths tree s t in
-      let list = filter (λ x. is_child_of s x.path) tree in
-      let P : F → Type 0 = λ x. not (goes_under p x.path) ≡ true in
-      let rising = rising-filter (λ x. is_child_of s x.path) tree (tree-rising tree t) in
-      ap (filter (λ x. not (goes_under p x.path))) is ∙ filter-all (λ x. not (goes_under p x.path)) list (found-each P list rising (λ c x at_c. one c x (filter-found (λ x. is_child_of s x.path) tree c x (tree-rising tree t) at_c))) ∙ sym is
+      let child = λ (x : F). is_child_of s x.path in
+      let rising = tree-rising tree t in
+      let all = found-each (λ (x : F). not (goes_under p x.path) ≡ true) (filter child tree) (rising-filter child tree rising)
+      (λ c x at_c. one c x (filter-found child tree c x rising at_c)) in
+      rw (children-by-paths tree s t) (filter-all (λ x. not (goes_under p x.path)) (filter child tree) all)
     where
       one : (c : ℕ) (x : F) → (frame_at tree c ≡ Some x) × (is_child_of s x.path ≡ true) → not (goes_under p x.path) ≡ true
       one c x found = elim (placed tree c x t found.0) [
         | inl top ↦ absurd (false≢true (sym (ap (is_that s) top.0) ∙ found.1))
         | inr u ↦ (let parent : u.parent ≡ s = eqb-true u.parent s (sym (ap (is_that s) u.named) ∙ found.1) in
             let e : h ≡ u.above = found-same tree s u.parent h u.above (sym parent) at u.there in
-            not_from_false (goes_under p x.path) (under-through tree x p t u ∙ (rw (parent, ne_eqb s p other) (ap (λ (y : F). goes_under p y.path) (sym e) ∙ stays))))
+            not_from_false (goes_under p x.path) (under-through tree x p t u ∙ (rw (parent, ne_eqb s p other, ← e) stays)))
       ]
 
   pub holds-aborted : (Q : Fact) → Holds (BeforeAbort Q p) tree → Holds Q (aborted p tree)
   holds-aborted Q all s h at = grind (arith, filter-found, tree-rising, not-true, aborted-leaf, children-filter, tree-aborted, children-stay)
 
   -- a root and all that is below it removed
-  pub holds-without_job : (Q : Fact) → Holds (λ s w k m. s ≢ p → Q s w k m) tree → (parent_of_root : (f : F) → frame_at tree p ≡ Some f → parent_of f.path ≡ None) → Holds Q (frames_without p (aborted p tree))
-  holds-without_job Q all top = by (has_frame tree p) refl
+  pub holds-without_job : (Q : Fact) (f : F) → frame_at tree p ≡ Some f → parent_of f.path ≡ None → Holds (λ s w k m. s ≢ p → Q s w k m) tree →
+      Holds Q (without_job p tree)
+  holds-without_job Q f at top all =
+      let none : (s : ℕ) → is_child_of s f.path ≡ false = λ s. ap (is_that s) top in
+      holds-without Q p f (aborted p tree) (tree-aborted p tree t) (aborted-itself p tree f t at) (aborted-leaf p tree t)
+      (λ s h at_h other. ((λ child older younger e. absurd (false≢true (sym (none s) ∙ child))), λ no_child. kept s h at_h other))
     where
-      cut : Tree
-      cut = aborted p tree
-
       kept : Holds (λ s w k m. s ≢ p → Q s w k m) (aborted p tree)
-      kept = holds-aborted (λ s w k m. s ≢ p → Q s w k m) (λ s f at. ((λ is other. absurd (other is)), λ other. all s f at))
-
-      by : (there : Bool) → has_frame tree p ≡ there → Holds Q (frames_without p (aborted p tree))
-      by true there =
-          let f = there-found tree p there in
-          let none : (s : ℕ) → is_child_of s f.0.path ≡ false = λ s. ap (is_that s) (top f.0 f.1) in
-          holds-without Q p f.0 (aborted p tree) (tree-aborted p tree t) (aborted-itself p tree f.0 t f.1) (aborted-leaf p tree t)
-          (λ s h at other. ((λ child older younger e. absurd (false≢true (sym (none s) ∙ child))), λ no_child. kept s h at other))
-      by false lacks = λ s h at.
-          let apart : s ≢ p = λ e. (let both : ◌≡◌ {A = Option F} None (Some h) = sym (frame_at-without p (aborted p tree)) ∙ ap (frame_at (frames_without p (aborted p tree))) (sym e) ∙ at in absurd cc) in
-          let cut_lacks : has_frame (aborted p tree) p ≡ false = no-frame (aborted p tree) p (frame_at-filter (λ x. not (goes_under p x.path)) tree p (tree-rising tree t) ∙ ap (if_kept (λ x. not (goes_under p x.path))) (missing tree p lacks)) in
-          let same = without-missing p (aborted p tree) cut_lacks in
-          subst (λ ys. Q s h.value (kids ys s) (mark_of_state h.state)) (sym same) (kept s h (ap (λ (ys : Tree). frame_at ys s) (sym same) ∙ at) apart)
+      kept = holds-aborted (λ s w k m. s ≢ p → Q s w k m) (λ s h at_h. ((λ is other. absurd (other is)), λ other. all s h at_h))

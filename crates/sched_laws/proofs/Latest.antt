@@ -1,5 +1,5 @@
 -- Which ready frame `newest_ready_of` finds.
-use Rattle.sched_laws.proofs.Common.{◌≡◌, ◌≢◌, ℕ, ◌<◌, inl, inr, true, false, List, [], ◌∷◌, Option, Some, None, refl, sym, subst, arith, cases_Bool, false≢true, eq-eqb, ne_eqb, State, FrameId, Frame, frame_at, has_frame, is_ready, ready_name, first_of_two, newest_ready_of, IsReadyAt, AllAboveSerial, AreSerialsRising, missing, Tree, IsNewestReady}
+use Rattle.sched_laws.proofs.Common.{◌≡◌, ◌≢◌, ℕ, ◌<◌, inl, inr, true, false, List, [], ◌∷◌, Option, Some, None, refl, arith, cases_Bool, false≢true, eq-eqb, ne_eqb, State, FrameId, Frame, frame_at, has_frame, is_ready, ready_name, newest_ready_of, IsReadyAt, AllAboveSerial, AreSerialsRising, missing, Tree, IsNewestReady}
 
 abbrev F : Type 0
 F = Frame (List ℕ)
@@ -41,28 +41,29 @@ pub newest-answers : (tenant : ℕ) (frames : Tree) → AreSerialsRising frames 
 newest-answers tenant [] rising = λ s f at. absurd cc
 newest-answers tenant (x ∷ xs) rising = by (newest_ready_of tenant xs) refl (newest-answers tenant xs rising.1)
   where
-    by : (o : Option (FrameId × ℕ)) → newest_ready_of tenant xs ≡ o → Answers tenant xs (newest_ready_of tenant xs) → Answers tenant (x ∷ xs) (newest_ready_of tenant (x ∷ xs))
-    by None e rest =
-        let P : Option (FrameId × ℕ) → Type 0 = λ p. Answers tenant xs p in
-        subst (λ p. Answers tenant (x ∷ xs) (first_of_two p (ready_name tenant x.serial x.state))) (sym e) (by-first tenant x xs (subst P e rest) x.state refl)
-    by (Some found) e rest =
-        let P : Option (FrameId × ℕ) → Type 0 = λ p. Answers tenant xs p in
-        subst (λ p. Answers tenant (x ∷ xs) (first_of_two p (ready_name tenant x.serial x.state))) (sym e) (further found (subst P e rest))
+    by : (o : Option (FrameId × ℕ)) → newest_ready_of tenant xs ≡ o → Answers tenant xs (newest_ready_of tenant xs) →
+        Answers tenant (x ∷ xs) (newest_ready_of tenant (x ∷ xs))
+    by None e rest = rw e (by-first tenant x xs (rw e at rest) x.state refl)
+    by (Some found) e rest = rw e (further found (rw e at rest))
       where
         further : (found : FrameId × ℕ) → IsNewestReady tenant xs found.0 found.1 → IsNewestReady tenant (x ∷ xs) found.0 found.1
         further found n =
             let serial = found.0.serial in
-            let there : has_frame xs serial ≡ true = elim (cases_Bool (has_frame xs serial)) [ inl is ↦ is | inr lacks ↦ absurd (ready-there (frame_at xs serial) found.1 n.ready (missing xs serial lacks)) ] in
+            let there : has_frame xs serial ≡ true = elim (cases_Bool (has_frame xs serial)) [
+              | inl is ↦ is
+              | inr lacks ↦ absurd (ready-there (frame_at xs serial) found.1 n.ready (missing xs serial lacks))
+            ] in
             let low = above-found x.serial xs serial rising.0 there in
             record {
               own = n.own;
-              ready = subst (λ o. IsReadyAt o found.1) (sym (behind x xs serial (λ e. omega (arith, e, low)))) n.ready;
+              ready = rw (behind x xs serial (λ e. omega (arith, e, low))) n.ready;
               greatest = λ s f at ready. grind (arith, behind);
             }
 
 module _ (tenant : ℕ) (frames : Tree) where
-  pub newest-found : (name : FrameId) (home : ℕ) → AreSerialsRising frames → newest_ready_of tenant frames ≡ Some (name, home) → IsNewestReady tenant frames name home
-  newest-found name home rising is = let P : Option (FrameId × ℕ) → Type 0 = λ o. Answers tenant frames o in subst P is (newest-answers tenant frames rising)
+  pub newest-found : (name : FrameId) (home : ℕ) → AreSerialsRising frames → newest_ready_of tenant frames ≡ Some (name, home) →
+      IsNewestReady tenant frames name home
+  newest-found name home rising is = rw is at (newest-answers tenant frames rising)
 
   pub newest-none : AreSerialsRising frames → newest_ready_of tenant frames ≡ None → NoneReady frames
-  newest-none rising is = let P : Option (FrameId × ℕ) → Type 0 = λ o. Answers tenant frames o in subst P is (newest-answers tenant frames rising)
+  newest-none rising is = rw is at (newest-answers tenant frames rising)

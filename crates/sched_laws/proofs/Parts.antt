@@ -1,9 +1,9 @@
 -- Each part of a tenant's shape, under each change of the tree and of the jobs.
-use Rattle.sched_laws.proofs.Common.{◌≡◌, ◌≢◌, ℕ, suc, ◌+◌, ◌≤◌, ◌⊎◌, inl, inr, Bool, true, false, eqb, ltb, List, [], ◌∷◌, ◌++◌, Option, Some, None, length, refl, ap, sym, ◌∙◌, arith, length-append, ◌-◌, ◌*◌, ◌<◌, not, replicate, filter, filter-append, cases_Bool, cases_eq, false≢true, eq-eqb, ne_eqb, eqb-false, ltb-false, not_from_false, State, Frame, frame_at, has_frame, path_in, AllBelow, parent_of, with_state, children_of, values_of, IsNextFrame, IsTree, goes_under, aborted, frames_without, new_frame, is_child_of, Each, AreAlike, there-found, found-serial, found-path, missing, frame_at-push, frame_at_other-push, tree-rising, each-found, found-each, children-by-paths, found-there, found-ends, filter-found, frame_at-stays, AllBelow-filter, tree-aborted, tree-without, tree-without_job, tree-push, children_of-push, tree-with_state, frame_at-with_state, frame_at_other-with_state, children_of-with_state, tree-new_frame, new-frame-next, parent_of-path_under, AllBelow-alike, path_in-alike, with_state-alike, values_of-with_state, Job, Live, Tree, has_child, is_live_at, with_frame_words, with_ended, Tenant, charged_for, is_root, Neither, mark_of_state, AreMarkedChildless, live_count, AreRootsLive, IsRootThere, AreLiveRootsThere, HaveWords, IsShaped, length-replicate, charge, padded, EndsIn, AllBelow-append, has_frame-above, path_in-left, path_in-right, counted, in_state, holding, opened, ended}
-use Rattle.sched_laws.proofs.Holds.{found-same, children_of-with_frame_words, length-with_frame_words, with_frame_words-alike, tree-with_frame_words, charged-one, charged-with_frame_words, charged-append, charged-filter, charged-values}
+use Rattle.sched_laws.proofs.Common.{◌≡◌, ◌≢◌, ℕ, suc, ◌+◌, ◌≤◌, ◌⊎◌, inl, inr, Bool, true, false, eqb, ltb, List, [], ◌∷◌, ◌++◌, Option, Some, None, length, refl, ap, sym, ◌∙◌, arith, length-append, ◌-◌, ◌*◌, ◌<◌, not, replicate, filter, filter-append, cases_Bool, cases_eq, false≢true, eq-eqb, ne_eqb, eqb-false, ltb-false, not_from_false, State, frame_at, has_frame, path_in, AllBelow, parent_of, with_state, children_of, values_of, IsNextFrame, IsTree, goes_under, aborted, frames_without, new_frame, is_child_of, Each, AreAlike, there-found, found-serial, found-path, frame_at-push, frame_at_other-push, tree-rising, each-found, found-each, children-by-paths, found-there, found-ends, filter-found, frame_at-stays, AllBelow-filter, tree-aborted, tree-without, tree-without_job, tree-push, children_of-push, tree-with_state, frame_at_other-with_state, children_of-with_state, tree-new_frame, new-frame-next, parent_of-path_under, AllBelow-alike, path_in-alike, with_state-alike, values_of-with_state, Job, Live, Tree, has_child, is_live_at, with_frame_words, with_ended, Tenant, charged_for, is_root, Neither, mark_of_state, AreMarkedChildless, live_count, AreRootsLive, IsRootThere, AreLiveRootsThere, HaveWords, IsShaped, length-replicate, charge, padded, EndsIn, AllBelow-append, has_frame-above, path_in-left, path_in-right, counted, in_state, holding, opened, ended, frame_at_other-without}
+use Rattle.sched_laws.proofs.Holds.{found-same, children_of-with_frame_words, length-with_frame_words, with_frame_words-alike, tree-with_frame_words, charged-one, charged-with_frame_words, charged-append, charged-filter, charged-values, F, found-with_state}
 
 -- a frame that computes or has returned has no child in this tree
-abbrev pub IsMarkedChildless : Tree → Frame (List ℕ) → Type 0
+abbrev pub IsMarkedChildless : Tree → F → Type 0
 IsMarkedChildless tree frame = (mark_of_state frame.state ≡ Neither) ⊎ (has_child tree frame.serial ≡ false)
 
 pub childless-each : (tree frames : Tree) → AreMarkedChildless tree frames → Each (IsMarkedChildless tree) frames
@@ -15,7 +15,7 @@ each-childless tree [] each = tt
 each-childless tree (x ∷ xs) each = (each.0, each-childless tree xs each.1)
 
 module _ (tree : Tree) (s : ℕ) where
-  pub childless-at : (f : Frame (List ℕ)) → AreMarkedChildless tree tree → frame_at tree s ≡ Some f → IsMarkedChildless tree f
+  pub childless-at : (f : F) → AreMarkedChildless tree tree → frame_at tree s ≡ Some f → IsMarkedChildless tree f
   childless-at f all at = each-found (IsMarkedChildless tree) tree s f (childless-each tree tree all) at
 
   -- no child, as a fact of lists
@@ -42,41 +42,29 @@ module _ (n : ℕ) (state : State) (tree : Tree) (t : IsTree tree) where
   pub has_child-with_state : (s : ℕ) → has_child (with_state n state tree) s ≡ has_child tree s
   has_child-with_state s = grind (arith, has_child-length, children_of-with_state, length-with_state)
 
-  pub childless-with_state : (mark_of_state state ≡ Neither) ⊎ (has_child tree n ≡ false) → AreMarkedChildless tree tree → AreMarkedChildless (with_state n state tree) (with_state n state tree)
+  pub childless-with_state : (mark_of_state state ≡ Neither) ⊎ (has_child tree n ≡ false) → AreMarkedChildless tree tree →
+      AreMarkedChildless (with_state n state tree) (with_state n state tree)
   childless-with_state ok all =
       let new = with_state n state tree in
       each-childless new new (found-each (IsMarkedChildless new) new (tree-rising new (tree-with_state n state tree t)) at)
     where
-      keep : (f : Frame (List ℕ)) → IsMarkedChildless tree f → IsMarkedChildless (with_state n state tree) f
+      keep : (f : F) → IsMarkedChildless tree f → IsMarkedChildless (with_state n state tree) f
       keep f (inl neither) = inl neither
       keep f (inr none) = inr (has_child-with_state f.serial ∙ none)
 
-      own : (f : Frame (List ℕ)) → f.serial ≡ n → f.state ≡ state → (mark_of_state state ≡ Neither) ⊎ (has_child tree n ≡ false) → IsMarkedChildless (with_state n state tree) f
-      own f e is (inl neither) = inl (ap mark_of_state is ∙ neither)
-      own f e is (inr none) = inr (ap (has_child (with_state n state tree)) e ∙ has_child-with_state n ∙ none)
+      own : (g : F) → g.serial ≡ n → (mark_of_state state ≡ Neither) ⊎ (has_child tree n ≡ false) →
+          IsMarkedChildless (with_state n state tree) (record g { state = state })
+      own g is (inl neither) = inl neither
+      own g is (inr none) = inr (ap (has_child (with_state n state tree)) is ∙ has_child-with_state n ∙ none)
 
-      found : (s : ℕ) (f g : Frame (List ℕ)) → n ≡ s → frame_at tree n ≡ Some g → frame_at (with_state n state tree) s ≡ Some f → f.state ≡ state
-      found s f g e was is =
-          let both : ◌≡◌ {A = Option (Frame (List ℕ))} (Some (record g { state = state })) (Some f) = sym (frame_at-with_state n state tree g was) ∙ ap (frame_at (with_state n state tree)) e ∙ is in
-          let same : record g { state = state } ≡ f = cc in sym (ap (λ (y : Frame (List ℕ)). y.state) same)
-
-      at : (s : ℕ) (f : Frame (List ℕ)) → frame_at (with_state n state tree) s ≡ Some f → IsMarkedChildless (with_state n state tree) f
+      at : (s : ℕ) (f : F) → frame_at (with_state n state tree) s ≡ Some f → IsMarkedChildless (with_state n state tree) f
       at s f is = elim (cases_eq n s) [
-        | inl same ↦ elim (cases_Bool (has_frame tree n)) [
-          | inl there ↦ (let g = there-found tree n there in own f (found-serial (with_state n state tree) s f is ∙ sym same) (found s f g.0 same g.1 is) ok)
-          | inr lacks ↦ (let e : frame_at (with_state n state tree) n ≡ None = missing (with_state n state tree) n (lacking n state tree lacks) in absurd cc)
-        ]
+        | inl same ↦ (let g = found-with_state n state tree f (ap (frame_at (with_state n state tree)) same ∙ is) in
+            rw (← g.2) (own g.0 (found-serial tree n g.0 g.1) ok))
         | inr other ↦ keep f (childless-at tree s f all (sym (frame_at_other-with_state n state tree s other) ∙ is))
       ]
-        where
-          lacking : (n : ℕ) (state : State) (xs : Tree) → has_frame xs n ≡ false → has_frame (with_state n state xs) n ≡ false
-          lacking n state [] lacks = refl
-          lacking n state (x ∷ xs) lacks = elim (cases_Bool (eqb x.serial n)) [
-            | inl same ↦ absurd (false≢true (sym lacks ∙ (rw same refl)))
-            | inr other ↦ rw (other, other) (lacking n state xs (rw other at lacks))
-          ]
 
-pub childless-from : (new : Tree) → IsTree new → ((s : ℕ) (f : Frame (List ℕ)) → frame_at new s ≡ Some f → IsMarkedChildless new f) → AreMarkedChildless new new
+pub childless-from : (new : Tree) → IsTree new → ((s : ℕ) (f : F) → frame_at new s ≡ Some f → IsMarkedChildless new f) → AreMarkedChildless new new
 childless-from new t at = each-childless new new (found-each (IsMarkedChildless new) new (tree-rising new t) at)
 
 -- other words in a frame
@@ -84,24 +72,26 @@ module _ (n : ℕ) (words : List ℕ) (tree : Tree) where
   pub has_child-with_frame_words : (s : ℕ) → IsTree tree → has_child (with_frame_words n words tree) s ≡ has_child tree s
   has_child-with_frame_words s t = grind (arith, has_child-length, children_of-with_frame_words, length-with_frame_words)
 
-  words-kept : (frames : Tree) → IsTree tree → AreMarkedChildless tree frames → AreMarkedChildless (with_frame_words n words tree) (with_frame_words n words frames)
+  words-kept : (frames : Tree) → IsTree tree → AreMarkedChildless tree frames →
+      AreMarkedChildless (with_frame_words n words tree) (with_frame_words n words frames)
   words-kept [] t all = tt
   words-kept (x ∷ xs) t all = grind (arith, words-kept xs t, words-kept xs t all.1, has_child-with_frame_words)
 
-  pub childless-with_frame_words : IsTree tree → AreMarkedChildless tree tree → AreMarkedChildless (with_frame_words n words tree) (with_frame_words n words tree)
+  pub childless-with_frame_words : IsTree tree → AreMarkedChildless tree tree →
+      AreMarkedChildless (with_frame_words n words tree) (with_frame_words n words tree)
   childless-with_frame_words t all = words-kept tree t all
 
 -- one frame more, under a frame that neither computes nor has returned, or under none
-pub childless-push : (tree : Tree) (y : Frame (List ℕ)) → IsTree tree → IsNextFrame tree y → mark_of_state y.state ≡ Neither →
-    ((p : ℕ) (f : Frame (List ℕ)) → parent_of y.path ≡ Some p → frame_at tree p ≡ Some f → mark_of_state f.state ≡ Neither) →
+pub childless-push : (tree : Tree) (y : F) → IsTree tree → IsNextFrame tree y → mark_of_state y.state ≡ Neither →
+    ((p : ℕ) (f : F) → parent_of y.path ≡ Some p → frame_at tree p ≡ Some f → mark_of_state f.state ≡ Neither) →
     AreMarkedChildless tree tree → AreMarkedChildless (tree ++ y ∷ []) (tree ++ y ∷ [])
 childless-push tree y t next new free all = childless-from (tree ++ y ∷ []) (tree-push tree y t next) at
   where
-    stays : (f : Frame (List ℕ)) → is_child_of f.serial y.path ≡ false → IsMarkedChildless tree f → IsMarkedChildless (tree ++ y ∷ []) f
+    stays : (f : F) → is_child_of f.serial y.path ≡ false → IsMarkedChildless tree f → IsMarkedChildless (tree ++ y ∷ []) f
     stays f other (inl neither) = inl neither
     stays f other (inr none) = inr (none-has_child _ f.serial (children_of-push tree y f.serial t next ∙ (rw (no-child tree f.serial none, other) refl)))
 
-    old : (s : ℕ) (f : Frame (List ℕ)) → frame_at tree s ≡ Some f → IsMarkedChildless (tree ++ y ∷ []) f
+    old : (s : ℕ) (f : F) → frame_at tree s ≡ Some f → IsMarkedChildless (tree ++ y ∷ []) f
     old s f is = by (parent_of y.path) refl
       where
         by : (parent : Option ℕ) → parent_of y.path ≡ parent → IsMarkedChildless (tree ++ y ∷ []) f
@@ -111,18 +101,18 @@ childless-push tree y t next new free all = childless-from (tree ++ y ∷ []) (t
           | inr other ↦ stays f (rw named (ne_eqb p f.serial other)) (childless-at tree s f all is)
         ]
 
-    at : (s : ℕ) (f : Frame (List ℕ)) → frame_at (tree ++ y ∷ []) s ≡ Some f → IsMarkedChildless (tree ++ y ∷ []) f
+    at : (s : ℕ) (f : F) → frame_at (tree ++ y ∷ []) s ≡ Some f → IsMarkedChildless (tree ++ y ∷ []) f
     at s f is = elim (cases_eq y.serial s) [
       | inl same ↦ grind (arith, frame_at-push)
       | inr other ↦ old s f (sym (frame_at_other-push tree y s other) ∙ is)
     ]
 
 -- fewer frames
-none-filter : (p q : Frame (List ℕ) → Bool) (xs : Tree) → filter q xs ≡ [] → filter q (filter p xs) ≡ []
+none-filter : (p q : F → Bool) (xs : Tree) → filter q xs ≡ [] → filter q (filter p xs) ≡ []
 none-filter p q [] none = refl
 none-filter p q (x ∷ xs) none = grind (arith, none-filter p q xs)
 
-module _ (keep : Frame (List ℕ) → Bool) (tree : Tree) (t : IsTree tree) (left : IsTree (filter keep tree)) where
+module _ (keep : F → Bool) (tree : Tree) (t : IsTree tree) (left : IsTree (filter keep tree)) where
   pub no-child-filter : (s : ℕ) → has_child tree s ≡ false → has_child (filter keep tree) s ≡ false
   no-child-filter s none = grind (arith, none-has_child, children-by-paths, none-filter, no-child)
 
@@ -139,7 +129,7 @@ module _ (jobs : List Job) where
   roots-append [] ys p q = q
   roots-append (x ∷ xs) ys p q = (p.0, roots-append xs ys p.1 q)
 
-  pub roots-filter : (keep : Frame (List ℕ) → Bool) (xs : Tree) → AreRootsLive jobs xs → AreRootsLive jobs (filter keep xs)
+  pub roots-filter : (keep : F → Bool) (xs : Tree) → AreRootsLive jobs xs → AreRootsLive jobs (filter keep xs)
   roots-filter keep [] roots = tt
   roots-filter keep (x ∷ xs) roots = grind (arith, roots-filter keep xs)
 
@@ -215,11 +205,15 @@ module _ (old new : Tree) (root : ℕ) (job : Job) where
   live-with_ended (x ∷ xs) end kept live = grind (arith, live-with_ended xs end kept, end-there, other-there)
 
 -- the roots that pass a test are still there
-pub roots-stay : (keep : Frame (List ℕ) → Bool) (tree : Tree) (s : ℕ) → IsTree tree → ((f : Frame (List ℕ)) → frame_at tree s ≡ Some f → f.path ≡ s ∷ [] → keep f ≡ true) → path_in tree s ≡ s ∷ [] → path_in (filter keep tree) s ≡ s ∷ []
+abbrev pub KeepsRootsOf : (F → Bool) → Tree → Type 0
+KeepsRootsOf keep tree = (root : ℕ) (f : F) → frame_at tree root ≡ Some f → f.path ≡ root ∷ [] → keep f ≡ true
+
+pub roots-stay : (keep : F → Bool) (tree : Tree) (s : ℕ) → IsTree tree → KeepsRootsOf keep tree → path_in tree s ≡ s ∷ [] →
+    path_in (filter keep tree) s ≡ s ∷ []
 roots-stay keep tree s t stays is =
     let f = there-found tree s (path-there tree s is) in
     let path = sym (found-path tree s f.0 f.1) ∙ is in
-    found-path (filter keep tree) s f.0 (frame_at-stays keep tree s f.0 (tree-rising tree t) f.1 (stays f.0 f.1 path)) ∙ path
+    found-path (filter keep tree) s f.0 (frame_at-stays keep tree s f.0 (tree-rising tree t) f.1 (stays s f.0 f.1 path)) ∙ path
 
 -- the numbers of words
 pub words-values : (xs ys : Tree) → values_of ys ≡ values_of xs → HaveWords xs → HaveWords ys
@@ -232,15 +226,16 @@ pub words-append : (xs ys : Tree) → HaveWords xs → HaveWords ys → HaveWord
 words-append [] ys p q = q
 words-append (x ∷ xs) ys p q = (p.0, words-append xs ys p.1 q)
 
-pub words-filter : (keep : Frame (List ℕ) → Bool) (xs : Tree) → HaveWords xs → HaveWords (filter keep xs)
+pub words-filter : (keep : F → Bool) (xs : Tree) → HaveWords xs → HaveWords (filter keep xs)
 words-filter keep [] all = tt
 words-filter keep (x ∷ xs) all = grind (arith, words-filter keep xs)
 
-pub words-with_frame_words : (n : ℕ) (words : List ℕ) (xs : Tree) → (1 ≤ length words) × (length words ≤ 128) → HaveWords xs → HaveWords (with_frame_words n words xs)
+pub words-with_frame_words : (n : ℕ) (words : List ℕ) (xs : Tree) → (1 ≤ length words) × (length words ≤ 128) → HaveWords xs →
+    HaveWords (with_frame_words n words xs)
 words-with_frame_words n words [] fit all = tt
 words-with_frame_words n words (x ∷ xs) fit all = grind (arith, words-with_frame_words n words xs fit)
 
-pub words-at : (xs : Tree) (s : ℕ) (f : Frame (List ℕ)) → HaveWords xs → frame_at xs s ≡ Some f → (1 ≤ length f.value) × (length f.value ≤ 128)
+pub words-at : (xs : Tree) (s : ℕ) (f : F) → HaveWords xs → frame_at xs s ≡ Some f → (1 ≤ length f.value) × (length f.value ≤ 128)
 words-at [] s f all at = absurd cc
 words-at (x ∷ xs) s f all at = grind (arith, words-at xs s f)
 
@@ -254,46 +249,50 @@ module _ {tenant : Tenant} (s : IsShaped tenant) where
   -- another state in a frame: one that neither computes nor has returned, or of a frame without a child
   pub shaped-in_state : (n : ℕ) (state : State) → (mark_of_state state ≡ Neither) ⊎ (has_child tenant.frames n ≡ false) → IsShaped (in_state n state tenant)
   shaped-in_state n state ok =
-      let alike = with_state-alike n state tenant.frames in
-      let values = values_of-with_state n state tenant.frames in
+      let old = tenant.frames in
+      let new = with_state n state old in
+      let alike = with_state-alike n state old in
+      let values = values_of-with_state n state old in
       record {
-        tree = tree-with_state n state tenant.frames s.tree;
-        given = AllBelow-alike tenant.frames (with_state n state tenant.frames) (tenant.serials + 1) alike s.given;
-        childless = childless-with_state n state tenant.frames s.tree ok s.childless;
-        roots = roots-alike tenant.jobs tenant.frames (with_state n state tenant.frames) alike s.roots;
-        live = live-kept tenant.frames (with_state n state tenant.frames) tenant.jobs (λ root is. path_in-alike tenant.frames (with_state n state tenant.frames) root alike ∙ is) s.live;
+        tree = tree-with_state n state old s.tree;
+        given = AllBelow-alike old new (tenant.serials + 1) alike s.given;
+        childless = childless-with_state n state old s.tree ok s.childless;
+        roots = roots-alike tenant.jobs old new alike s.roots;
+        live = live-kept old new tenant.jobs (λ root is. path_in-alike old new root alike ∙ is) s.live;
         few_jobs = s.few_jobs;
-        words = words-values tenant.frames (with_state n state tenant.frames) values s.words;
-        charged = (let e = charged-values tenant.frames (with_state n state tenant.frames) values in let c = s.charged in omega (arith, e, c));
+        words = words-values old new values s.words;
+        charged = (let e = charged-values old new values in let c = s.charged in omega (arith, e, c));
         opened = s.opened;
         ticks = s.ticks;
       }
 
 -- other words in a frame: 1 to 128, charged within what is reserved
-pub shaped-holding : (n : ℕ) (words : List ℕ) (tenant : Tenant) (f : Frame (List ℕ)) → frame_at tenant.frames n ≡ Some f → (1 ≤ length words) × (length words ≤ 128) →
+pub shaped-holding : (n : ℕ) (words : List ℕ) (tenant : Tenant) (f : F) → frame_at tenant.frames n ≡ Some f → (1 ≤ length words) × (length words ≤ 128) →
     charged_for tenant.frames + charge (length words) ≤ tenant.reserve.segments + charge (length f.value) → IsShaped tenant → IsShaped (holding n words tenant)
 shaped-holding n words tenant f at fit room s =
-    let alike = with_frame_words-alike n words tenant.frames in
+    let old = tenant.frames in
+    let new = with_frame_words n words old in
+    let alike = with_frame_words-alike n words old in
     record {
-      tree = tree-with_frame_words n words tenant.frames s.tree;
-      given = AllBelow-alike tenant.frames (with_frame_words n words tenant.frames) (tenant.serials + 1) alike s.given;
-      childless = childless-with_frame_words n words tenant.frames s.tree s.childless;
-      roots = roots-alike tenant.jobs tenant.frames (with_frame_words n words tenant.frames) alike s.roots;
-      live = live-kept tenant.frames (with_frame_words n words tenant.frames) tenant.jobs (λ root is. path_in-alike tenant.frames (with_frame_words n words tenant.frames) root alike ∙ is) s.live;
+      tree = tree-with_frame_words n words old s.tree;
+      given = AllBelow-alike old new (tenant.serials + 1) alike s.given;
+      childless = childless-with_frame_words n words old s.tree s.childless;
+      roots = roots-alike tenant.jobs old new alike s.roots;
+      live = live-kept old new tenant.jobs (λ root is. path_in-alike old new root alike ∙ is) s.live;
       few_jobs = s.few_jobs;
-      words = words-with_frame_words n words tenant.frames fit s.words;
-      charged = (let e = charged-with_frame_words n words tenant.frames f (tree-rising tenant.frames s.tree) at in within (charged_for (with_frame_words n words tenant.frames)) (charge (length f.value)) (charged_for tenant.frames) (charge (length words)) tenant.reserve.segments e room);
+      words = words-with_frame_words n words old fit s.words;
+      charged = within (charged_for new) (charge (length f.value)) (charged-with_frame_words n words old f (tree-rising old s.tree) at) room;
       opened = s.opened;
       ticks = s.ticks;
     }
   where
-    within : (a b c d r : ℕ) → a + b ≡ c + d → c + d ≤ r + b → a ≤ r
-    within a b c d r e le = omega arith
+    within : (a b : ℕ) {c r : ℕ} → a + b ≡ c → c ≤ r + b → a ≤ r
+    within a b e le = omega arith
 
 -- fewer frames: those that stay are a tree, and the root frames are among them
 module _ {tenant : Tenant} (s : IsShaped tenant) where
-  pub shaped-fewer : (keep : Frame (List ℕ) → Bool) → IsTree (filter keep tenant.frames) →
-      ((root : ℕ) (f : Frame (List ℕ)) → frame_at tenant.frames root ≡ Some f → f.path ≡ root ∷ [] → keep f ≡ true) → IsShaped (record tenant { frames = filter keep tenant.frames })
+  pub shaped-fewer : (keep : F → Bool) → IsTree (filter keep tenant.frames) →
+      KeepsRootsOf keep tenant.frames → IsShaped (record tenant { frames = filter keep tenant.frames })
   shaped-fewer keep left stays = grind (arith, AllBelow-filter, childless-filter, roots-filter, live-kept, roots-stay, words-filter, charged-filter)
 
   -- an abort
@@ -302,15 +301,16 @@ module _ {tenant : Tenant} (s : IsShaped tenant) where
 
 -- a leaf that is no root
 module _ (p : ℕ) where
-  pub shaped-without : (tenant : Tenant) (f : Frame (List ℕ)) (q : ℕ) → frame_at tenant.frames p ≡ Some f → parent_of f.path ≡ Some q →
+  pub shaped-without : (tenant : Tenant) (f : F) (q : ℕ) → frame_at tenant.frames p ≡ Some f → parent_of f.path ≡ Some q →
       children_of tenant.frames p ≡ [] → IsShaped tenant → IsShaped (record tenant { frames = frames_without p tenant.frames })
   shaped-without tenant f q at named leaf s =
-      shaped-fewer s (λ x. not (eqb x.serial p)) (tree-without p tenant.frames s.tree leaf) (λ root x at_x path. not_from_false (eqb x.serial p) (ne_eqb x.serial p (apart root x at_x path)))
+      shaped-fewer s (λ x. not (eqb x.serial p)) (tree-without p tenant.frames s.tree leaf)
+      (λ root x at_x path. not_from_false (eqb x.serial p) (ne_eqb x.serial p (apart root x at_x path)))
     where
-      apart : (root : ℕ) (x : Frame (List ℕ)) → frame_at tenant.frames root ≡ Some x → x.path ≡ root ∷ [] → x.serial ≢ p
+      apart : (root : ℕ) (x : F) → frame_at tenant.frames root ≡ Some x → x.path ≡ root ∷ [] → x.serial ≢ p
       apart root x at_x path e =
           let same = found-same tenant.frames root p x f (sym (found-serial tenant.frames root x at_x) ∙ e) at_x at in
-          let both : ◌≡◌ {A = Option ℕ} None (Some q) = sym (ap parent_of path) ∙ ap (λ (y : Frame (List ℕ)). parent_of y.path) same ∙ named in absurd cc
+          let both : ◌≡◌ {A = Option ℕ} None (Some q) = sym (ap parent_of path) ∙ ap (λ (y : F). parent_of y.path) same ∙ named in absurd cc
 
   -- a job that ends, with all its frames
   pub shaped-ended : (job : Job) (tenant : Tenant) → IsEnd job → IsShaped tenant → IsShaped (ended p job tenant)
@@ -323,8 +323,7 @@ module _ (p : ℕ) where
         given = AllBelow-filter (λ x. not (eqb x.serial p)) (tenant.serials + 1) cut c.given;
         childless = childless-filter (λ x. not (eqb x.serial p)) cut c.tree left c.childless;
         roots = roots-with_ended p job end tenant.jobs (frames_without p cut) (gone cut) (roots-filter tenant.jobs (λ x. not (eqb x.serial p)) cut c.roots);
-        live = live-with_ended cut (frames_without p cut) p job tenant.jobs end (λ r other is.
-            roots-stay (λ x. not (eqb x.serial p)) cut r c.tree (λ x at path. not_from_false (eqb x.serial p) (ne_eqb x.serial p (λ e. other (sym (found-serial cut r x at) ∙ e)))) is) c.live;
+        live = live-with_ended cut (frames_without p cut) p job tenant.jobs end stays c.live;
         few_jobs = (let e = length-with_ended p job tenant.jobs in let few = s.few_jobs in omega (arith, e, few));
         words = words-filter (λ x. not (eqb x.serial p)) cut c.words;
         charged = (let d = charged-filter (λ x. not (eqb x.serial p)) cut in let e = c.charged in omega (arith, d, e));
@@ -332,13 +331,21 @@ module _ (p : ℕ) where
         ticks = s.ticks;
       }
     where
+      stays : (r : ℕ) → r ≢ p → path_in (aborted p tenant.frames) r ≡ r ∷ [] → path_in (frames_without p (aborted p tenant.frames)) r ≡ r ∷ []
+      stays r other is =
+          let cut = aborted p tenant.frames in
+          let f = there-found cut r (path-there cut r is) in
+          found-path (frames_without p cut) r f.0 (frame_at_other-without p cut r (λ e. other (sym e)) ∙ f.1) ∙ sym (found-path cut r f.0 f.1) ∙ is
+
       gone : (xs : Tree) → has_frame (frames_without p xs) p ≡ false
       gone [] = refl
       gone (x ∷ xs) = elim (cases_Bool (eqb x.serial p)) [ inl same ↦ rw same (gone xs) | inr other ↦ rw (other, other) (gone xs) ]
 
 -- the words that a frame begins with
 pub length-padded : (words : List ℕ) (size : ℕ) → length words ≤ size → length (padded words size) ≡ size
-length-padded words size le = (let whole = length-append words (replicate (size - length words) 0) in let zeros = length-replicate {A = ℕ} (size - length words) 0 in omega (arith, whole, zeros, le))
+length-padded words size le =
+    let whole = length-append words (replicate (size - length words) 0) in
+    let zeros = length-replicate {A = ℕ} (size - length words) 0 in omega (arith, whole, zeros, le)
 
 -- what a frame of this size needs: words that are fewer, a node, and segments
 pub record HasRoomFor (words : List ℕ) (size : ℕ) (tenant : Tenant) : Type 0 where
@@ -352,10 +359,10 @@ below-more : (bound more : ℕ) (xs : Tree) → bound ≤ more → AllBelow boun
 below-more bound more [] le below = tt
 below-more bound more (x ∷ xs) le below = (omega (arith, le, below.0), below-more bound more xs le below.1)
 
-given-push : (tenant : Tenant) (y : Frame (List ℕ)) → y.serial ≡ tenant.serials + 1 → AllBelow (tenant.serials + 1) tenant.frames → AllBelow (tenant.serials + 1 + 1) (tenant.frames ++ y ∷ [])
-given-push tenant y e below = AllBelow-append (tenant.serials + 1 + 1) tenant.frames (y ∷ []) (below-more (tenant.serials + 1) (tenant.serials + 1 + 1) tenant.frames (omega arith) below) (omega (arith, e), tt)
+given-push : (serial : ℕ) (xs : Tree) (y : F) → y.serial ≡ serial → AllBelow serial xs → AllBelow (serial + 1) (xs ++ y ∷ [])
+given-push serial xs y e below = AllBelow-append (serial + 1) xs (y ∷ []) (below-more serial (serial + 1) xs (omega arith) below) (omega (arith, e), tt)
 
-module _ (y : Frame (List ℕ)) (size : ℕ) (is : length y.value ≡ size) where
+module _ (y : F) (size : ℕ) (is : length y.value ≡ size) where
   charged-push : (xs : Tree) (segments : ℕ) → charged_for xs + charge size ≤ segments → charged_for (xs ++ y ∷ []) ≤ segments
   charged-push xs segments room = grind (arith, charged-append, charged-one)
 
@@ -369,54 +376,57 @@ no-root (x ∷ path) last s ends = ne_eqb (length (x ∷ path ++ s ∷ [])) 1 (�
 
 -- a child opened under a frame that neither computes nor has returned
 module _ (home : ℕ) (words : List ℕ) (size : ℕ) (tenant : Tenant) where
-  pub shaped-child : (p : ℕ) (f : Frame (List ℕ)) → frame_at tenant.frames p ≡ Some f → mark_of_state f.state ≡ Neither → HasRoomFor words size tenant →
+  pub shaped-child : (p : ℕ) (f : F) → frame_at tenant.frames p ≡ Some f → mark_of_state f.state ≡ Neither → HasRoomFor words size tenant →
       IsShaped tenant → IsShaped (opened (Some p) words size home tenant)
   shaped-child p f at free room s =
-      let new = new_frame tenant.frames (tenant.serials + 1) (Some p) home (padded words size) in
-      let there = found-there tenant.frames p f at in
-      let next = new-frame-next tenant.frames (tenant.serials + 1) (Some p) home (padded words size) s.tree s.given there in
+      let old = tenant.frames in
+      let serial = tenant.serials + 1 in
+      let new = new_frame old serial (Some p) home (padded words size) in
+      let there = found-there old p f at in
+      let next = new-frame-next old serial (Some p) home (padded words size) s.tree s.given there in
       let long = length-padded words size room.fewer in
-      let ends : EndsIn (path_in tenant.frames p) p = rw (found-path tenant.frames p f at) (found-ends tenant.frames p f s.tree at) in
-      let named : parent_of new.path ≡ Some p = parent_of-path_under tenant.frames (Some p) (tenant.serials + 1) s.tree there in
+      let ends : EndsIn (path_in old p) p = rw (found-path old p f at) (found-ends old p f s.tree at) in
+      let named : parent_of new.path ≡ Some p = parent_of-path_under old (Some p) serial s.tree there in
       record {
-        tree = tree-new_frame tenant.frames (tenant.serials + 1) (Some p) home (padded words size) s.tree s.given there;
-        given = given-push tenant new refl s.given;
-        childless = childless-push tenant.frames new s.tree next refl (λ q g is at_q. parent-free q g (sym named ∙ is) at_q) s.childless;
-        roots = roots-append tenant.jobs tenant.frames (new ∷ []) s.roots ((λ is. absurd (false≢true (sym (no-root (path_in tenant.frames p) p (tenant.serials + 1) ends) ∙ is))), tt);
-        live = live-kept tenant.frames (tenant.frames ++ new ∷ []) tenant.jobs (λ root is. path_in-left _ (new ∷ []) root (path-there _ root is) ∙ is) s.live;
+        tree = tree-new_frame old serial (Some p) home (padded words size) s.tree s.given there;
+        given = given-push serial old new refl s.given;
+        childless = childless-push old new s.tree next refl (λ q g is at_q. parent-free q g (sym named ∙ is) at_q) s.childless;
+        roots = roots-append tenant.jobs old (new ∷ []) s.roots ((λ is. absurd (false≢true (sym (no-root (path_in old p) p serial ends) ∙ is))), tt);
+        live = live-kept old (old ++ new ∷ []) tenant.jobs (λ root is. path_in-left old (new ∷ []) root (path-there old root is) ∙ is) s.live;
         few_jobs = s.few_jobs;
-        words = words-append tenant.frames (new ∷ []) s.words (words-new new size long room.some room.few);
-        charged = charged-push new size long tenant.frames tenant.reserve.segments room.segments;
+        words = words-append old (new ∷ []) s.words (words-new new size long room.some room.few);
+        charged = charged-push new size long old tenant.reserve.segments room.segments;
         opened = (let node = room.node in omega (arith, node));
         ticks = s.ticks;
       }
     where
-      parent-free : (q : ℕ) (g : Frame (List ℕ)) → Some p ≡ Some q → frame_at tenant.frames q ≡ Some g → mark_of_state g.state ≡ Neither
-      parent-free q g e at_q =
-          let same : p ≡ q = cc in
-          let both : ◌≡◌ {A = Option (Frame (List ℕ))} (Some f) (Some g) = sym at ∙ ap (frame_at tenant.frames) same ∙ at_q in
-          let is : f ≡ g = cc in ap (λ (y : Frame (List ℕ)). mark_of_state y.state) (sym is) ∙ free
+      parent-free : (q : ℕ) (g : F) → Some p ≡ Some q → frame_at tenant.frames q ≡ Some g → mark_of_state g.state ≡ Neither
+      parent-free q g e at_q = let same : p ≡ q = cc in rw (← found-same tenant.frames p q f g same at at_q) free
 
   -- a root opened, with the job that lives under it
   pub shaped-root : length tenant.jobs < 256 → HasRoomFor words size tenant → IsShaped tenant →
       IsShaped (record (opened None words size home tenant) { jobs = tenant.jobs ++ Live (tenant.serials + 1) ∷ [] })
   shaped-root few room s =
+      let old = tenant.frames in
       let root = tenant.serials + 1 in
-      let new = new_frame tenant.frames root None home (padded words size) in
-      let next = new-frame-next tenant.frames root None home (padded words size) s.tree s.given refl in
+      let jobs = tenant.jobs ++ Live root ∷ [] in
+      let new = new_frame old root None home (padded words size) in
+      let next = new-frame-next old root None home (padded words size) s.tree s.given refl in
       let long = length-padded words size room.fewer in
-      let lacks = has_frame-above tenant.frames root s.given in
-      let one : live_count root (tenant.jobs ++ Live root ∷ []) ≡ 1 = live_count-append tenant.jobs root (Live root ∷ []) ∙ (rw (no-live tenant.frames root tenant.jobs lacks s.live, one-live root) refl) in
-      let own : path_in (tenant.frames ++ new ∷ []) root ≡ root ∷ [] = path_in-right tenant.frames (new ∷ []) root lacks ∙ (rw (eq-eqb root root refl) refl) in
+      let lacks = has_frame-above old root s.given in
+      let none = no-live old root tenant.jobs lacks s.live in
+      let one : live_count root jobs ≡ 1 = live_count-append tenant.jobs root (Live root ∷ []) ∙ (rw (none, one-live root) refl) in
+      let own : path_in (old ++ new ∷ []) root ≡ root ∷ [] = path_in-right old (new ∷ []) root lacks ∙ (rw (eq-eqb root root refl) refl) in
+      let kept = live-kept old (old ++ new ∷ []) tenant.jobs (λ r is. path_in-left old (new ∷ []) r (path-there old r is) ∙ is) s.live in
       record {
-        tree = tree-new_frame tenant.frames root None home (padded words size) s.tree s.given refl;
-        given = given-push tenant new refl s.given;
-        childless = childless-push tenant.frames new s.tree next refl (λ q g is at_q. absurd cc) s.childless;
-        roots = roots-append (tenant.jobs ++ Live root ∷ []) tenant.frames (new ∷ []) (roots-more root tenant.jobs tenant.frames s.given s.roots) ((λ is. one), tt);
-        live = live-append (tenant.frames ++ new ∷ []) tenant.jobs (Live root ∷ []) (live-kept tenant.frames (tenant.frames ++ new ∷ []) tenant.jobs (λ r is. path_in-left tenant.frames (new ∷ []) r (path-there tenant.frames r is) ∙ is) s.live) (own, tt);
+        tree = tree-new_frame old root None home (padded words size) s.tree s.given refl;
+        given = given-push root old new refl s.given;
+        childless = childless-push old new s.tree next refl (λ q g is at_q. absurd cc) s.childless;
+        roots = roots-append jobs old (new ∷ []) (roots-more root tenant.jobs old s.given s.roots) ((λ is. one), tt);
+        live = live-append (old ++ new ∷ []) tenant.jobs (Live root ∷ []) kept (own, tt);
         few_jobs = (let more = length-append tenant.jobs (Live root ∷ []) in omega (arith, more, few));
-        words = words-append tenant.frames (new ∷ []) s.words (words-new new size long room.some room.few);
-        charged = charged-push new size long tenant.frames tenant.reserve.segments room.segments;
+        words = words-append old (new ∷ []) s.words (words-new new size long room.some room.few);
+        charged = charged-push new size long old tenant.reserve.segments room.segments;
         opened = (let node = room.node in omega (arith, node));
         ticks = s.ticks;
       }

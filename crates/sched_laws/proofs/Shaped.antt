@@ -1,6 +1,6 @@
 -- Every step keeps the shape of its tenant, and so every answer that of all tenants.
-use Rattle.sched_laws.proofs.Common.{◌≡◌, ◌≢◌, ℕ, ◌+◌, ◌-◌, ◌*◌, ◌<◌, ◌≤◌, inl, inr, Bool, true, false, not, ◌||◌, ◌&&◌, eqb, ltb, List, [], ◌∷◌, ◌++◌, Option, Some, None, Result, Ok, Err, length, replicate, refl, ap, sym, ◌∙◌, subst, arith, length-append, length-replicate, cases_Bool, false≢true, eqb-false, ltb-false, leb-true, leb-false, not-false, or_parts, and_parts, charge, growth_charge, Quota, State, Ready, Running, Computing, FrameId, Frame, frame_at, parent_of, root_of, children_of, is_ready, there-found, found-serial, tree-rising, under-there, under-below, aborted-itself, frame_at_other-without, Act, InletAct, Continuation, StepOf, Left, Grow, Spawn, Go, Wait, Compute, Return, Live, Done, Spent as SpentJob, Cancelled as CancelledJob, Refusal, NotReturned, NotSpent, OldTenant, Lower, Admit, AdmitMore, Submit, Take, Steal, Advance, Answer, Inlet, Finish, Spend, Cancel, Leave, Functions, Tree, Tenant, admitted_with, frame_words, words_in, charged_for, left, stored, is_outside, has_child, job_at, kept_words, Neither, mark_of_state, Outcome, unless, lone_step, is_lower, raised, counted, in_state, holding, ended, is_frame_size, submit_tests, submitted, take_tests, steal_tests, taken_by, is_run_by, is_returned, act_by_sight, is_bad_then, is_spawn, segments_for, advance_tests, then_done, advanced, answer_tests, answered, inlet_tests, does_wait, staying, taken_in, inlet_under, finish_tests, finished, is_spendable, spent, at_frame, IsShaped}
-use Rattle.sched_laws.proofs.Holds.{length-stored, frame_at-with_frame_words, charged-with_frame_words}
+use Rattle.sched_laws.proofs.Common.{◌≡◌, ◌≢◌, if◌then◌else◌, ℕ, ◌+◌, ◌-◌, ◌*◌, ◌<◌, ◌≤◌, inl, inr, Bool, true, false, not, ◌||◌, ◌&&◌, eqb, ltb, List, [], ◌∷◌, ◌++◌, Option, Some, None, Result, Ok, Err, length, replicate, refl, ap, sym, ◌∙◌, subst, arith, length-append, length-replicate, false≢true, eqb-false, ltb-false, leb-true, leb-false, not-false, or_parts, and_parts, charge, growth_charge, Quota, State, Ready, Running, Computing, FrameId, frame_at, parent_of, root_of, children_of, is_ready, there-found, found-serial, tree-rising, under-there, under-below, aborted-itself, frame_at_other-without, Act, InletAct, Continuation, StepOf, Left, Grow, Spawn, Go, Wait, Compute, Return, Live, Done, Spent as SpentJob, Cancelled as CancelledJob, Refusal, NotReturned, NotSpent, OldTenant, Lower, Admit, AdmitMore, Submit, Take, Steal, Advance, Answer, Inlet, Finish, Spend, Cancel, Leave, Functions, Tree, Tenant, admitted_with, frame_words, words_in, charged_for, left, stored, is_outside, has_child, job_at, kept_words, Neither, mark_of_state, Outcome, unless, lone_step, is_lower, raised, counted, holding, ended, is_frame_size, submit_tests, submitted, take_tests, steal_tests, taken_by, is_run_by, is_returned, act_by_sight, is_bad_then, is_spawn, segments_for, advance_tests, then_done, advanced, answer_tests, answered, inlet_tests, does_wait, staying, taken_in, inlet_under, finish_tests, finished, is_spendable, spent, at_frame, IsShaped}
+use Rattle.sched_laws.proofs.Holds.{length-stored, frame_at-with_frame_words, charged-with_frame_words, F, found-own}
 use Rattle.sched_laws.proofs.Parts.{childless-at, no-child, has_child-with_frame_words, words-at, shaped-counted, shaped-in_state, shaped-holding, shaped-aborted, shaped-without, shaped-ended, shaped-child, shaped-root}
 
 -- what a step leaves, if it leaves a tenant, has its shape
@@ -19,8 +19,8 @@ unless-passed {X} [] effect outcome is = (tt, (let e : ◌≡◌ {A = Result X R
 unless-passed {X} (test ∷ tests) effect outcome is = grind (arith, unless-passed tests effect outcome)
 
 -- what a step at a frame found
-pub frame-found : {X : Type 0} (frames : Tree) (s : ℕ) (step : Frame (List ℕ) → Result X Refusal) (outcome : X) → at_frame (frame_at frames s) step ≡ Ok outcome →
-    (f : Frame (List ℕ)) × (frame_at frames s ≡ Some f) × (step f ≡ Ok outcome)
+pub frame-found : {X : Type 0} (frames : Tree) (s : ℕ) (step : F → Result X Refusal) (outcome : X) → at_frame (frame_at frames s) step ≡ Ok outcome →
+    (f : F) × (frame_at frames s ≡ Some f) × (step f ≡ Ok outcome)
 frame-found frames s step outcome is = grind arith
 
 -- an effect that came out
@@ -33,56 +33,72 @@ module _ {I : Type 0} (P : Option Tenant → Type 0) where
   passed tests effect outcome is holds = let p = unless-passed tests effect outcome is in came P effect outcome p.1 (holds p.0)
 
   -- the same of a step at a frame
-  passed-at : (frames : Tree) (s : ℕ) (tests : Frame (List ℕ) → List (Bool × Refusal)) (effect : Frame (List ℕ) → Outcome I) (outcome : Outcome I) →
-      at_frame (frame_at frames s) (λ f. unless (tests f) (effect f)) ≡ Ok outcome → ((f : Frame (List ℕ)) → frame_at frames s ≡ Some f → AllPass (tests f) → P (effect f).0) → P outcome.0
+  passed-at : (frames : Tree) (s : ℕ) (tests : F → List (Bool × Refusal)) (effect : F → Outcome I) (outcome : Outcome I) →
+      at_frame (frame_at frames s) (λ f. unless (tests f) (effect f)) ≡ Ok outcome →
+      ((f : F) → frame_at frames s ≡ Some f → AllPass (tests f) → P (effect f).0) → P outcome.0
   passed-at frames s tests effect outcome is holds =
       let f = frame-found frames s (λ frame. unless (tests frame) (effect frame)) outcome is in passed (tests f.0) (effect f.0) outcome f.2 (holds f.0 f.1)
 
 -- P holds of what each effect of a step leaves, where its tests passed
 pub record HoldsOfEach {I A : Type 0} (functions : Functions I A) (tenant : Tenant) (step : StepOf A) (P : Option Tenant → Type 0) : Type 0 where
   pub at_raise : (number : ℕ) (quota : Quota) → step ≡ AdmitMore number quota → is_lower tenant.reserve quota ≡ false → P (raised {I = I} tenant quota).0
-  pub at_submit : (number : ℕ) (words : List ℕ) (size : ℕ) → step ≡ Submit number words size → AllPass (submit_tests tenant words size) → P (submitted {I = I} tenant number words size).0
-  pub at_take : (worker s : ℕ) (f : Frame (List ℕ)) → frame_at tenant.frames s ≡ Some f → not (is_ready f.state) ≡ false → eqb (left tenant).steps 0 ≡ false → P (taken_by {I = I} tenant worker f).0
-  pub at_advance : (worker : ℕ) (name : FrameId) (f : Frame (List ℕ)) → frame_at tenant.frames name.serial ≡ Some f → AllPass (advance_tests tenant worker f (act_by_sight functions tenant f)) →
+  pub at_submit : (number : ℕ) (words : List ℕ) (size : ℕ) → step ≡ Submit number words size → AllPass (submit_tests tenant words size) →
+      P (submitted {I = I} tenant number words size).0
+  pub at_take : (worker s : ℕ) (f : F) → frame_at tenant.frames s ≡ Some f → not (is_ready f.state) ≡ false → eqb (left tenant).steps 0 ≡ false →
+      P (taken_by {I = I} tenant worker f).0
+  pub at_advance : (worker : ℕ) (name : FrameId) (f : F) → frame_at tenant.frames name.serial ≡ Some f →
+      AllPass (advance_tests tenant worker f (act_by_sight functions tenant f)) →
       P (advanced functions tenant worker name f (act_by_sight functions tenant f)).0
-  pub at_answer : (worker s : ℕ) (f : Frame (List ℕ)) (answer : A) → frame_at tenant.frames s ≡ Some f → AllPass (answer_tests functions tenant worker f answer) → P (answered functions tenant worker f answer).0
-  pub at_inlet : (worker : ℕ) (name : FrameId) (f : Frame (List ℕ)) (parent : ℕ) → frame_at tenant.frames name.serial ≡ Some f → parent_of f.path ≡ Some parent →
-      AllPass (inlet_tests tenant worker f parent (functions.inlet (words_in tenant.frames parent) f.value)) → P (taken_in {I = I} tenant worker name parent (functions.inlet (words_in tenant.frames parent) f.value)).0
-  pub at_finish : (worker s : ℕ) (f : Frame (List ℕ)) → frame_at tenant.frames s ≡ Some f → AllPass (finish_tests tenant worker f) → P (finished {I = I} tenant f).0
-  pub at_spend : (s : ℕ) (f : Frame (List ℕ)) → frame_at tenant.frames s ≡ Some f → P (spent {I = I} tenant f).0
+  pub at_answer : (worker s : ℕ) (f : F) (answer : A) → frame_at tenant.frames s ≡ Some f → AllPass (answer_tests functions tenant worker f answer) →
+      P (answered functions tenant worker f answer).0
+  pub at_inlet : (worker : ℕ) (name : FrameId) (f : F) (parent : ℕ) → frame_at tenant.frames name.serial ≡ Some f → parent_of f.path ≡ Some parent →
+      AllPass (inlet_tests tenant worker f parent (functions.inlet (words_in tenant.frames parent) f.value)) →
+      P (taken_in {I = I} tenant worker name parent (functions.inlet (words_in tenant.frames parent) f.value)).0
+  pub at_finish : (worker s : ℕ) (f : F) → frame_at tenant.frames s ≡ Some f → AllPass (finish_tests tenant worker f) → P (finished {I = I} tenant f).0
+  pub at_spend : (s : ℕ) (f : F) → frame_at tenant.frames s ≡ Some f → P (spent {I = I} tenant f).0
   pub at_cancel : (number root : ℕ) → job_at tenant.jobs number ≡ Some (Live root) → P (Some (ended root CancelledJob tenant))
   pub at_leave : (number : ℕ) → step ≡ Leave number → P None
 
 -- so it holds of what a step of a tenant that has the core to itself leaves
-pub by-effects : {I A : Type 0} (functions : Functions I A) (tenant : Tenant) (step : StepOf A) (outcome : Outcome I) (P : Option Tenant → Type 0) → lone_step functions tenant step ≡ Ok outcome → HoldsOfEach functions tenant step P → P outcome.0
-by-effects {I} functions tenant (Admit number quota) outcome P is each = (let e : ◌≡◌ {A = Result (Outcome I) Refusal} (Err OldTenant) (Ok outcome) = is in absurd cc)
-by-effects functions tenant (AdmitMore number quota) outcome P is each = passed P ((is_lower tenant.reserve quota, Lower) ∷ []) (raised tenant quota) outcome is (λ p. each.at_raise number quota refl p.0)
-by-effects functions tenant (Submit number words size) outcome P is each = passed P (submit_tests tenant words size) (submitted tenant number words size) outcome is (λ p. each.at_submit number words size refl p)
-by-effects functions tenant (Take worker name) outcome P is each =
-    passed-at P tenant.frames name.serial (take_tests tenant worker) (taken_by tenant worker) outcome is (λ f at p. each.at_take worker name.serial f at p.0 p.1.1.0)
-by-effects functions tenant (Steal worker from name) outcome P is each =
-    passed-at P tenant.frames name.serial (steal_tests tenant worker from) (taken_by tenant worker) outcome is (λ f at p. each.at_take worker name.serial f at p.0 p.1.1.0)
-by-effects functions tenant (Advance worker name) outcome P is each =
-    passed-at P tenant.frames name.serial (λ f. advance_tests tenant worker f (act_by_sight functions tenant f)) (λ f. advanced functions tenant worker name f (act_by_sight functions tenant f)) outcome is (λ f at p. each.at_advance worker name f at p)
-by-effects functions tenant (Answer worker name answer) outcome P is each =
-    passed-at P tenant.frames name.serial (λ f. answer_tests functions tenant worker f answer) (λ f. answered functions tenant worker f answer) outcome is (λ f at p. each.at_answer worker name.serial f answer at p)
-by-effects {I} functions tenant (Inlet worker name) outcome P is each =
-    let f = frame-found tenant.frames name.serial (λ frame. inlet_under functions tenant worker name frame (parent_of frame.path)) outcome is in
-    by f.0 f.1 (parent_of f.0.path) refl f.2
-  where
-    by : (f : Frame (List ℕ)) → frame_at tenant.frames name.serial ≡ Some f → (parent : Option ℕ) → parent_of f.path ≡ parent → inlet_under functions tenant worker name f parent ≡ Ok outcome → P outcome.0
-    by f at None named e = (let no : ◌≡◌ {A = Result (Outcome I) Refusal} (Err NotReturned) (Ok outcome) = e in absurd cc)
-    by f at (Some parent) named e =
-        let act = functions.inlet (words_in tenant.frames parent) f.value in
-        passed P (inlet_tests tenant worker f parent act) (taken_in tenant worker name parent act) outcome e (λ p. each.at_inlet worker name f parent at named p)
-by-effects functions tenant (Finish worker name) outcome P is each =
-    passed-at P tenant.frames name.serial (finish_tests tenant worker) (finished tenant) outcome is (λ f at p. each.at_finish worker name.serial f at p)
-by-effects functions tenant (Spend name) outcome P is each =
-    passed-at P tenant.frames name.serial (λ f. (not (is_spendable functions tenant f), NotSpent) ∷ []) (spent tenant) outcome is (λ f at p. each.at_spend name.serial f at)
-by-effects {I} functions tenant (Cancel number job) outcome P is each = grind (arith, came)
-by-effects {I} functions tenant (Leave number) outcome P is each =
-    let e : ◌≡◌ {A = Result (Outcome I) Refusal} (Ok (None, Left)) (Ok outcome) = is in
-    let own : ◌≡◌ {A = Outcome I} (None, Left) outcome = cc in came P (None, Left) outcome own (each.at_leave number refl)
+module _ {I A : Type 0} (functions : Functions I A) (tenant : Tenant) where
+  pub by-effects : (step : StepOf A) (outcome : Outcome I) (P : Option Tenant → Type 0) → lone_step functions tenant step ≡ Ok outcome →
+      HoldsOfEach functions tenant step P → P outcome.0
+  by-effects (Admit number quota) outcome P is each = (let e : ◌≡◌ {A = Result (Outcome I) Refusal} (Err OldTenant) (Ok outcome) = is in absurd cc)
+  by-effects (AdmitMore number quota) outcome P is each =
+      passed P ((is_lower tenant.reserve quota, Lower) ∷ []) (raised tenant quota) outcome is (λ p. each.at_raise number quota refl p.0)
+  by-effects (Submit number words size) outcome P is each =
+      passed P (submit_tests tenant words size) (submitted tenant number words size) outcome is (each.at_submit number words size refl)
+  by-effects (Take worker name) outcome P is each = passed-at P tenant.frames name.serial (take_tests tenant worker) (taken_by tenant worker) outcome is
+      (λ f at p. each.at_take worker name.serial f at p.0 p.1.1.0)
+  by-effects (Steal worker from name) outcome P is each =
+      passed-at P tenant.frames name.serial (steal_tests tenant worker from) (taken_by tenant worker) outcome is
+      (λ f at p. each.at_take worker name.serial f at p.0 p.1.1.0)
+  by-effects (Advance worker name) outcome P is each =
+      let act = act_by_sight functions tenant in
+      passed-at P tenant.frames name.serial (λ f. advance_tests tenant worker f (act f)) (λ f. advanced functions tenant worker name f (act f)) outcome is
+      (each.at_advance worker name)
+  by-effects (Answer worker name answer) outcome P is each =
+      passed-at P tenant.frames name.serial (λ f. answer_tests functions tenant worker f answer) (λ f. answered functions tenant worker f answer) outcome is
+      (λ f at p. each.at_answer worker name.serial f answer at p)
+  by-effects (Inlet worker name) outcome P is each =
+      let f = frame-found tenant.frames name.serial (λ frame. inlet_under functions tenant worker name frame (parent_of frame.path)) outcome is in
+      by f.0 f.1 (parent_of f.0.path) refl f.2
+    where
+      by : (f : F) → frame_at tenant.frames name.serial ≡ Some f → (parent : Option ℕ) → parent_of f.path ≡ parent →
+          inlet_under functions tenant worker name f parent ≡ Ok outcome → P outcome.0
+      by f at None named e = (let no : ◌≡◌ {A = Result (Outcome I) Refusal} (Err NotReturned) (Ok outcome) = e in absurd cc)
+      by f at (Some parent) named e =
+          let act = functions.inlet (words_in tenant.frames parent) f.value in
+          passed P (inlet_tests tenant worker f parent act) (taken_in tenant worker name parent act) outcome e (each.at_inlet worker name f parent at named)
+  by-effects (Finish worker name) outcome P is each =
+      passed-at P tenant.frames name.serial (finish_tests tenant worker) (finished tenant) outcome is (each.at_finish worker name.serial)
+  by-effects (Spend name) outcome P is each =
+      passed-at P tenant.frames name.serial (λ f. (not (is_spendable functions tenant f), NotSpent) ∷ []) (spent tenant) outcome is
+      (λ f at p. each.at_spend name.serial f at)
+  by-effects (Cancel number job) outcome P is each = grind (arith, came)
+  by-effects (Leave number) outcome P is each =
+      let e : ◌≡◌ {A = Result (Outcome I) Refusal} (Ok (None, Left)) (Ok outcome) = is in
+      let own : ◌≡◌ {A = Outcome I} (None, Left) outcome = cc in came P (None, Left) outcome own (each.at_leave number refl)
 
 -- P holds of what each kind of step leaves. Those of workers but Finish count one more step, and change only frames and serials
 pub record HoldsOfKinds {A : Type 0} (tenant : Tenant) (step : StepOf A) (P : Option Tenant → Type 0) : Type 0 where
@@ -90,46 +106,53 @@ pub record HoldsOfKinds {A : Type 0} (tenant : Tenant) (step : StepOf A) (P : Op
   pub at_submit : (serials root : ℕ) (frames : Tree) → P (Some (record tenant { serials = serials; jobs = tenant.jobs ++ Live root ∷ []; frames = frames }))
   pub at_work : (serials : ℕ) (frames : Tree) → P (Some (record (counted tenant) { serials = serials; frames = frames }))
   pub at_finish : (root : ℕ) (words : List ℕ) → P (Some (counted (ended root (Done words) tenant)))
-  pub at_spend : (s : ℕ) (f : Frame (List ℕ)) → frame_at tenant.frames s ≡ Some f → P (Some (ended (root_of f.path) SpentJob tenant))
+  pub at_spend : (s : ℕ) (f : F) → frame_at tenant.frames s ≡ Some f → P (Some (ended (root_of f.path) SpentJob tenant))
   pub at_cancel : (number root : ℕ) → job_at tenant.jobs number ≡ Some (Live root) → P (Some (ended root CancelledJob tenant))
   pub at_leave : (number : ℕ) → step ≡ Leave number → P None
+
+-- either branch of a test
+either : {I : Type 0} (P : Option Tenant → Type 0) (test : Bool) (x y : Outcome I) → P x.0 → P y.0 → P (if test then x else y).0
+either P true x y p q = p
+either P false x y p q = q
 
 -- what an act leaves
 module _ {I A : Type 0} (functions : Functions I A) where
   then-works : (t : Tenant) (worker : ℕ) (name : FrameId) (path words : List ℕ) (after : Continuation) (P : Option Tenant → Type 0) →
       ((serials : ℕ) (frames : Tree) → P (Some (record t { serials = serials; frames = frames }))) → P (then_done functions t worker name path words after).0
-  then-works t worker name path words Wait P each = elim (cases_Bool (has_child t.frames name.serial)) [ inl some ↦ rw some (each _ _) | inr none ↦ rw none (each _ _) ]
-  then-works t worker name path words Return P each = elim (cases_Bool (has_child t.frames name.serial)) [ inl some ↦ rw some (each _ _) | inr none ↦ rw none (each _ _) ]
+  then-works t worker name path words Wait P each = either P (has_child t.frames name.serial) _ _ (each _ _) (each _ _)
+  then-works t worker name path words Return P each = either P (has_child t.frames name.serial) _ _ (each _ _) (each _ _)
   then-works t worker name path words _ P each = each _ _
 
   -- so it holds of what a step leaves
-  pub by-kinds : (tenant : Tenant) (step : StepOf A) (outcome : Outcome I) (P : Option Tenant → Type 0) → lone_step functions tenant step ≡ Ok outcome → HoldsOfKinds tenant step P → P outcome.0
+  pub by-kinds : (tenant : Tenant) (step : StepOf A) (outcome : Outcome I) (P : Option Tenant → Type 0) → lone_step functions tenant step ≡ Ok outcome →
+      HoldsOfKinds tenant step P → P outcome.0
   by-kinds tenant step outcome P is each = by-effects functions tenant step outcome P is (record {
     at_raise = λ number quota raises enough. each.at_raise number quota raises;
     at_submit = λ number words size submits passed. each.at_submit _ _ _;
     at_take = λ worker s f at ready some. each.at_work _ _;
-    at_advance = λ worker name f at passed. then-works (counted (holding f.serial _ tenant)) worker name f.path _ (act_by_sight functions tenant f).after P (λ serials frames. each.at_work serials frames);
+    at_advance = λ worker name f at passed.
+        then-works (counted (holding f.serial _ tenant)) worker name f.path _ (act_by_sight functions tenant f).after P each.at_work;
     at_answer = λ worker s f answer at passed. each.at_work _ _;
     at_inlet = λ worker name f parent at named passed.
         let act = functions.inlet (words_in tenant.frames parent) f.value in
         let frames = staying tenant.frames name.serial parent act.abort in
-        elim (cases_Bool (does_wait (frame_at frames parent) && (act.abort || act.wake || not (has_child frames parent)))) [ inl woken ↦ rw woken (each.at_work _ _) | inr sleeps ↦ rw sleeps (each.at_work _ _) ];
+        either P (does_wait (frame_at frames parent) && (act.abort || act.wake || not (has_child frames parent))) _ _ (each.at_work _ _) (each.at_work _ _);
     at_finish = λ worker s f at passed. each.at_finish f.serial _;
     at_spend = each.at_spend;
     at_cancel = each.at_cancel;
     at_leave = each.at_leave;
   })
 
--- a step that is left
+-- a step that is left, a node, and segments
 module _ (tenant : Tenant) where
   step-left : (eqb (left tenant).steps 0) ≡ false → tenant.steps < 16 * tenant.reserve.nodes
   step-left is = let some = eqb-false (left tenant).steps 0 is in omega (arith, some)
 
-  -- a node that is left, and segments
   node-left : (eqb (left tenant).nodes 0) ≡ false → tenant.serials < tenant.reserve.nodes
   node-left is = let some = eqb-false (left tenant).nodes 0 is in omega (arith, some)
 
-  segments-left : (n : ℕ) → charged_for tenant.frames ≤ tenant.reserve.segments → ltb (left tenant).segments n ≡ false → charged_for tenant.frames + n ≤ tenant.reserve.segments
+  segments-left : (n : ℕ) → charged_for tenant.frames ≤ tenant.reserve.segments → ltb (left tenant).segments n ≡ false →
+      charged_for tenant.frames + n ≤ tenant.reserve.segments
   segments-left n within is = let enough = ltb-false (left tenant).segments n is in omega (arith, enough, within)
 
 -- a frame of a size that can be opened
@@ -138,14 +161,21 @@ size-parts words size is = grind (arith, and_parts, not-false, leb-true)
 
 -- Submit
 module _ (I : Type 0) {tenant : Tenant} (s : IsShaped tenant) where
-  submit-shaped : (number : ℕ) (words : List ℕ) (size : ℕ) → AllPass (submit_tests tenant words size) → LeftShaped (submitted {I = I} tenant number words size).0
+  submit-shaped : (number : ℕ) (words : List ℕ) (size : ℕ) → AllPass (submit_tests tenant words size) →
+      LeftShaped (submitted {I = I} tenant number words size).0
   submit-shaped number words size passed =
       let fits = size-parts words size passed.0 in
       shaped-root 0 words size tenant (leb-false 256 (length tenant.jobs) passed.1.0)
-      (record { some = fits.0; few = fits.1; fewer = fits.2; node = node-left tenant passed.1.1.0; segments = segments-left tenant (charge size) s.charged passed.1.1.1.0 }) s
+      (record {
+        some = fits.0;
+        few = fits.1;
+        fewer = fits.2;
+        node = node-left tenant passed.1.1.0;
+        segments = segments-left tenant (charge size) s.charged passed.1.1.1.0;
+      }) s
 
   -- Take and Steal
-  taken-shaped : (worker : ℕ) (f : Frame (List ℕ)) → eqb (left tenant).steps 0 ≡ false → LeftShaped (taken_by {I = I} tenant worker f).0
+  taken-shaped : (worker : ℕ) (f : F) → eqb (left tenant).steps 0 ≡ false → LeftShaped (taken_by {I = I} tenant worker f).0
   taken-shaped worker f some =
       shaped-counted (shaped-in_state s f.serial (Running worker) (inl refl)) (step-left tenant some)
 
@@ -156,17 +186,19 @@ run-free worker state is = grind (arith, false≢true)
 pub returned-marked : (state : State) → is_returned state ≡ true → mark_of_state state ≢ Neither
 returned-marked state is = grind (arith, false≢true)
 
-pub returned-childless : (tenant : Tenant) (s : ℕ) (f : Frame (List ℕ)) → IsShaped tenant → frame_at tenant.frames s ≡ Some f → mark_of_state f.state ≢ Neither → children_of tenant.frames s ≡ []
+pub returned-childless : (tenant : Tenant) (s : ℕ) (f : F) → IsShaped tenant → frame_at tenant.frames s ≡ Some f → mark_of_state f.state ≢ Neither →
+    children_of tenant.frames s ≡ []
 returned-childless tenant s f shape at marked = grind (arith, childless-at, no-child, found-serial)
 
 -- stores in a frame
-same-room : (c a r b : ℕ) → a ≡ b → c ≤ r → c + a ≤ r + b
-same-room c a r b e le = omega arith
+same-room : (a : ℕ) {c r : ℕ} → c ≤ r → c + a ≤ r + a
+same-room a le = omega arith
 
-pub shaped-stored : (n : ℕ) (words : List ℕ) (tenant : Tenant) (f : Frame (List ℕ)) → frame_at tenant.frames n ≡ Some f → length words ≡ length f.value → IsShaped tenant → IsShaped (holding n words tenant)
+pub shaped-stored : (n : ℕ) (words : List ℕ) (tenant : Tenant) (f : F) → frame_at tenant.frames n ≡ Some f → length words ≡ length f.value →
+    IsShaped tenant → IsShaped (holding n words tenant)
 shaped-stored n words tenant f at long s =
     let fits = words-at tenant.frames n f s.words at in
-    shaped-holding n words tenant f at (omega (arith, fits.0, long), omega (arith, fits.1, long)) (same-room (charged_for tenant.frames) (charge (length words)) tenant.reserve.segments (charge (length f.value)) (ap charge long) s.charged) s
+    shaped-holding n words tenant f at (omega (arith, fits.0, long), omega (arith, fits.1, long)) (rw long (same-room (charge (length f.value)) s.charged)) s
 
 -- what comes after the stores of an act
 grow-room : (c a b r : ℕ) → c + (a - b) ≤ r → c + a ≤ r + b
@@ -176,7 +208,7 @@ grow-fits : (words more : ℕ) → ((eqb more 0) || ltb 128 (words + more)) ≡ 
 grow-fits words more is = ltb-false 128 (words + more) (or_parts (eqb more 0) (ltb 128 (words + more)) is).1
 
 module _ {I A : Type 0} (functions : Functions I A) where
-  then-shaped : (t : Tenant) (worker : ℕ) (name : FrameId) (path words : List ℕ) (after : Continuation) (g : Frame (List ℕ)) →
+  then-shaped : (t : Tenant) (worker : ℕ) (name : FrameId) (path words : List ℕ) (after : Continuation) (g : F) →
       frame_at t.frames name.serial ≡ Some g → g.value ≡ words → mark_of_state g.state ≡ Neither →
       is_bad_then (length words) (has_child t.frames name.serial) after ≡ false → (is_spawn after ≡ true → t.serials < t.reserve.nodes) →
       charged_for t.frames + segments_for g after ≤ t.reserve.segments → IsShaped t → LeftShaped (then_done functions t worker name path words after).0
@@ -189,7 +221,7 @@ module _ {I A : Type 0} (functions : Functions I A) where
       (grown (charged_for t.frames) (length (words ++ replicate more 0)) (length g.value) t.reserve.segments (length words) more long own room) s
     where
       grown : (c n o r w m : ℕ) → n ≡ w + m → o ≡ w → c + growth_charge o m ≤ r → c + charge n ≤ r + charge o
-      grown c n o r w m long own le = grow-room c (charge n) (charge o) r (let P : ℕ → Type 0 = λ k. c + (charge k - charge o) ≤ r in subst P (ap (λ (k : ℕ). k + m) own ∙ sym long) le)
+      grown c n o r w m long own le = grow-room c (charge n) (charge o) r (rw (long, ← own) le)
   then-shaped t worker name path words (Spawn given size) g at is free good node room s =
       let fits = size-parts given size good in
       shaped-child worker given size t name.serial g at free (record { some = fits.0; few = fits.1; fewer = fits.2; node = node refl; segments = room }) s
@@ -199,61 +231,61 @@ module _ {I A : Type 0} (functions : Functions I A) where
   then-shaped t worker name path words Return g at is free good node room s = grind (arith, shaped-in_state)
 
   -- Advance
-  advance-shaped : (tenant : Tenant) (worker : ℕ) (name : FrameId) (f : Frame (List ℕ)) (act : Act) → frame_at tenant.frames name.serial ≡ Some f →
+  advance-shaped : (tenant : Tenant) (worker : ℕ) (name : FrameId) (f : F) (act : Act) → frame_at tenant.frames name.serial ≡ Some f →
       AllPass (advance_tests tenant worker f act) → IsShaped tenant → LeftShaped (advanced functions tenant worker name f act).0
   advance-shaped tenant worker name f act at passed s =
-      let good = (or_parts (is_outside act.stores f.value) (is_bad_then (length f.value) (has_child tenant.frames f.serial) act.after) passed.1.1.0).1 in
+      let n = f.serial in
+      let good = (or_parts (is_outside act.stores f.value) (is_bad_then (length f.value) (has_child tenant.frames n) act.after) passed.1.1.0).1 in
       let own = found-serial tenant.frames name.serial f at in
       let words = stored act.stores f.value in
       let long : length words ≡ length f.value = length-stored act.stores f.value in
-      let t = holding f.serial words tenant in
-      let at_own : frame_at tenant.frames f.serial ≡ Some f = ap (frame_at tenant.frames) own ∙ at in
-      let g : Frame (List ℕ) = record f { value = words } in
-      let at_g : frame_at t.frames name.serial ≡ Some g = ap (frame_at t.frames) (sym own) ∙ frame_at-with_frame_words f.serial words tenant.frames f at_own in
-      let child : has_child t.frames name.serial ≡ has_child tenant.frames f.serial = ap (has_child t.frames) (sym own) ∙ has_child-with_frame_words f.serial words tenant.frames f.serial s.tree in
+      let t = holding n words tenant in
+      let at_own = found-own tenant.frames name.serial f at in
+      let g : F = record f { value = words } in
+      let at_g : frame_at t.frames name.serial ≡ Some g = ap (frame_at t.frames) (sym own) ∙ frame_at-with_frame_words n words tenant.frames f at_own in
+      let child = ap (has_child t.frames) (sym own) ∙ has_child-with_frame_words n words tenant.frames n s.tree in
+      let charges = charged-with_frame_words n words tenant.frames f (tree-rising tenant.frames s.tree) at_own in
+      let charged = same (charged_for t.frames) (charged_for tenant.frames) (ap charge long) charges in
       then-shaped (counted t) worker name f.path words act.after g at_g refl (run-free worker f.state (not-false (is_run_by worker f.state) passed.0))
-      (ap (λ (n : ℕ). is_bad_then n (has_child t.frames name.serial) act.after) long ∙ ap (λ (b : Bool). is_bad_then (length f.value) b act.after) child ∙ good)
-      (λ spawn. node-left tenant (node (is_spawn act.after) (eqb (left tenant).nodes 0) spawn passed.1.1.1.0))
-      (room act.after (segments-left tenant (segments_for f act.after) s.charged passed.1.1.1.1.0)
-      (same (charged_for t.frames) (charge (length f.value)) (charged_for tenant.frames) (charge (length words)) (ap charge long) (charged-with_frame_words f.serial words tenant.frames f (tree-rising tenant.frames s.tree) at_own)) g long)
-      (shaped-counted (shaped-stored f.serial words tenant f at_own long s) (step-left tenant passed.1.0))
+      (rw (long, child) good) (λ spawn. node-left tenant (node (is_spawn act.after) (eqb (left tenant).nodes 0) spawn passed.1.1.1.0))
+      (room act.after g (segments-left tenant (segments_for f act.after) s.charged passed.1.1.1.1.0) charged long)
+      (shaped-counted (shaped-stored n words tenant f at_own long s) (step-left tenant passed.1.0))
     where
       node : (spawn none : Bool) → spawn ≡ true → (spawn && none) ≡ false → none ≡ false
       node true none is both = both
       node false none is both = absurd (false≢true is)
 
-      same : (a b c d : ℕ) → d ≡ b → a + b ≡ c + d → a ≡ c
-      same a b c d e is = omega arith
+      same : (a c : ℕ) {b d : ℕ} → d ≡ b → a + b ≡ c + d → a ≡ c
+      same a c e is = omega arith
 
-      room : (after : Continuation) {c : ℕ} → charged_for tenant.frames + segments_for f after ≤ tenant.reserve.segments → c ≡ charged_for tenant.frames → (g : Frame (List ℕ)) → length g.value ≡ length f.value → c + segments_for g after ≤ tenant.reserve.segments
-      room (Grow more) le e g long = (let m = ap (λ (n : ℕ). growth_charge n more) long in sum le e m)
-        where
-          sum : {a b c d r : ℕ} → a + b ≤ r → c ≡ a → d ≡ b → c + d ≤ r
-          sum le e f = omega arith
-      room _ le e g long = rw e le
+      room : (after : Continuation) (g : F) {c : ℕ} → charged_for tenant.frames + segments_for f after ≤ tenant.reserve.segments →
+          c ≡ charged_for tenant.frames → length g.value ≡ length f.value → c + segments_for g after ≤ tenant.reserve.segments
+      room (Grow more) g le e long = rw (e, long) le
+      room _ g le e long = rw e le
 
   -- Answer
-  answer-shaped : (tenant : Tenant) (worker : ℕ) (s : ℕ) (f : Frame (List ℕ)) (answer : A) → frame_at tenant.frames s ≡ Some f →
+  answer-shaped : (tenant : Tenant) (worker : ℕ) (s : ℕ) (f : F) (answer : A) → frame_at tenant.frames s ≡ Some f →
       AllPass (answer_tests functions tenant worker f answer) → IsShaped tenant → LeftShaped (answered functions tenant worker f answer).0
   answer-shaped tenant worker s f answer at passed shape =
-      let at_own : frame_at tenant.frames f.serial ≡ Some f = ap (frame_at tenant.frames) (found-serial tenant.frames s f at) ∙ at in
-      let words = stored (functions.accept f.value answer) f.value in
-      shaped-counted (shaped-in_state (shaped-stored f.serial words tenant f at_own (length-stored (functions.accept f.value answer) f.value) shape) f.serial (Running worker) (inl refl)) (step-left tenant passed.1.1.0)
+      let stores = functions.accept f.value answer in
+      let held = shaped-stored f.serial (stored stores f.value) tenant f (found-own tenant.frames s f at) (length-stored stores f.value) shape in
+      shaped-counted (shaped-in_state held f.serial (Running worker) (inl refl)) (step-left tenant passed.1.1.0)
 
 -- Inlet: the frames that stay, with the parent among them
 module _ (tenant : Tenant) where
-  staying-shaped : (n parent : ℕ) (f : Frame (List ℕ)) (abort : Bool) → frame_at tenant.frames n ≡ Some f → parent_of f.path ≡ Some parent →
+  staying-shaped : (n parent : ℕ) (f : F) (abort : Bool) → frame_at tenant.frames n ≡ Some f → parent_of f.path ≡ Some parent →
       children_of tenant.frames n ≡ [] → IsShaped tenant → IsShaped (record tenant { frames = staying tenant.frames n parent abort })
   staying-shaped n parent f true at named leaf s = shaped-aborted s parent
   staying-shaped n parent f false at named leaf s = shaped-without n tenant f parent at named leaf s
 
-  pub staying-parent : (n parent : ℕ) (f g : Frame (List ℕ)) (abort : Bool) → frame_at tenant.frames n ≡ Some f → parent_of f.path ≡ Some parent →
+  pub staying-parent : (n parent : ℕ) (f g : F) (abort : Bool) → frame_at tenant.frames n ≡ Some f → parent_of f.path ≡ Some parent →
       frame_at tenant.frames parent ≡ Some g → IsShaped tenant → frame_at (staying tenant.frames n parent abort) parent ≡ Some g
   staying-parent n parent f g abort at named at_g s = grind (arith, aborted-itself, under-below, frame_at_other-without)
 
-  pub inlet-stored-shaped : (worker n : ℕ) (f : Frame (List ℕ)) (parent : ℕ) (act : InletAct) → frame_at tenant.frames n ≡ Some f →
+  pub inlet-stored-shaped : (worker n : ℕ) (f : F) (parent : ℕ) (act : InletAct) → frame_at tenant.frames n ≡ Some f →
       parent_of f.path ≡ Some parent → AllPass (inlet_tests tenant worker f parent act) → IsShaped tenant →
-      IsShaped (counted (holding parent (stored act.stores (words_in (staying tenant.frames n parent act.abort) parent)) (record tenant { frames = staying tenant.frames n parent act.abort })))
+      IsShaped (counted (holding parent (stored act.stores (words_in (staying tenant.frames n parent act.abort) parent))
+      (record tenant { frames = staying tenant.frames n parent act.abort })))
   inlet-stored-shaped worker n f parent act at named passed s =
       let leaf = returned-childless tenant n f s at (returned-marked f.state (not-false (is_returned f.state) passed.0)) in
       let g = there-found tenant.frames parent (under-there tenant.frames n parent f s.tree at named) in
@@ -263,16 +295,14 @@ module _ (tenant : Tenant) where
       let long : length words ≡ length g.0.value = length-stored act.stores (words_in frames parent) ∙ ap (λ o. length (frame_words o)) at_g in
       shaped-counted (shaped-stored parent words _ g.0 at_g long (staying-shaped n parent f act.abort at named leaf s)) (step-left tenant passed.1.0)
 
-module _ (I : Type 0) (tenant : Tenant) (worker : ℕ) (f : Frame (List ℕ)) where
+module _ (I : Type 0) (tenant : Tenant) (worker : ℕ) (f : F) where
   inlet-shaped : (name : FrameId) (parent : ℕ) (act : InletAct) → frame_at tenant.frames name.serial ≡ Some f → parent_of f.path ≡ Some parent →
       AllPass (inlet_tests tenant worker f parent act) → IsShaped tenant → LeftShaped (taken_in {I = I} tenant worker name parent act).0
   inlet-shaped name parent act at named passed s =
       let frames = staying tenant.frames name.serial parent act.abort in
       let sa = inlet-stored-shaped tenant worker name.serial f parent act at named passed s in
-      elim (cases_Bool (does_wait (frame_at frames parent) && (act.abort || act.wake || not (has_child frames parent)))) [
-        | inl woken ↦ rw woken (shaped-in_state sa parent (Ready worker) (inl refl))
-        | inr sleeps ↦ rw sleeps sa
-      ]
+      either LeftShaped (does_wait (frame_at frames parent) && (act.abort || act.wake || not (has_child frames parent))) _ _
+      (shaped-in_state sa parent (Ready worker) (inl refl)) sa
 
   -- Finish and Spend
   finish-shaped : AllPass (finish_tests tenant worker f) → IsShaped tenant → LeftShaped (finished {I = I} tenant f).0
@@ -280,7 +310,7 @@ module _ (I : Type 0) (tenant : Tenant) (worker : ℕ) (f : Frame (List ℕ)) wh
       shaped-counted (shaped-ended f.serial (Done (kept_words f.value)) tenant (λ root. refl) s) (step-left tenant passed.1.0)
 
 module _ (I : Type 0) {tenant : Tenant} (s : IsShaped tenant) where
-  spend-shaped : (f : Frame (List ℕ)) → LeftShaped (spent {I = I} tenant f).0
+  spend-shaped : (f : F) → LeftShaped (spent {I = I} tenant f).0
   spend-shaped f = shaped-ended (root_of f.path) SpentJob tenant (λ root. refl) s
 
   -- AdmitMore: what is used stays within the greater reservation
@@ -288,20 +318,33 @@ module _ (I : Type 0) {tenant : Tenant} (s : IsShaped tenant) where
   raised-shaped quota enough = grind (arith, or_parts, ltb-false)
 
 -- every step of a tenant that has the core to itself
-pub step-shaped : {I A : Type 0} (functions : Functions I A) (tenant : Tenant) (step : StepOf A) (outcome : Outcome I) → lone_step functions tenant step ≡ Ok outcome → IsShaped tenant → LeftShaped outcome.0
-step-shaped {I} functions tenant step outcome is s = by-effects functions tenant step outcome LeftShaped is (record {
-  at_raise = λ number quota _ enough. raised-shaped I s quota enough;
-  at_submit = λ number words size _ passed. submit-shaped I s number words size passed;
-  at_take = λ worker serial f at ready some. taken-shaped I s worker f some;
-  at_advance = λ worker name f at passed. advance-shaped functions tenant worker name f (act_by_sight functions tenant f) at passed s;
-  at_answer = λ worker serial f answer at passed. answer-shaped functions tenant worker serial f answer at passed s;
-  at_inlet = λ worker name f parent at named passed. inlet-shaped I tenant worker f name parent (functions.inlet (words_in tenant.frames parent) f.value) at named passed s;
-  at_finish = λ worker serial f at passed. finish-shaped I tenant worker f passed s;
-  at_spend = λ serial f at. spend-shaped I s f;
-  at_cancel = λ number root at. shaped-ended root CancelledJob tenant (λ r. refl) s;
-  at_leave = λ number leaves. tt;
-})
+module _ {I A : Type 0} (functions : Functions I A) (tenant : Tenant) where
+  pub step-shaped : (step : StepOf A) (outcome : Outcome I) → lone_step functions tenant step ≡ Ok outcome → IsShaped tenant → LeftShaped outcome.0
+  step-shaped step outcome is s = by-effects functions tenant step outcome LeftShaped is (record {
+    at_raise = λ number quota _ enough. raised-shaped I s quota enough;
+    at_submit = λ number words size _ passed. submit-shaped I s number words size passed;
+    at_take = λ worker serial f at ready some. taken-shaped I s worker f some;
+    at_advance = λ worker name f at passed. advance-shaped functions tenant worker name f (act_by_sight functions tenant f) at passed s;
+    at_answer = λ worker serial f answer at passed. answer-shaped functions tenant worker serial f answer at passed s;
+    at_inlet = λ worker name f parent at named passed.
+        inlet-shaped I tenant worker f name parent (functions.inlet (words_in tenant.frames parent) f.value) at named passed s;
+    at_finish = λ worker serial f at passed. finish-shaped I tenant worker f passed s;
+    at_spend = λ serial f at. spend-shaped I s f;
+    at_cancel = λ number root at. shaped-ended root CancelledJob tenant (λ r. refl) s;
+    at_leave = λ number leaves. tt;
+  })
 
 -- from nothing: an admission
 pub admitted-shaped : (quota : Quota) → IsShaped (admitted_with quota)
-admitted-shaped quota = record { tree = tt; given = tt; childless = tt; roots = tt; live = tt; few_jobs = omega arith; words = tt; charged = omega arith; opened = omega arith; ticks = omega arith }
+admitted-shaped quota = record {
+  tree = tt;
+  given = tt;
+  childless = tt;
+  roots = tt;
+  live = tt;
+  few_jobs = omega arith;
+  words = tt;
+  charged = omega arith;
+  opened = omega arith;
+  ticks = omega arith;
+}

@@ -53,6 +53,7 @@ pub fn the_newest_ready_frame_has_the_greatest_serial()
 {}
 
 /// After any taken step of a tenant but Leave, each job that had ended is as it was, under its number.
+#[tactic(auto, using(crate::proofs::Consequences::ended_stay))]
 pub fn ended_jobs_stay<P: Procedure>()
     ensures { (procedure : P) (tenant : Tenant) (step : StepOf P.Answer) (outcome : Outcome P.Input) →
         lone_step (P.functions procedure) tenant step ≡ Ok outcome → KeepsEnded tenant.jobs outcome.0 }

@@ -6,7 +6,8 @@ use Rattle.sched_store.proofs.Common.{owner_of_ledger, jobs_of, with_jobs, find_
 use Rattle.std.proofs.Math.Bool.{or-true}
 use Rattle.std.specs.Prelude.{Option, IfSome, IfNone, option_copied}
 use Rattle.std.specs.Borrow.{Bor}
-use Rattle.number_index.proofs.Edits.{said-found, put-changed, found-said, found-none, rising-with}
+use Rattle.number_index.proofs.Edits.{said-found, put-changed, found-said, found-none, rising-with, rising-inserted, rising-without}
+use Rattle.sched_store.proofs.Common.{drop_all}
 
 abbrev pub Jobs : Type 0
 Jobs = List Job
@@ -154,3 +155,13 @@ module _ (n : ℕ) (ledgers : All) (found : Option (Bor JobLedger)) (is : option
 
   pub none-found : IfNone found (jobs_of ledgers n ≡ [])
   none-found = found-none owner_of_ledger (λ (l : JobLedger). l.1) [] n ledgers found is
+
+pub ruleset job_laws = (job_at-zero, job-read, job-past)
+
+pub ruleset under_laws = (number_from-there, none-from, number_from-none, drop_all)
+
+pub ruleset begun_laws = (once-begun)
+
+pub ruleset ledger_orders = (rising-inserted, rising-without)
+
+pub ruleset ledger_reads = (found-jobs, none-found)

@@ -62,6 +62,7 @@ impl<A: Allocator> Ledger<A> {
     }
 
     /// The job of this number, the first being 1; None where there is none.
+    #[tactic(auto, using(crate::proofs::Jobs::job_laws))]
     pub(crate) fn job(&self, number: u64) -> Option<&Job>
         ensures { option_copied result ≡ job_at self.now.1 number }
     {
@@ -78,6 +79,7 @@ impl<A: Allocator> Ledger<A> {
 
     /// The number of the job that lives under this root; 0 where there is none. It looks from the
     /// newest on, as most jobs that live are new.
+    #[tactic(auto, using(crate::proofs::Jobs::under_laws))]
     pub(crate) fn under(&self, root: u64) -> usize
         ensures number { result ≡ job_under root self.now.1 }
         ensures within { result ≤ length self.now.1 }
@@ -91,6 +93,7 @@ impl<A: Allocator> Ledger<A> {
     }
 
     /// Adds a job, which lives under this root, as no other does.
+    #[tactic(auto, using(crate::proofs::Jobs::begun_laws))]
     pub(crate) fn begin(&mut self, root: u64)
         requires room { length self.old.1 < JOBS }
         requires fresh { job_under root self.old.1 ≡ 0 }

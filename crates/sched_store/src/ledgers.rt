@@ -44,6 +44,7 @@ impl<A: Allocator> Ledgers<A> {
     }
 
     /// Adds the ledger of a tenant that isn't there.
+    #[tactic(auto, using(crate::proofs::Jobs::ledger_orders))]
     pub(crate) fn add(&mut self, ledger: Ledger<A>)
         requires room { length self.old < TENANTS }
         requires fresh { is_there ledger.0 self.old ≡ false }
@@ -53,6 +54,7 @@ impl<A: Allocator> Ledgers<A> {
     }
 
     /// Removes the ledger of a tenant that is there.
+    #[tactic(auto, using(crate::proofs::Jobs::ledger_orders))]
     pub(crate) fn remove(&mut self, number: u64)
         requires { is_there number self.old ≡ true }
         ensures { self.new ≡ without_ledger number self.old }
@@ -115,6 +117,7 @@ impl<A: Allocator> Ledgers<A> {
     }
 
     /// A tenant's ledger; None where the tenant isn't there.
+    #[tactic(auto, using(crate::proofs::Jobs::ledger_reads))]
     fn find(&self, number: u64) -> Option<&Ledger<A>>
         ensures found { IfSome result (λ ledger. jobs_of self.now number ≡ ledger.now.1) }
         ensures none { IfNone result (jobs_of self.now number ≡ []) }

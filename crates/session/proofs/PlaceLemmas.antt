@@ -9,28 +9,27 @@ in_places places count = record { places = places; count = count }
 abbrev with_one : Inside → Bound → Inside
 with_one b x = in_places (slice_set b.places b.count x) (b.count + 1)
 
-held_is_held : (bounds : List Bound) → length bounds ≤ 64 → IsHeld (bounds_held bounds)
-held_is_held bounds few = record { same = ap bounds_held (take-append_seam bounds (replicate (64 - length bounds) no_bound)); few = few }
+-- what a table holds with one entry more, where there is room
+module _ (bounds : List Bound) (x : Bound) (room : length bounds < 64) where
+  held_with_one : with_one (bounds_held bounds) x ≡ bounds_held (bounds ++ x ∷ [])
+  held_with_one =
+      let rest = 63 - length bounds in
+      let more = length-append bounds (x ∷ []) in
+      let one_more : 64 - length bounds ≡ suc rest = omega (arith, room) in
+      let one_less : rest ≡ 64 - length (bounds ++ x ∷ []) = omega (arith, more) in
+      ap₂ in_places
+      (ap (λ k. slice_set (bounds ++ replicate k no_bound) (length bounds) x) one_more
+      ∙ set-append_seam bounds no_bound (replicate rest no_bound) x
+      ∙ sym (append_assoc bounds (x ∷ []) (replicate rest no_bound))
+      ∙ ap (λ k. (bounds ++ x ∷ []) ++ replicate k no_bound) one_less)
+      (sym more)
 
-one_more_place : (n : ℕ) → n < 64 → 64 - n ≡ suc (63 - n)
-one_more_place n h = omega (arith, h)
-
-one_place_less : (bounds : List Bound) (x : Bound) → 63 - length bounds ≡ 64 - length (bounds ++ x ∷ [])
-one_place_less bounds x = let more = length-append bounds (x ∷ []) in omega (arith, more)
-
-held_with_one : (bounds : List Bound) (x : Bound) → length bounds < 64 → with_one (bounds_held bounds) x ≡ bounds_held (bounds ++ x ∷ [])
-held_with_one bounds x room =
-    ap₂ in_places
-    (ap (λ k. slice_set (bounds ++ replicate k no_bound) (length bounds) x) (one_more_place (length bounds) room)
-    ∙ set-append_seam bounds no_bound (replicate (63 - length bounds) no_bound) x
-    ∙ sym (append_assoc bounds (x ∷ []) (replicate (63 - length bounds) no_bound))
-    ∙ ap (λ k. (bounds ++ x ∷ []) ++ replicate k no_bound) (one_place_less bounds x))
-    (sym (length-append bounds (x ∷ [])))
-
-few_with_one : (bounds : List Bound) (x : Bound) → length bounds < 64 → length (bounds ++ x ∷ []) ≤ 64
-few_with_one bounds x room = let more = length-append bounds (x ∷ []) in omega (arith, more, room)
+  is_held_with_one : IsHeld (with_one (bounds_held bounds) x)
+  is_held_with_one =
+      let all = bounds ++ x ∷ [] in
+      let more = length-append bounds (x ∷ []) in
+      let few : length all ≤ 64 = omega (arith, more, room) in
+      subst IsHeld (sym held_with_one) (record { same = ap bounds_held (take-append_seam all (replicate (64 - length all) no_bound)); few = few })
 
 pub one_more_held : (b : Inside) (x : Bound) → IsHeld b → length (take b.count b.places) < 64 → IsHeld (record { places = slice_set b.places b.count x; count = b.count + 1 })
-one_more_held b x h room =
-    let bounds = take b.count b.places in
-    subst (λ z. IsHeld (with_one z x)) h.same (subst IsHeld (sym (held_with_one bounds x room)) (held_is_held (bounds ++ x ∷ []) (few_with_one bounds x room)))
+one_more_held b x h room = subst (λ z. IsHeld (with_one z x)) h.same (is_held_with_one (take b.count b.places) x room)

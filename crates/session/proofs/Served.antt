@@ -9,6 +9,31 @@ next_turns q seated lines replies =
     (λ job. Tabulated job (next_reply replies) ∷ turns (seated_after seated (next_reply replies)) lines (later_replies replies))
     (λ _. Closed ∷ turns false lines replies)
 
+-- a relation that answers lines
+abbrev pub Answering : Type 0 → Type 1
+Answering A = A → LineText → List ℕ → A → Type 0
+
+-- what each answer keeps, a chain of them keeps
+module _ {A N : Type 0} (answers : Answering A) (name : A → N)
+    (keeps : (a : A) (line : LineText) (text : List ℕ) (b : A) → answers a line text b → name b ≡ name a) where
+  pub chain-keeps : (a : A) (lines : List LineText) (texts : List (List ℕ)) (b : A) → Answers answers a lines texts b → name b ≡ name a
+  chain-keeps a [] [] b h = sym (ap name h)
+  chain-keeps a (l ∷ ls) (t ∷ ts) b h = chain-keeps h.0 ls ts b h.2 ∙ keeps a l t h.0 h.1
+  chain-keeps a ls ts b h = absurd h
+
+-- what was answered and written, by how it ended
+module _ (lines answered : List LineText) (texts : List (List ℕ)) (rest : List ℕ) where
+  lines-answered : (r : Result End SessionFault) → IsAnswered (write_result (talk_result r)) lines answered texts rest → IsAnsweredOf r answered lines
+  lines-answered (Ok Bye) h = h.0
+  lines-answered (Ok EndOfInput) h = h.0
+  lines-answered (Err Read) h = h.0
+  lines-answered (Err Write) h = h.0
+
+  answers-written : (r : Result (Unit {0}) WriteFailed) (texts' : List (List ℕ)) (pieces : List (List ℕ)) → texts ≡ texts' → concat pieces ++ rest ≡ written_texts texts →
+      IsAnswered r lines answered texts rest → IsWrittenOf r (concat pieces) texts'
+  answers-written (Ok u) texts' pieces e taken h = sym (append-nil (concat pieces)) ∙ (ap (λ z. concat pieces ++ z) (sym h.1) ∙ (taken ∙ ap written_texts e))
+  answers-written (Err d) texts' pieces e taken h = subst (λ ts. IsWrittenOf (Err d) (concat pieces) ts) e (rest, taken, h.1)
+
 module _ {O : Type 0} (does : O → Call → OfficeReply → O → Type 0) where
   -- where replies give these turns, the texts are theirs, and the office is led through their calls, once a tenant that is there has left
   pub record Came (turned : List OfficeReply → List LineTurn) (from : O) (seated : Bool) (texts : List (List ℕ)) (to : O) (seated' : Bool) : Type 0 where
@@ -20,74 +45,64 @@ module _ {O : Type 0} (does : O → Call → OfficeReply → O → Type 0) where
   leaves true from to h = (to, h, refl)
   leaves false from to h = h
 
-  leaves-more : (seated : Bool) (from mid to : O) (more : List (Call × OfficeReply)) → LeavesIf does seated from mid → Leads (Called does) mid more to → Leads (Called does) from (leaving seated ++ more) to
+  leaves-more : (seated : Bool) (from mid to : O) (more : List (Call × OfficeReply)) → LeavesIf does seated from mid → Leads (Called does) mid more to →
+      Leads (Called does) from (leaving seated ++ more) to
   leaves-more true from mid to more h k = (mid, h, k)
   leaves-more false from mid to more h k = subst (λ o. Leads (Called does) o more to) (sym h) k
 
   -- one line before others
-  came-next : (q : Request) (from : O) (seated : Bool) (text : List ℕ) (mid : O) (seated' : Bool) (lines : List LineText) (texts : List (List ℕ)) (to : O) (seated'' : Bool)
-      → Turned does q from seated text mid seated' → Came (turns seated' lines) mid seated' texts to seated'' → Came (next_turns q seated lines) from seated (text ∷ texts) to seated''
-  came-next (Fault fault) from seated text mid seated' lines texts to seated'' h came =
-      let same = subst (λ o. Came (turns seated lines) o seated texts to seated'') (sym h.0) (subst (λ s. Came (turns s lines) mid s texts to seated'') h.1 came) in
-      record { replies = same.replies; are = ap₂ (λ t ts. t ∷ ts) h.2 same.are; made = same.made }
-  came-next (Makes call) from seated text mid seated' lines texts to seated'' h came =
-      let same = subst (λ s. Came (turns s lines) mid s texts to seated'') h.2 came in
-      record { replies = h.0 ∷ same.replies; are = ap₂ (λ t ts. t ∷ ts) h.3 same.are; made = λ end k. (mid, h.1, same.made end k) }
-  came-next (Tabulates job) from seated text mid seated' lines texts to seated'' h came =
-      let same = subst (λ s. Came (turns s lines) mid s texts to seated'') h.2 came in
-      record { replies = h.0 ∷ same.replies; are = ap₂ (λ t ts. t ∷ ts) h.3 same.are; made = λ end k. (mid, h.1, same.made end k) }
-  came-next Ends from seated text mid seated' lines texts to seated'' h came =
-      let same = subst (λ s. Came (turns s lines) mid s texts to seated'') h.1 came in
-      record {
-        replies = same.replies;
-        are = ap₂ (λ t ts. t ∷ ts) h.2 same.are;
-        made = λ end k. leaves-more seated from mid end (calls_in false (turns false lines same.replies)) h.0 (same.made end k);
-      }
+  module _ (from : O) (seated : Bool) (text : List ℕ) {mid to : O} {seated' seated'' : Bool} {texts : List (List ℕ)} (lines : List LineText)
+      (came : Came (turns seated' lines) mid seated' texts to seated'') where
+    came-next : (q : Request) → Turned does q from seated text mid seated' → Came (next_turns q seated lines) from seated (text ∷ texts) to seated''
+    came-next (Fault fault) h =
+        let same = subst (λ o. Came (turns seated lines) o seated texts to seated'') (sym h.0) (subst (λ s. Came (turns s lines) mid s texts to seated'') h.1 came) in
+        record { replies = same.replies; are = ap₂ (λ t ts. t ∷ ts) h.2 same.are; made = same.made }
+    came-next (Makes call) h =
+        let same = subst (λ s. Came (turns s lines) mid s texts to seated'') h.2 came in
+        record { replies = h.0 ∷ same.replies; are = ap₂ (λ t ts. t ∷ ts) h.3 same.are; made = λ end k. (mid, h.1, same.made end k) }
+    came-next (Tabulates job) h =
+        let same = subst (λ s. Came (turns s lines) mid s texts to seated'') h.2 came in
+        record { replies = h.0 ∷ same.replies; are = ap₂ (λ t ts. t ∷ ts) h.3 same.are; made = λ end k. (mid, h.1, same.made end k) }
+    came-next Ends h =
+        let same = subst (λ s. Came (turns s lines) mid s texts to seated'') h.1 came in
+        let later = calls_in false (turns false lines same.replies) in
+        record { replies = same.replies; are = ap₂ (λ t ts. t ∷ ts) h.2 same.are; made = λ end k. leaves-more seated from mid end later h.0 (same.made end k) }
 
-  module _ {A : Type 0} (office : A → O) (seated : A → Bool) (answers : A → LineText → List ℕ → A → Type 0) (turned : (a : A) (line : LineText) (text : List ℕ) (b : A) → answers a line text b → Turned does (request (seated a) line) (office a) (seated a) text (office b) (seated b)) where
+  -- an answerer that holds an office, and knows whether a tenant is there
+  module _ {A : Type 0} (office : A → O) (seated : A → Bool) (answers : Answering A)
+      (turned : (a : A) (line : LineText) (text : List ℕ) (b : A) → answers a line text b →
+      Turned does (request (seated a) line) (office a) (seated a) text (office b) (seated b)) where
     -- all lines of a chain of answers
-    pub came-all : (a : A) (lines : List LineText) (texts : List (List ℕ)) (b : A) → Answers answers a lines texts b → Came (turns (seated a) lines) (office a) (seated a) texts (office b) (seated b)
+    came-all : (a : A) (lines : List LineText) (texts : List (List ℕ)) (b : A) → Answers answers a lines texts b →
+        Came (turns (seated a) lines) (office a) (seated a) texts (office b) (seated b)
     came-all a [] [] b h =
         subst (λ z. Came (turns (seated a) []) (office a) (seated a) [] (office z) (seated z)) h (record { replies = []; are = refl; made = leaves (seated a) (office a) })
-    came-all a [] (t ∷ ts) b h = absurd h
-    came-all a (l ∷ ls) [] b h = absurd h
-    came-all a (l ∷ ls) (t ∷ ts) b h =
-        came-next (request (seated a) l) (office a) (seated a) t (office h.0) (seated h.0) ls ts (office b) (seated b) (turned a l t h.0 h.1) (came-all h.0 ls ts b h.2)
+    came-all a (l ∷ ls) (t ∷ ts) b h = came-next (office a) (seated a) t ls (came-all h.0 ls ts b h.2) (request (seated a) l) (turned a l t h.0 h.1)
+    came-all a ls ts b h = absurd h
 
-  -- which lines were answered, by how their talk ended
-  lines-answered : (r : Result End SessionFault) (lines answered : List LineText) (texts : List (List ℕ)) (rest : List ℕ) → IsAnswered (write_result (talk_result r)) lines answered texts rest → IsAnsweredOf r answered lines
-  lines-answered (Ok Bye) lines answered texts rest h = h.0
-  lines-answered (Ok EndOfInput) lines answered texts rest h = h.0
-  lines-answered (Err Read) lines answered texts rest h = h.0
-  lines-answered (Err Write) lines answered texts rest h = h.0
-
-  -- what was written of the answers
-  answers-written : (r : Result (Unit {0}) WriteFailed) (lines answered : List LineText) (texts texts' : List (List ℕ)) (pieces : List (List ℕ)) (rest : List ℕ) → texts ≡ texts' → concat pieces ++ rest ≡ written_texts texts → IsAnswered r lines answered texts rest → IsWrittenOf r (concat pieces) texts'
-  answers-written (Ok u) lines answered texts texts' pieces rest e taken h =
-      sym (append-nil (concat pieces)) ∙ (ap (λ z. concat pieces ++ z) (sym h.1) ∙ (taken ∙ ap written_texts e))
-  answers-written (Err d) lines answered texts texts' pieces rest e taken h = subst (λ ts. IsWrittenOf (Err d) (concat pieces) ts) e (rest, taken, h.1)
-
-  -- a talk whose answerer starts without a tenant, and whose tenant then leaves, is a session
-  pub talk-session : {S K A : Type 0} (gives : S → ReadAnswer → S → Type 0) (takes : K → WriteAnswer → K → Type 0) (office : A → O) (seated : A → Bool) (answers : A → LineText → List ℕ → A → Type 0)
-      → ((a : A) (line : LineText) (text : List ℕ) (b : A) → answers a line text b → Turned does (request (seated a) line) (office a) (seated a) text (office b) (seated b))
-      → (s : S) (k : K) (a : A) (s' : S) (k' : K) (b : A) (o o' : O) (r : Result End SessionFault)
-      → office a ≡ o → seated a ≡ false → Talk gives takes answers is_bye s k a s' k' b (talk_result r) → LeavesIf does (seated b) (office b) o' → Session gives takes does s k o s' k' o' r
-  talk-session gives takes office seated answers turned s k a s' k' b o o' r at new talk left =
-      let y = talk.lines in
-      let came = subst (λ z. Came (turns z y.answered) (office a) z y.texts (office b) (seated b)) new (came-all office seated answers turned a y.answered y.texts b y.answers_lead) in
-      let lines = lines-answered r (session_lines (bytes_due (talk_result r) (concat talk.blocks))) y.answered y.texts y.rest y.ends in
-      let made = subst (λ z. Leads (Called does) z (calls_for y.answered came.replies) o') at (came.made o' left) in
-      let written = answers-written (write_result (talk_result r)) (session_lines (bytes_due (talk_result r) (concat talk.blocks))) y.answered y.texts (texts_for y.answered came.replies) y.pieces y.rest came.are y.taken y.ends in
-      record { blocks = talk.blocks; last = talk.last; answered = y.answered; replies = came.replies; pieces = y.pieces; reads = talk.reads; ends = talk.ending; lines = lines; made = made; writes = y.writes; written = written }
-
-  -- what each answer keeps, a chain of them keeps
-  pub chain-keeps : {A N : Type 0} (answers : A → LineText → List ℕ → A → Type 0) (name : A → N) → ((a : A) (line : LineText) (text : List ℕ) (b : A) → answers a line text b → name b ≡ name a)
-      → (a : A) (lines : List LineText) (texts : List (List ℕ)) (b : A) → Answers answers a lines texts b → name b ≡ name a
-  chain-keeps answers name keeps a [] [] b h = sym (ap name h)
-  chain-keeps answers name keeps a [] (t ∷ ts) b h = absurd h
-  chain-keeps answers name keeps a (l ∷ ls) [] b h = absurd h
-  chain-keeps answers name keeps a (l ∷ ls) (t ∷ ts) b h = chain-keeps answers name keeps h.0 ls ts b h.2 ∙ keeps a l t h.0 h.1
+    -- a talk whose answerer starts without a tenant, and whose tenant then leaves, is a session
+    pub talk-session : {S K : Type 0} {gives : S → ReadAnswer → S → Type 0} {takes : K → WriteAnswer → K → Type 0} {s s' : S} {k k' : K} (a b : A) (o o' : O)
+        (r : Result End SessionFault) → office a ≡ o → seated a ≡ false → Talk gives takes answers is_bye s k a s' k' b (talk_result r) →
+        LeavesIf does (seated b) (office b) o' → Session gives takes does s k o s' k' o' r
+    talk-session a b o o' r at new talk left =
+        let y = talk.lines in
+        let lines = session_lines (bytes_due (talk_result r) (concat talk.blocks)) in
+        let came = subst (λ z. Came (turns z y.answered) (office a) z y.texts (office b) (seated b)) new (came-all a y.answered y.texts b y.answers_lead) in
+        record {
+          blocks = talk.blocks;
+          last = talk.last;
+          answered = y.answered;
+          replies = came.replies;
+          pieces = y.pieces;
+          reads = talk.reads;
+          ends = talk.ending;
+          writes = y.writes;
+          lines = lines-answered lines y.answered y.texts y.rest r y.ends;
+          made = subst (λ z. Leads (Called does) z (calls_for y.answered came.replies) o') at (came.made o' left);
+          written = answers-written lines y.answered y.texts y.rest (write_result (talk_result r)) (texts_for y.answered came.replies) y.pieces came.are y.taken y.ends;
+        }
 
   -- the office at the end by another name
-  pub Session-office : {S K : Type 0} (gives : S → ReadAnswer → S → Type 0) (takes : K → WriteAnswer → K → Type 0) (s : S) (k : K) (o : O) (s' : S) (k' : K) (o' o'' : O) (r : Result End SessionFault) → o'' ≡ o' → Session gives takes does s k o s' k' o' r → Session gives takes does s k o s' k' o'' r
-  Session-office gives takes s k o s' k' o' o'' r e x = subst (λ z. Session gives takes does s k o s' k' z r) (sym e) x
+  pub Session-office : {S K : Type 0} {gives : S → ReadAnswer → S → Type 0} {takes : K → WriteAnswer → K → Type 0} {s s' : S} {k k' : K} {o o' o'' : O} {r : Result End SessionFault} →
+      o'' ≡ o' → Session gives takes does s k o s' k' o' r → Session gives takes does s k o s' k' o'' r
+  Session-office {gives = gives} {takes} {s} {s'} {k} {k'} {o} {r = r} e x = subst (λ z. Session gives takes does s k o s' k' z r) (sym e) x

@@ -1,5 +1,7 @@
 //! The definitions of requests and sessions, tried on worked lines: each contract is computed from the definitions alone.
 //! LF is 10, CR is 13.
+#![tactic(auto, unfolding(crate::proofs::Common::digits, crate::proofs::Common::squares))]
+
 ghost use Rattle.std.specs.Prelude.{◌≡◌, [], ◌∷◌, ◌++◌, replicate, length, codes, pos, negsuc, Some, None, true, false};
 ghost use Rattle.othello_moves.specs.declared.choices.Choice.TheVariants.{Square, Pass};
 ghost use Rattle.othello_eval.specs.declared.bound.BoundKind.TheVariants.{Low, High};

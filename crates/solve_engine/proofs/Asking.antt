@@ -19,7 +19,8 @@ StepSearches before step answer after =
     (origins : ℕ → List (List ℕ)) → CoreSearches origins before → (is_ok answer ≡ true → IsSearch step) → CoreSearches (origins_after origins step answer) after
 
 -- a step that submits nothing keeps what was asked
-pub step-asks : {I : Type 0} (asked : List (List ℕ)) (before after : CoreState) (step : StepOf LeafAnswer) (answer : Result (DidOf I) Refusal) → submits step ≡ [] → IsSearch step → StepSearches before step answer after → HasAsked asked before → HasAsked asked after
+pub step-asks : {I : Type 0} (asked : List (List ℕ)) (before after : CoreState) (step : StepOf LeafAnswer) (answer : Result (DidOf I) Refusal) →
+    submits step ≡ [] → IsSearch step → StepSearches before step answer after → HasAsked asked before → HasAsked asked after
 step-asks asked before after step answer none search searching has =
     record {
       origins = origins_after has.origins step answer;
@@ -28,7 +29,8 @@ step-asks asked before after step answer none search searching has =
     }
 
 -- a Submit of tenant 1 that is taken adds its words
-pub submit-asks : {I : Type 0} (words : List ℕ) (size : ℕ) (before after : CoreState) (did : DidOf I) → IsSearch {A = LeafAnswer} (Submit 1 words size) → StepSearches {A = LeafAnswer} before (Submit 1 words size) (Ok did) after → HasAsked [] before → HasAsked (words ∷ []) after
+pub submit-asks : {I : Type 0} (words : List ℕ) (size : ℕ) (before after : CoreState) (did : DidOf I) → IsSearch {A = LeafAnswer} (Submit 1 words size) →
+    StepSearches {A = LeafAnswer} before (Submit 1 words size) (Ok did) after → HasAsked [] before → HasAsked (words ∷ []) after
 submit-asks words size before after did search searching has =
     record {
       origins = origins_after {A = LeafAnswer} has.origins (Submit 1 words size) (Ok did);
@@ -42,10 +44,12 @@ asked-serves asked shared has = core-serves has.origins shared 1 has.searches
 
 -- what is said of its job's outcome for the words that were asked
 abbrev pub TellsOf : CoreState → Option Outcome → Type 0
-TellsOf shared outcome = (origins : List (List ℕ)) (owner : Tenant) → tenant_in shared.tenants 1 ≡ Some owner → TenantSearches origins owner → AnswersTo (origin_at origins 1) outcome
+TellsOf shared outcome =
+    (origins : List (List ℕ)) (owner : Tenant) → tenant_in shared.tenants 1 ≡ Some owner → TenantSearches origins owner → AnswersTo (origin_at origins 1) outcome
 
-pub outcome-to : (words : List ℕ) (quota : Quota) (shared : CoreState) (outcome : Option Outcome) → HasReserved quota shared → HasAsked (words ∷ []) shared → TellsOf shared outcome → AnswersTo (Some words) outcome
-outcome-to words quota shared outcome reserved has tells =
+pub outcome-to : {words : List ℕ} {quota : Quota} {shared : CoreState} {outcome : Option Outcome} → HasReserved quota shared → HasAsked (words ∷ []) shared →
+    TellsOf shared outcome → AnswersTo (Some words) outcome
+outcome-to {shared = shared} reserved has tells =
     let to = tells (has.origins 1) reserved.tenant reserved.there (core-tenant has.origins shared 1 reserved.tenant has.searches reserved.there) in rw has.are at to
 
 pub outcome-there : (words : List ℕ) (outcome : Option Outcome) → AnswersTo (Some words) outcome → IsSome outcome

@@ -9,7 +9,7 @@ pub use Rattle.std.specs.List.{concat}
 pub use Rattle.std.specs.Prelude.{IsSome, OnOk, if◌then◌else◌, is_ok}
 pub use mir.Val.{SFits}
 pub use Rattle.jamboree_core.proofs.Serving.{core-serves, core-tenant, nobody-searches}
-pub use Rattle.jamboree_core.proofs.sched_core_Stepping.{IsRunning, runs-begin, runs-on}
+pub use Rattle.jamboree_core.proofs.sched_core_Stepping.{IsRunning, runs-on}
 pub use Rattle.jamboree_core.proofs.sched_laws_Shaped.{by-kinds}
 pub use Rattle.jamboree_core.specs.Outcomes.{AnswersTo, IsReplyOn}
 pub use Rattle.jamboree_core.specs.Replies.{IsSearch}
@@ -56,6 +56,6 @@ pub use Rattle.sched_rules.specs.declared.step.DidOf.TheVariants.{Admitted}
 pub use Rattle.sched_rules.specs.declared.step.StepOf.{StepOf}
 pub use Rattle.sched_rules.specs.declared.step.StepOf.TheVariants.{Admit, Steal, Submit, Take}
 pub use Rattle.tenant_quota.specs.Quota.{IsWithinLimits, Quota}
-pub use Rattle.solve_engine.specs.Asked.{HasAsked, HasReserved, HasRun, IsNewCore, IsWork, Keeps, WorksOn}
+pub use Rattle.solve_engine.specs.Asked.{HasAsked, HasReserved, HasRun, IsNewCore, IsWork, Keeps, Task, WorksOn}
 pub use Rattle.solve_engine.specs.Solving.{IsSolvedLine, IsVisitedLine, SolvedRun, answers_unless, question_answer, solve_line, solve_line_unless}
 pub use Rattle.solve_engine.specs.Solving.{solve_out_unless, solved_unless, solved_with_count}

@@ -1,11 +1,10 @@
 -- What a worker offers is a worker's step or Spend, and where that is taken its tenant stays, with what it reserved.
-use Rattle.solve_engine.proofs.Common.{◌≡◌, ℕ, true, false, ◌==◌, IfSome, Option, Some, None, Ok, refl, subst, StepOf, Take, Steal, Functions, Tenant, Outcome, lone_step, by-kinds, LeafAnswer, Action, Get, Bring, TakeIn, Finish as FinishRoot, Holding, Nothing, Next, Computing, GivingUp, step_of, offered, IsWork}
-use Rattle.std.proofs.Common.{if◌then◌else◌}
+use Rattle.solve_engine.proofs.Common.{◌≡◌, ℕ, IfSome, Option, Some, None, Ok, refl, subst, arith, StepOf, Functions, Tenant, Outcome, lone_step, by-kinds, Action, Get, Bring, TakeIn, Finish as FinishRoot, Holding, Nothing, Next, Computing, GivingUp, step_of, offered, IsWork}
 use Rattle.pool_rules.specs.declared.turn.Action.TheVariants.{Run}
 
 -- for each action
 action-work : (worker : ℕ) (action : Action) → IsWork (step_of worker action)
-action-work worker (Get task) = elim (task.home == worker) as (λ own. IsWork {A = LeafAnswer} (if own then Take worker task.frame else Steal worker task.home task.frame)) [ true ↦ tt | false ↦ tt ]
+action-work worker (Get task) = grind arith
 action-work worker (Run frame) = tt
 action-work worker (Bring frame answer) = tt
 action-work worker (TakeIn frame) = tt
@@ -24,7 +23,8 @@ Stays tenant None = ⊥
 Stays tenant (Some after) = after.reserve ≡ tenant.reserve
 
 -- each step of a worker, and Spend
-pub step-stays : {I A : Type 0} (functions : Functions I A) (tenant : Tenant) (step : StepOf A) (outcome : Outcome I) → IsWork step → lone_step functions tenant step ≡ Ok outcome → Stays tenant outcome.0
+pub step-stays : {I A : Type 0} (functions : Functions I A) (tenant : Tenant) (step : StepOf A) (outcome : Outcome I) → IsWork step →
+    lone_step functions tenant step ≡ Ok outcome → Stays tenant outcome.0
 step-stays {A = A} functions tenant step outcome work is = by-kinds functions tenant step outcome (Stays tenant) is (record {
   at_raise = λ number quota raises. absurd (subst Works raises work);
   at_submit = λ serials root frames. refl;

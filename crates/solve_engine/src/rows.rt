@@ -1,4 +1,6 @@
 //! The definitions of lines and answers, tried on small inputs: each contract is computed from the definitions alone.
+#![tactic(auto, using(crate::proofs::RefusalLemmas::none_refused), unfolding(crate::proofs::Common::digits, crate::proofs::Common::squares, crate::proofs::Common::squares_beside, crate::proofs::Common::in_order, crate::proofs::Common::weights, crate::proofs::Common::minimax, crate::proofs::Common::best_choice))]
+
 ghost use Rattle.std.specs.Prelude.{◌≡◌, ℕ, true, List, [], ◌∷◌, ◌++◌, codes};
 ghost use Rattle.line_io.specs.Lines.{TooLong, Whole};
 ghost use Rattle.solve_engine.specs.Solving.{solve_line, solve_out, solve_out_unless};

@@ -3,4 +3,6 @@ use Rattle.promises.proofs.entry_in.Goals as goal
 
 pub returns-in-Some-Done : goal.returns-in-Some-Done
 returns-in-Some-Done g c =
-    entry-in _ c.args.job c.in-Some-Done.reply _ c.args.number c.bound.result (c.count-count.ensures.explained.searches c.args.tenant) (rw c.in-Some-Done.field-0-is at c.in-Some-Done.ensures.asked) c.bound_count-entries.ensures.table c.bound.ensures.value
+    let asked = rw c.in-Some-Done.field-0-is at c.in-Some-Done.ensures.asked in
+    let searches = c.count-count.ensures.explained.searches c.args.tenant in
+    entry-in _ c.args.job c.in-Some-Done.reply searches asked _ c.args.number c.bound_count-entries.ensures.table c.bound.result c.bound.ensures.value

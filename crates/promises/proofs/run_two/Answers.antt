@@ -5,7 +5,7 @@ pub returns-clause-headline : goal.returns-clause-headline
 returns-clause-headline g c = (c.in_ok-one.ensures, c.in_ok-other.ensures)
 
 pub returns-clause-undisturbed : goal.returns-clause-undisturbed
-returns-clause-undisturbed g c number same = undisturbed _ _ _ _ _ _ _ _ _ number c.in_ok-one.ensures c.in_ok-other.ensures same
+returns-clause-undisturbed g c number same = undisturbed _ number c.in_ok-one.ensures c.in_ok-other.ensures same
 
 pub returns-clause-alone : goal.returns-clause-alone
-returns-clause-alone g c number are admitted = alone _ _ _ _ _ _ _ _ _ number c.in_ok-one.ensures c.in_ok-other.ensures are admitted
+returns-clause-alone g c number are admitted = alone _ number c.in_ok-one.ensures c.in_ok-other.ensures are admitted

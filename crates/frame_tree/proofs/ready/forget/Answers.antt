@@ -1,7 +1,7 @@
 use Rattle.frame_tree.proofs.Common.{refl, ap, ◌∙◌, arith, ReadyFrame}
 use Rattle.frame_tree.proofs.Places.{filter_not-remove, filter_not-absent, alike}
-use Rattle.frame_tree.proofs.ready.forget.Goals as goal
 use Rattle.frame_tree.proofs.ready.forget.Goals.{else-at-len-via-then-at-len+else-at-serial, else-at-len-via-else-at-len}
+use Rattle.frame_tree.proofs.ready.forget.Goals as goal
 
 pub returns-then-at-serial : goal.returns-then-at-serial
 returns-then-at-serial g c =

@@ -1,7 +1,7 @@
 use Rattle.frame_tree.proofs.Common.{◌<◌, length, get_or, get_or_default, refl, sym, ◌∙◌, arith, slots_in}
 use Rattle.frame_tree.proofs.SlotStores.{here_read, link_marked, read_key, marks_taken, marks_stays}
-use Rattle.frame_tree.proofs.slot_store.mark_under.Goals as goal
 use Rattle.frame_tree.proofs.slot_store.mark_under.Goals.{then-is_taken, else-is_taken}
+use Rattle.frame_tree.proofs.slot_store.mark_under.Goals as goal
 
 pub is_taken-requires : goal.is_taken-requires
 is_taken-requires g c =
@@ -20,12 +20,12 @@ loop-at-preserved g c =
     let read = read_key c.args.under slots order c.loop-at.at key c.args.slab.now c.loop-at.slab c.loop-at.invariant.0 here is refl c.requires.here c.requires.apart c.requires.linked in
     elim c.if-is_taken.branch [
       | then-is_taken w ↦ rw w.slab-is (
-        marks_taken c.args.under slots order c.loop-at.at key c.args.slab.now c.loop-at.slab c.loop-at.invariant.0 here is w.mark.new.slab read.0 read.1 (sym c.is_taken.ensures ∙ w.if-is_taken.true) w.mark.ensures.marked,
+        marks_taken read.1 (sym c.is_taken.ensures ∙ w.if-is_taken.true) w.mark.ensures.marked,
         w.mark.ensures.len ∙ c.loop-at.invariant.1,
         w.mark.ensures.capacity ∙ c.loop-at.invariant.2,
       )
       | else-is_taken w ↦ rw w.slab-is (
-        marks_stays c.args.under slots order c.loop-at.at key c.args.slab.now c.loop-at.slab c.loop-at.invariant.0 here is read.0 read.1 (sym c.is_taken.ensures ∙ w.if-is_taken.false),
+        marks_stays read.1 (sym c.is_taken.ensures ∙ w.if-is_taken.false),
         c.loop-at.invariant.1,
         c.loop-at.invariant.2,
       )

@@ -1,7 +1,7 @@
 use Rattle.frame_tree.proofs.Common.{◌≡◌, ◌<◌, length, refl, ap, sym, ◌∙◌, arith, get, is_marked}
 use Rattle.frame_tree.proofs.SlotStores.{swept_early, slot_is, slot_contains, swept_stays, swept_goes}
-use Rattle.frame_tree.proofs.slot_store.sweep.Goals as goal
 use Rattle.frame_tree.proofs.slot_store.sweep.Goals.{then-index, else-index}
+use Rattle.frame_tree.proofs.slot_store.sweep.Goals as goal
 
 pub loop-at-init : goal.loop-at-init
 loop-at-init g c = (swept_early c.args.slab.now c.args.order.now.list c.args.removed.now.items c.args.from c.requires.within c.requires.early, refl, refl)

@@ -1,5 +1,5 @@
 use Rattle.jamboree.proofs.Common.{neg_ℤ, seen, frame_in}
-use Rattle.jamboree.proofs.InletLemmas.{is-low, is-high, kind-low, kind-other}
+use Rattle.jamboree.proofs.ActLemmas.{is-low, is-high, kind-low, kind-other}
 use Rattle.jamboree.proofs.inlet.kind_of.Goals as goal
 
 pub returns-then-score-child : goal.returns-then-score-child
@@ -10,9 +10,11 @@ returns-then-score-child c =
 pub returns-then-child-score : goal.returns-then-child-score
 returns-then-child-score c =
     let w = c.args.child.now in
-    kind-other (neg_ℤ w.goal.beta) (neg_ℤ w.goal.alpha) (seen (frame_in w)) _ (is-low w c.seen-score.result _ _ c.seen-score.ensures c.if-score-child.false) (is-high w c.seen-score.result _ _ c.seen-score.ensures c.if-child-score.true)
+    kind-other (neg_ℤ w.goal.beta) (neg_ℤ w.goal.alpha) (seen (frame_in w)) _
+    (is-low w c.seen-score.result _ _ c.seen-score.ensures c.if-score-child.false) (is-high w c.seen-score.result _ _ c.seen-score.ensures c.if-child-score.true)
 
 pub returns : goal.returns
 returns c =
     let w = c.args.child.now in
-    kind-other (neg_ℤ w.goal.beta) (neg_ℤ w.goal.alpha) (seen (frame_in w)) _ (is-low w c.seen-score.result _ _ c.seen-score.ensures c.if-score-child.false) (is-high w c.seen-score.result _ _ c.seen-score.ensures c.if-child-score.false)
+    kind-other (neg_ℤ w.goal.beta) (neg_ℤ w.goal.alpha) (seen (frame_in w)) _
+    (is-low w c.seen-score.result _ _ c.seen-score.ensures c.if-score-child.false) (is-high w c.seen-score.result _ _ c.seen-score.ensures c.if-child-score.false)

@@ -1,9 +1,9 @@
 use Rattle.jamboree.proofs.Common.{arith, frame_with}
-use Rattle.std.proofs.Common.{refl, []}
-use Rattle.jamboree.proofs.ActLemmas.{child-opens, chosen-inside}
+use Rattle.jamboree.proofs.ActLemmas.{child-opens}
 use Rattle.jamboree.proofs.next.board_under.Goals as goal
 
 pub returns : goal.returns
 returns c grain others entries phase =
     let b = c.after.result in
-    child-opens grain (frame_with c.args.frame.now entries) (frame_with c.args.parent.now others) b.own b.opp c.choice-chosen.result _ refl phase c.choice-chosen.ensures.value c.after.ensures (omega arith) (omega arith) b.disjoint
+    child-opens grain (frame_with c.args.frame.now entries) (frame_with c.args.parent.now others) b.own b.opp c.choice-chosen.result phase
+    c.choice-chosen.ensures.value c.after.ensures (omega arith) (omega arith) b.disjoint

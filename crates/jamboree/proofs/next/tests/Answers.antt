@@ -1,6 +1,6 @@
 use Rattle.jamboree.proofs.Common.{◌==◌, ◌≤◌, ◌&&◌, nat_lt, nat_le, slice_index, List, Bool, true, false, subst, sym, ◌∙◌, ap, arith, and_parts, lt-ltb, le-ltb, ltb-true, le-leb, lt-leb, length-map, length-drop, status_of, Act, first_open, tests, tests_from, View, Ends, Waits, act_for, frame_with, entries_of, statuses_in}
 use Rattle.std.proofs.Common.{◌≡◌, ℕ, ◌+◌, ◌<◌, drop, length, refl}
-use Rattle.jamboree.proofs.ActLemmas.{again-by, test-by, tests-by}
+use Rattle.jamboree.proofs.ActLemmas.{tests-by}
 use Rattle.jamboree.proofs.next.tests.Goals as goal
 
 -- there is a status for each choice
@@ -16,7 +16,8 @@ returns-then-has_failed c =
     let f = frame_with c.args.frame.now (entries_of w) in
     let n = c.first_open-open.result in
     subst (λ (k : ℕ). act_for c.search_again.result ≡ tests_from f k) c.first_open-open.ensures.value
-    (again-by f n (act_for c.search_again.result) (sym c.has_failed.ensures ∙ c.if-has_failed.true) (λ more all. c.search_again.ensures more all (entries_of w) c.rest_at.ensures))
+    (tests-by f n (act_for c.search_again.result) true _ _ (sym c.has_failed.ensures ∙ c.if-has_failed.true) refl refl
+    (c.search_again.ensures true true (entries_of w) c.rest_at.ensures))
 
 pub returns-then-frame-choices : goal.returns-then-frame-choices
 returns-then-frame-choices c =
@@ -24,9 +25,9 @@ returns-then-frame-choices c =
     let w = c.args.words.now in
     let f = frame_with v (entries_of w) in
     subst (λ (k : ℕ). act_for c.test.result ≡ tests_from f k) c.first_open-open.ensures.value
-    (test-by f c.first_open-open.result (act_for c.test.result) (sym c.has_failed.ensures ∙ c.if-has_failed.false)
+    (tests-by f c.first_open-open.result (act_for c.test.result) false true _ (sym c.has_failed.ensures ∙ c.if-has_failed.false)
     (lt-ltb v.spawned (length (statuses_in w)) (omega (arith, length-map (drop 12 w) status_of, length-drop 12 w, c.requires.entries, c.if-frame-choices.true)))
-    (λ all. c.test.ensures all (entries_of w) c.first_open-open.result c.rest_at-then-frame-choices.ensures))
+    refl (c.test.ensures true (entries_of w) c.first_open-open.result c.rest_at-then-frame-choices.ensures))
 
 pub search_again-requires-clause-inside : goal.search_again-requires-clause-inside
 search_again-requires-clause-inside c =
@@ -50,10 +51,12 @@ pub returns-then-frame-open : goal.returns-then-frame-open
 returns-then-frame-open c =
     let v = c.args.frame.now in
     let n = c.first_open-open.result in
-    untested v c.args.words.now n (act_for Ends) true c.requires.entries c.first_open-open.ensures.value (sym c.has_failed.ensures ∙ c.if-has_failed.false) (omega arith) (le-leb v.count n c.if-frame-open.true) refl
+    untested v c.args.words.now n (act_for Ends) true c.requires.entries c.first_open-open.ensures.value (sym c.has_failed.ensures ∙ c.if-has_failed.false)
+    (omega arith) (le-leb v.count n c.if-frame-open.true) refl
 
 pub returns : goal.returns
 returns c =
     let v = c.args.frame.now in
     let n = c.first_open-open.result in
-    untested v c.args.words.now n (act_for Waits) false c.requires.entries c.first_open-open.ensures.value (sym c.has_failed.ensures ∙ c.if-has_failed.false) (omega arith) (lt-leb v.count n c.if-frame-open.false) refl
+    untested v c.args.words.now n (act_for Waits) false c.requires.entries c.first_open-open.ensures.value (sym c.has_failed.ensures ∙ c.if-has_failed.false)
+    (omega arith) (lt-leb v.count n c.if-frame-open.false) refl

@@ -1,6 +1,6 @@
 use Rattle.std.proofs.Common.{Some}
 use Rattle.jamboree.proofs.Common.{may_be_child, frame_in, frame_with}
-use Rattle.jamboree.proofs.InletLemmas.{by-told}
+use Rattle.jamboree.proofs.SightLemmas.{by-told}
 use Rattle.jamboree.proofs.procedure.plan_under.Goals as goal
 
 pub returns-in_default : goal.returns-in_default

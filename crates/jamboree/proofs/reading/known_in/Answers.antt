@@ -1,4 +1,4 @@
-use Rattle.jamboree.proofs.KnowledgeLemmas.{rest-at}
+use Rattle.jamboree.proofs.ReplyLemmas.{rest-at}
 use Rattle.jamboree.proofs.reading.known_in.Goals as goal
 
 pub known-requires : goal.known-requires

@@ -1,6 +1,6 @@
 use Rattle.jamboree.proofs.Common.{take}
 use Rattle.std.proofs.Common.{◌≡◌, length}
-use Rattle.jamboree.proofs.KnowledgeLemmas.{said_by}
+use Rattle.jamboree.proofs.ReplyLemmas.{said_by}
 use Rattle.jamboree.proofs.reading.known_in.Given as goal
 
 abbrev pub invariant-loop-number : goal.invariant-loop-number

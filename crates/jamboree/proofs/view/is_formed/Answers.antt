@@ -3,16 +3,15 @@ use Rattle.std.proofs.Common.{◌≡◌, ℕ, ◌+◌, ◌-◌, ◌≤◌, lengt
 use Rattle.jamboree.proofs.ViewLemmas.{formed-parts, formed-rest}
 use Rattle.jamboree.proofs.view.is_formed.Goals as goal
 
-rest-count : (l n k : ℕ) → l ≡ n → n ≡ 12 + k → l - 12 ≡ k
-rest-count l n k is whole = omega (arith, is, whole)
-
 whole-count : (l n k : ℕ) → l ≡ n → 12 ≤ l → l - 12 ≡ k → n ≡ 12 + k
 whole-count l n k is long rest = omega (arith, is, long, rest)
 
 pub returns-then-not-is_frame : goal.returns-then-not-is_frame
 returns-then-not-is_frame c =
     let w = c.args.words.now in
-    sym (false_from_ne_true (is_formed w) (λ e. let parts = formed-parts w c.read_head-head.result c.read_head-head.ensures e in false≢true (sym c.if-not-is_frame.true ∙ (c.is_frame.ensures ∙ parts.1))))
+    sym (false_from_ne_true (is_formed w) (λ e.
+    let parts = formed-parts w c.read_head-head.result c.read_head-head.ensures e in
+    false≢true (sym c.if-not-is_frame.true ∙ (c.is_frame.ensures ∙ parts.1))))
 
 pub returns : goal.returns
 returns c =

@@ -1,6 +1,6 @@
 use Rattle.jamboree.proofs.Common.{◌∙◌, arith, head_of, entries_of}
 use Rattle.std.proofs.Common.{refl}
-use Rattle.jamboree.proofs.ViewLemmas.{formed-parts, frame-is}
+use Rattle.jamboree.proofs.ViewLemmas.{formed-parts}
 use Rattle.jamboree.proofs.view.view.Goals as goal
 
 pub view-requires-clause-form : goal.view-requires-clause-form

@@ -4,7 +4,4 @@ use Rattle.jamboree_rules.proofs.Rooted.{accept-keeps, accept-possible}
 use Rattle.jamboree_rules.proofs.laws.accept_keeps.Goals as goal
 
 pub returns : goal.returns
-returns c = record {
-  keeps = λ grain. accept-keeps (jamboree grain) refl refl refl refl;
-  possible = λ own answer fits. accept-possible own answer fits;
-}
+returns c = record { keeps = λ grain. accept-keeps (jamboree grain) refl refl refl refl; possible = accept-possible }

@@ -4,7 +4,4 @@ use Rattle.jamboree_rules.proofs.Keeping.{inlet-keeps, inlet-possible}
 use Rattle.jamboree_rules.proofs.laws.inlet_keeps.Goals as goal
 
 pub returns : goal.returns
-returns c = record {
-  keeps = λ grain. inlet-keeps (jamboree grain) refl;
-  possible = λ own child before behind fits returned. inlet-possible own child before behind fits returned;
-}
+returns c = record { keeps = λ grain. inlet-keeps (jamboree grain) refl; possible = inlet-possible }

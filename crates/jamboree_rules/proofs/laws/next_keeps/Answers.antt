@@ -4,7 +4,4 @@ use Rattle.jamboree_rules.proofs.Keeping.{next-keeps, next-possible}
 use Rattle.jamboree_rules.proofs.laws.next_keeps.Goals as goal
 
 pub returns : goal.returns
-returns c = record {
-  keeps = λ grain. next-keeps (jamboree grain) grain refl;
-  possible = λ grain origin own above older younger children fits parent. next-possible grain origin own above older younger children fits parent;
-}
+returns c = record { keeps = λ grain. next-keeps (jamboree grain) grain refl; possible = next-possible }

@@ -1,58 +1,57 @@
-use Rattle.leaf_search.proofs.Common.{rules, ◌≡◌, ℕ, true, false, neg_ℤ, ◌-◌, refl, sym, ◌∙◌, ap, subst, arith, int_max, ints, clamps, cells, choices, after, plies, goes_down, final_value, minimax, choice_value, IsBound, Counted, minimax-deeper, minimax-over}
-use Rattle.leaf_search.proofs.WindowLemmas.{all_bound, Searched-turn, IsSearching-cut, IsSearching-all, IsSearching-real, IsSearching-next, exact_bound, worth_is, some_left, none_left}
+use Rattle.leaf_search.proofs.Common.{rules, ◌≡◌, true, false, neg_ℤ, ◌-◌, sym, ◌∙◌, ap, arith, int_max, ints, clamps, cells, goes_down, final_value, minimax, Counted, minimax-deeper, minimax-over}
+use Rattle.leaf_search.proofs.WindowLemmas.{child_of, Searched-turn, IsSearching-cut, IsSearching-bound, IsSearching-real, IsSearching-next, exact_bound, some_left, none_left}
 use Rattle.leaf_search.proofs.tree.+search.Goals as goal
 
 pub score_of-search_below-child-requires : goal.score_of-search_below-child-requires
 score_of-search_below-child-requires t c =
-    let here = IsSearching-next _ _ _ _ _ _ _ c.in-Some.choice _ c.loop-choice.invariant.searching c.in-Some.ensures.cases in
-    let down = goes_down c.args.depth (c.args.depth - c.plies.result) (cells c.args.board) (cells c.after.result.board) c.in-Some.choice here c.after.ensures c.requires.deep (ap (λ p. c.args.depth - p) c.plies.ensures.value) in
+    let here = IsSearching-next c.loop-choice.invariant.searching c.in-Some.ensures.cases in
+    let deep = ap (λ p. c.args.depth - p) c.plies.ensures.value in
+    let below = c.args.depth - c.plies.result in
+    let down = goes_down c.args.depth below (cells c.args.board) (cells c.after.result.board) c.in-Some.choice here c.after.ensures c.requires.deep deep in
     search rules
 
 pub score_of-after-requires : goal.score_of-after-requires
-score_of-after-requires t c =
-    IsSearching-next _ _ _ _ _ _ _ c.in-Some.choice _ c.loop-choice.invariant.searching c.in-Some.ensures.cases
+score_of-after-requires t c = IsSearching-next c.loop-choice.invariant.searching c.in-Some.ensures.cases
 
--- the score that ends the search is the child's
-ending_score : (t : ℕ) (c : goal.score_of-Then-best-window t) → c.with-best.result.score ≡ neg_ℤ c.search_below-child.result.score
-ending_score t c = omega (arith, ints, clamps, c.with-best.ensures.score, c.loop-choice.invariant.searching.below)
-
-pub score_of-returns-then-best-window-clause-bound : goal.score_of-returns-then-best-window-clause-bound
-score_of-returns-then-best-window-clause-bound t c =
-    subst (λ m. IsBound c.args.window.alpha c.args.window.beta c.with-best.result.score m) (sym (minimax-deeper c.args.depth (cells c.args.board) c.requires.deep)) (
-    IsSearching-cut _ _ (choice_value c.args.depth (cells c.args.board)) _ _ _ _ c.in-Some.choice _ _ _ _ _ _ _ (final_value (cells c.args.board))
-    c.args.window.open c.loop-choice.invariant.searching c.in-Some.ensures.cases c.of_child.ensures.alpha c.of_child.ensures.beta c.search_below-child.ensures.bound
-    (worth_is c.args.depth _ _ c.in-Some.choice (cells c.args.board) c.plies.ensures.value c.after.ensures) (ending_score t c) (omega (arith, ints)))
-
-pub score_of-returns-then-best-window-clause-within : goal.score_of-returns-then-best-window-clause-within
-score_of-returns-then-best-window-clause-within t c =
-    (omega (arith, ints, ending_score t c, c.search_below-child.ensures.within.1), omega (arith, ints, ending_score t c, c.search_below-child.ensures.within.0))
+pub score_of-returns-then-best-window : goal.score_of-returns-then-best-window
+score_of-returns-then-best-window t c =
+    let board = cells c.args.board in
+    let searching = c.loop-choice.invariant.searching in
+    let e = c.search_below-child.ensures in
+    let child = child_of c.args.depth board c.in-Some.choice c.plies.ensures.value c.after.ensures c.of_child.ensures.alpha c.of_child.ensures.beta e.bound e.within in
+    let score = c.with-best.ensures.score in
+    record {
+      bound = rw (minimax-deeper c.args.depth board c.requires.deep)
+          (IsSearching-cut searching c.in-Some.ensures.cases (final_value board) c.args.window.open child score (omega (arith, ints)));
+      within = (omega (arith, ints, clamps, score, e.within.1), omega (arith, ints, clamps, score, e.within.0, searching.greatest));
+    }
 
 pub score_of-loop-choice-preserved : goal.score_of-loop-choice-preserved
 score_of-loop-choice-preserved t c =
+    let searching = c.loop-choice.invariant.searching in
     let beta_is : c.of_child.result.beta ≡ neg_ℤ (int_max c.args.window.alpha c.loop-choice.best.score) =
-    c.of_child.ensures.beta ∙ ap (λ b. neg_ℤ (int_max c.args.window.alpha b)) (omega (arith, ints, c.loop-choice.invariant.searching.least, c.loop-choice.invariant.searching.greatest)) in
-    Searched-turn _ _ (choice_value c.args.depth (cells c.args.board)) _ _ _ c.in-Some.choice _ _ _ _ c.search_below-child.result.score _ _
-    c.loop-choice.invariant c.in-Some.ensures.cases refl c.of_child.ensures.alpha beta_is c.search_below-child.ensures.bound
-    (worth_is c.args.depth _ _ c.in-Some.choice (cells c.args.board) c.plies.ensures.value c.after.ensures)
-    c.search_below-child.ensures.within.0 c.search_below-child.ensures.within.1 c.with-best.ensures.score (omega (arith, ints))
+    c.of_child.ensures.beta ∙ ap (λ b. neg_ℤ (int_max c.args.window.alpha b)) (omega (arith, ints, searching.least, searching.greatest)) in
+    Searched-turn c.loop-choice.invariant c.in-Some.ensures.cases
+    (child_of c.args.depth (cells c.args.board) c.in-Some.choice c.plies.ensures.value c.after.ensures c.of_child.ensures.alpha beta_is
+    c.search_below-child.ensures.bound c.search_below-child.ensures.within)
+    c.with-best.ensures.score (omega (arith, ints))
 
-pub score_of-returns-clause-bound : goal.score_of-returns-clause-bound
-score_of-returns-clause-bound t c =
-    subst (λ m. IsBound c.args.window.alpha c.args.window.beta c.loop-choice.best.score m) (sym (minimax-deeper c.args.depth (cells c.args.board) c.requires.deep)) (
-    all_bound _ _ (choice_value c.args.depth (cells c.args.board)) (final_value (cells c.args.board)) (choices (cells c.args.board)) _ c.loop-choice.invariant.choice
-    (some_left (cells c.args.board) c.new-left.result c.is_empty.result c.new-left.ensures c.is_empty.ensures c.if-is_empty.false) c.loop-choice.invariant.searching.below
-    (IsSearching-all _ _ _ _ _ _ _ c.loop-choice.invariant.searching c.in_default.ensures.cases))
-
-pub score_of-returns-clause-within : goal.score_of-returns-clause-within
-score_of-returns-clause-within t c =
-    (IsSearching-real _ _ _ _ _ _ _ c.loop-choice.invariant.searching c.in_default.ensures.cases (some_left (cells c.args.board) c.new-left.result c.is_empty.result c.new-left.ensures c.is_empty.ensures c.if-is_empty.false), c.loop-choice.invariant.searching.greatest)
+pub score_of-returns : goal.score_of-returns
+score_of-returns t c =
+    let board = cells c.args.board in
+    let searching = c.loop-choice.invariant.searching in
+    let some = some_left board c.new-left.ensures c.is_empty.ensures c.if-is_empty.false in
+    record {
+      bound = rw (minimax-deeper c.args.depth board c.requires.deep) (IsSearching-bound searching c.in_default.ensures.cases some (final_value board));
+      within = (IsSearching-real searching c.in_default.ensures.cases some, searching.greatest);
+    }
 
 -- where the game is over
 pub score_of-returns-then-is_empty-clause-bound : goal.score_of-returns-then-is_empty-clause-bound
 score_of-returns-then-is_empty-clause-bound t c =
-    let score_is : final_value (cells c.args.board) ≡ c.entered.result.score =
-    omega (arith, ints, ap (λ (s : Counted). s.score) c.entered.ensures, c.final_value.ensures.value) in
-    exact_bound _ _ _ _ (minimax-over c.args.depth (cells c.args.board) (none_left (cells c.args.board) c.new-left.result c.is_empty.result c.new-left.ensures c.is_empty.ensures c.if-is_empty.true) ∙ score_is)
+    let board = cells c.args.board in
+    let score_is : final_value board ≡ c.entered.result.score = omega (arith, ints, ap (λ (s : Counted). s.score) c.entered.ensures, c.final_value.ensures.value) in
+    exact_bound _ _ _ _ (minimax-over c.args.depth board (none_left board c.new-left.ensures c.is_empty.ensures c.if-is_empty.true) ∙ score_is)
 
 -- a leaf
 pub search_below-returns-clause-bound : goal.search_below-returns-clause-bound

@@ -9,7 +9,9 @@ abbrev pub decreases-search_below : goal.decreases-search_below
 decreases-search_below l = 2 * (2 * l.depth + passing (cells l.weighed.board)) + 1
 
 abbrev pub invariant-score_of-loop-choice : goal.invariant-score_of-loop-choice
-invariant-score_of-loop-choice l = Searched l.window.alpha l.window.beta (choice_value l.depth (cells l.fn.board)) (choices (cells l.fn.board)) l.left l.best.score
+invariant-score_of-loop-choice l =
+    let board = cells l.fn.board in
+    Searched l.window.alpha l.window.beta (choice_value l.depth board) (choices board) l.left l.best.score
 
 abbrev pub decreases-score_of-loop-choice : goal.decreases-score_of-loop-choice
 decreases-score_of-loop-choice l = length l.left

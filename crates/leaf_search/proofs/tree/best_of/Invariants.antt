@@ -3,7 +3,9 @@ use Rattle.leaf_search.proofs.WindowLemmas.{IsSearching}
 use Rattle.leaf_search.proofs.tree.best_of.Given as goal
 
 abbrev pub invariant-loop-choice : goal.invariant-loop-choice
-invariant-loop-choice l = IsSearching l.window.alpha l.window.beta (choice_value l.depth (cells l.weighed.board)) (choices (cells l.weighed.board)) l.left l.best.score l.best.choice
+invariant-loop-choice l =
+    let board = cells l.weighed.board in
+    IsSearching l.window.alpha l.window.beta (choice_value l.depth board) (choices board) l.left l.best.score l.best.choice
 
 abbrev pub decreases-loop-choice : goal.decreases-loop-choice
 decreases-loop-choice l = length l.left

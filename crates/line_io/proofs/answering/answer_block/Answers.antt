@@ -13,4 +13,9 @@ returns-in_err-answer_line-clause-lines g c =
 
 pub loop-byte-preserved : goal.loop-byte-preserved
 loop-byte-preserved g c =
-    elim c.if-byte-eq-LF.branch [ then-byte-eq-LF+in_ok-answer_line w ↦ rw (w.sink-is, w.answerer-is) (Block-line c.loop-byte.invariant (omega arith) w.if-byte-eq-LF.true w.line.ensures w.in_ok-answer_line.ensures (w.cutter-is ∙ w.clear.ensures)) | else-byte-eq-LF w ↦ rw (w.sink-is, w.answerer-is) (Block-byte c.loop-byte.invariant (omega arith) w.if-byte-eq-LF.false (w.cutter-is ∙ w.push.ensures)) ]
+    elim c.if-byte-eq-LF.branch [
+      | then-byte-eq-LF+in_ok-answer_line w ↦
+          rw (w.sink-is, w.answerer-is)
+          (Block-line c.loop-byte.invariant (omega arith) w.if-byte-eq-LF.true w.line.ensures w.in_ok-answer_line.ensures (w.cutter-is ∙ w.clear.ensures))
+      | else-byte-eq-LF w ↦ rw (w.sink-is, w.answerer-is) (Block-byte c.loop-byte.invariant (omega arith) w.if-byte-eq-LF.false (w.cutter-is ∙ w.push.ensures))
+    ]

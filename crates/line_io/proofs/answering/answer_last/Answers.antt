@@ -1,4 +1,4 @@
-use Rattle.line_io.proofs.Common.{◌≡◌, sym, ap, ◌∙◌, option_to_list, option_map, text_of}
+use Rattle.line_io.proofs.Common.{sym, ap, ◌∙◌, option_to_list, option_map, text_of}
 use Rattle.line_io.proofs.Answered.{LinesAnswered-none, LinesAnswered-same}
 use Rattle.line_io.proofs.answering.answer_last.Goals as goal
 

@@ -14,20 +14,24 @@ returns-in_err-count g c =
 pub returns-in_err-answer_last : goal.returns-in_err-answer_last
 returns-in_err-answer_last g c =
     let p = err_from_is_err_and c.from_residual-in_err-answer_last.result c.from_residual-in_err-answer_last.ensures.1 in
-    rw (p.1, p.2) (Run-last_failed c.loop-total.invariant (read-ended g.S.Source.gives _ _ _ _ c.if-count-eq0.true c.in_ok-count.ensures.answer) c.in_err-answer_last.ensures)
+    let ended = read-ended g.S.Source.gives _ _ _ _ c.if-count-eq0.true c.in_ok-count.ensures.answer in
+    rw (p.1, p.2) (Run-last_failed c.loop-total.invariant ended c.in_err-answer_last.ensures)
 
 pub returns-then-count-eq0 : goal.returns-then-count-eq0
 returns-then-count-eq0 g c =
-    Run-ended c.loop-total.invariant (read-ended g.S.Source.gives _ _ _ _ c.if-count-eq0.true c.in_ok-count.ensures.answer) c.in_ok-answer_last.ensures
+    let ended = read-ended g.S.Source.gives _ _ _ _ c.if-count-eq0.true c.in_ok-count.ensures.answer in
+    Run-ended c.loop-total.invariant ended c.in_ok-answer_last.ensures
 
 pub returns-in_err-answer_block : goal.returns-in_err-answer_block
 returns-in_err-answer_block g c =
     let p = err_from_is_err_and c.from_residual-in_err-answer_block.result c.from_residual-in_err-answer_block.ensures.1 in
-    rw (p.1, p.2) (Run-write_failed c.loop-total.invariant (read-gave g.S.Source.gives _ _ _ _ c.if-count-eq0.false c.in_ok-count.ensures.answer) c.in_err-answer_block.ensures.lines)
+    let gave = read-gave g.S.Source.gives _ _ _ _ c.if-count-eq0.false c.in_ok-count.ensures.answer in
+    rw (p.1, p.2) (Run-write_failed c.loop-total.invariant gave c.in_err-answer_block.ensures.lines)
 
 pub loop-total-preserved : goal.loop-total-preserved
 loop-total-preserved g c =
-    Run-more c.loop-total.invariant (read-gave g.S.Source.gives _ _ _ _ c.if-count-eq0.false c.in_ok-count.ensures.answer) (length-front _ _ c.in_ok-count.ensures.bound) c.in_ok-answer_block.ensures.lines c.in_ok-answer_block.ensures.cutter
+    let gave = read-gave g.S.Source.gives _ _ _ _ c.if-count-eq0.false c.in_ok-count.ensures.answer in
+    Run-more c.loop-total.invariant gave (length-front _ _ c.in_ok-count.ensures.bound) c.in_ok-answer_block.ensures.lines c.in_ok-answer_block.ensures.cutter
 
 pub returns : goal.returns
 returns g c =

@@ -3,4 +3,4 @@ use Rattle.line_io.proofs.laws.known_runs_are_exact.Goals as goal
 
 pub returns : goal.returns
 returns g c =
-    λ out source source' sink sink' bytes held e f x. known-run (λ s. g.R.Read.remaining s.reader) (λ s. g.W.Write.contents s.writer) out _ sink _ _ _ _ e f x
+    λ out source source' sink sink' bytes held e f x. known-run (λ s. g.R.Read.remaining s.reader) (λ s. g.W.Write.contents s.writer) bytes held e f x

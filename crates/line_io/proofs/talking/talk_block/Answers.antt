@@ -11,22 +11,21 @@ returns-in_err-talk_line-clause-lines g c =
     let p = err_from_is_err_and c.from_residual.result c.from_residual.ensures.1 in
     rw p.1 (Talk-failed c.loop-byte.invariant (omega arith) c.if-byte-eq-LF.true c.in_err-talk_line.ensures.lines)
 
-pub returns-then-branch-clause-lines : goal.returns-then-branch-clause-lines
-returns-then-branch-clause-lines g c =
-    let off = sym c.in_ok-talk_line.ensures.last ∙ c.if-branch.true in
-    (Talk-stopped c.loop-byte.invariant (omega arith) c.if-byte-eq-LF.true c.in_ok-talk_line.ensures.lines off).0
-
-pub returns-then-branch-clause-ended : goal.returns-then-branch-clause-ended
-returns-then-branch-clause-ended g c =
-    let off = sym c.in_ok-talk_line.ensures.last ∙ c.if-branch.true in
-    sym (ap not (Talk-stopped c.loop-byte.invariant (omega arith) c.if-byte-eq-LF.true c.in_ok-talk_line.ensures.lines off).1)
+pub returns-then-branch : goal.returns-then-branch
+returns-then-branch g c =
+    let line = c.in_ok-talk_line.ensures in
+    let stopped = Talk-stopped c.loop-byte.invariant (omega arith) c.if-byte-eq-LF.true line.lines (sym line.last ∙ c.if-branch.true) in
+    record { lines = stopped.0; ended = sym (ap not stopped.1); cutter = search rules }
 
 pub loop-byte-preserved : goal.loop-byte-preserved
 loop-byte-preserved g c =
-    elim c.if-byte-eq-LF.branch [ then-byte-eq-LF+in_ok-talk_line+else-branch w ↦ rw (w.sink-is, w.answerer-is) (Talk-line c.loop-byte.invariant (omega arith) w.if-byte-eq-LF.true w.in_ok-talk_line.ensures.lines (sym w.in_ok-talk_line.ensures.last ∙ w.if-branch.false) (w.cutter-is ∙ w.in_ok-talk_line.ensures.cutter)) | else-byte-eq-LF w ↦ rw (w.sink-is, w.answerer-is) (Talk-byte c.loop-byte.invariant (omega arith) w.if-byte-eq-LF.false (w.cutter-is ∙ w.push.ensures)) ]
+    elim c.if-byte-eq-LF.branch [
+      | then-byte-eq-LF+in_ok-talk_line+else-branch w ↦
+          let line = w.in_ok-talk_line.ensures in
+          rw (w.sink-is, w.answerer-is)
+          (Talk-line c.loop-byte.invariant (omega arith) w.if-byte-eq-LF.true line.lines (sym line.last ∙ w.if-branch.false) (w.cutter-is ∙ line.cutter))
+      | else-byte-eq-LF w ↦ rw (w.sink-is, w.answerer-is) (Talk-byte c.loop-byte.invariant (omega arith) w.if-byte-eq-LF.false (w.cutter-is ∙ w.push.ensures))
+    ]
 
 pub returns-clause-lines : goal.returns-clause-lines
 returns-clause-lines g c = (Talk-end c.loop-byte.invariant (omega arith)).0
-
-pub returns-then-branch-clause-cutter : goal.returns-then-branch-clause-cutter
-returns-then-branch-clause-cutter g c = search rules

@@ -19,23 +19,28 @@ returns-in_err-count g c =
 pub returns-in_err-talk_last : goal.returns-in_err-talk_last
 returns-in_err-talk_last g c =
     let p = err_from_is_err_and c.from_residual-in_err-talk_last.result c.from_residual-in_err-talk_last.ensures.1 in
-    rw (p.1, p.2) (Talk-last_failed c.loop.invariant (read-ended g.S.Source.gives _ _ _ _ c.if-count-eq0.true c.in_ok-count.ensures.answer) c.in_err-talk_last.ensures.lines)
+    let ended = read-ended g.S.Source.gives _ _ _ _ c.if-count-eq0.true c.in_ok-count.ensures.answer in
+    rw (p.1, p.2) (Talk-last_failed c.loop.invariant ended c.in_err-talk_last.ensures.lines)
 
 pub returns-then-count-eq0 : goal.returns-then-count-eq0
 returns-then-count-eq0 g c =
-    Talk-ended c.loop.invariant (read-ended g.S.Source.gives _ _ _ _ c.if-count-eq0.true c.in_ok-count.ensures.answer) c.in_ok-talk_last.ensures.lines c.in_ok-talk_last.ensures.end
+    let ended = read-ended g.S.Source.gives _ _ _ _ c.if-count-eq0.true c.in_ok-count.ensures.answer in
+    Talk-ended c.loop.invariant ended c.in_ok-talk_last.ensures.lines c.in_ok-talk_last.ensures.end
 
 pub returns-in_err-talk_block : goal.returns-in_err-talk_block
 returns-in_err-talk_block g c =
     let p = err_from_is_err_and c.from_residual-in_err-talk_block.result c.from_residual-in_err-talk_block.ensures.1 in
-    rw (p.1, p.2) (Talk-write_failed c.loop.invariant (read-gave g.S.Source.gives _ _ _ _ c.if-count-eq0.false c.in_ok-count.ensures.answer) c.in_err-talk_block.ensures.lines)
+    let gave = read-gave g.S.Source.gives _ _ _ _ c.if-count-eq0.false c.in_ok-count.ensures.answer in
+    rw (p.1, p.2) (Talk-write_failed c.loop.invariant gave c.in_err-talk_block.ensures.lines)
 
 pub returns-then-branch : goal.returns-then-branch
 returns-then-branch g c =
     let stops = not-true _ (sym c.in_ok-talk_block.ensures.ended ∙ c.if-branch.true) in
-    Talk-stopped c.loop.invariant (read-gave g.S.Source.gives _ _ _ _ c.if-count-eq0.false c.in_ok-count.ensures.answer) c.in_ok-talk_block.ensures.lines stops
+    let gave = read-gave g.S.Source.gives _ _ _ _ c.if-count-eq0.false c.in_ok-count.ensures.answer in
+    Talk-stopped c.loop.invariant gave c.in_ok-talk_block.ensures.lines stops
 
 pub loop-preserved : goal.loop-preserved
 loop-preserved g c =
     let goes_on = not_false _ (sym c.if-branch.false ∙ c.in_ok-talk_block.ensures.ended) in
-    Talking-more c.loop.invariant (read-gave g.S.Source.gives _ _ _ _ c.if-count-eq0.false c.in_ok-count.ensures.answer) c.in_ok-talk_block.ensures.lines goes_on (c.in_ok-talk_block.ensures.cutter (ap Ok c.if-branch.false))
+    let gave = read-gave g.S.Source.gives _ _ _ _ c.if-count-eq0.false c.in_ok-count.ensures.answer in
+    Talking-more c.loop.invariant gave c.in_ok-talk_block.ensures.lines goes_on (c.in_ok-talk_block.ensures.cutter (ap Ok c.if-branch.false))

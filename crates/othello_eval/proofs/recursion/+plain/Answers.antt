@@ -1,17 +1,15 @@
-use Rattle.othello_eval.proofs.Common.{rules, ◌≡◌, ◌<◌, ◌-◌, ℕ, ℤ, List, sym, ap, ◌∙◌, subst, to_z, w32, Some, arith, cells, Cell, Choice, choices, plies, goes_down, length-cells, IsWithin, minimax, choice_value}
+use Rattle.othello_eval.proofs.Common.{rules, ◌<◌, ◌-◌, sym, ap, ◌∙◌, subst, to_z, w32, Some, arith, cells, choices, plies, goes_down, length-cells, IsWithin, choice_value}
 use Rattle.othello_eval.proofs.MinimaxLemmas.{minimax-over, best_choice-over, minimax_within, same_bits, within_more, child_value, leaf_value_at, leaf_choice_at, start_value, start_choice, running_more, running_same, running_all, left_chosen, next_chosen}
 use Rattle.othello_eval.proofs.recursion.+plain.Goals as goal
-
--- the value below, by the plies of the choice
-below_is : (r : ℤ) (d p : ℕ) (c : Choice) (b : List Cell) → p ≡ plies c → r ≡ minimax (d - p) b → r ≡ minimax (d - plies c) b
-below_is r d p c b same is = is ∙ ap (λ q. minimax (d - q) b) same
 
 pub plain-other-requires : goal.plain-other-requires
 plain-other-requires t c =
     let next = c.in-Some-pop_first.next in
-    let here = (next_chosen (choices (cells c.args.board)) c.loop-next.left _ next c.loop-next.invariant.chosen c.in-Some-pop_first.ensures.cases).0 in
+    let here = (next_chosen (choices (cells c.args.board)) c.loop-next.invariant.chosen c.in-Some-pop_first.ensures.cases).0 in
     let deep : 0 < c.args.depth = omega arith in
-    let down = goes_down c.args.depth (c.args.depth - c.plies-in-Some-pop_first.result) (cells c.args.board) (cells c.after-in-Some-pop_first.result) next here c.after-in-Some-pop_first.ensures deep (ap (λ p. c.args.depth - p) c.plies-in-Some-pop_first.ensures.value) in
+    let less = ap (λ p. c.args.depth - p) c.plies-in-Some-pop_first.ensures.value in
+    let after = c.after-in-Some-pop_first in
+    let down = goes_down c.args.depth (c.args.depth - c.plies-in-Some-pop_first.result) (cells c.args.board) (cells after.result) next here after.ensures deep less in
     search rules
 
 pub returns-in_default : goal.returns-in_default
@@ -42,7 +40,7 @@ loop-next-init t c =
     let board = cells c.args.board in
     let deep : 0 < c.args.depth = omega arith in
     let is = sym c.new-left.ensures ∙ c.in-Some.ensures.cases in
-    let worth = child_value c.args.depth board (cells c.after.result) c.in-Some.first c.plain-value.result.value c.after.ensures (below_is _ _ _ _ _ c.plies.ensures.value c.plain-value.ensures.value) c.plain-value.ensures.within in
+    let worth = child_value c.args.depth board c.in-Some.first c.after.ensures c.plies.ensures.value c.plain-value.ensures.value c.plain-value.ensures.within in
     record {
       value = start_value c.args.depth board _ c.in-Some.first c.pop_first.new.self is deep worth;
       choice = start_choice c.args.depth board _ c.in-Some.first c.pop_first.new.self is deep worth;
@@ -51,36 +49,41 @@ loop-next-init t c =
 
 pub after-requires-in-Some-pop_first : goal.after-requires-in-Some-pop_first
 after-requires-in-Some-pop_first t c =
-    (next_chosen (choices (cells c.args.board)) c.loop-next.left _ c.in-Some-pop_first.next c.loop-next.invariant.chosen c.in-Some-pop_first.ensures.cases).0
+    (next_chosen (choices (cells c.args.board)) c.loop-next.invariant.chosen c.in-Some-pop_first.ensures.cases).0
 
 pub loop-next-preserved-then-other-value : goal.loop-next-preserved-then-other-value
 loop-next-preserved-then-other-value t c =
     let board = cells c.args.board in
     let next = c.in-Some-pop_first.next in
-    let worth = child_value c.args.depth board (cells c.after-in-Some-pop_first.result) next c.plain-other.result.value c.after-in-Some-pop_first.ensures (below_is _ _ _ _ _ c.plies-in-Some-pop_first.ensures.value c.plain-other.ensures.value) c.plain-other.ensures.within in
-    let step = running_more (choice_value c.args.depth board) (to_z w32 c.loop-next.value-bits) _ c.loop-next.best next c.loop-next.left c.pop_first-in-loop-next.new.self c.in-Some-pop_first.ensures.cases worth c.if-other-value.true in
+    let below = c.plain-other.ensures in
+    let worth = child_value c.args.depth board next c.after-in-Some-pop_first.ensures c.plies-in-Some-pop_first.ensures.value below.value below.within in
+    let cases = c.in-Some-pop_first.ensures.cases in
+    let step = running_more (choice_value c.args.depth board) (to_z w32 c.loop-next.value-bits) c.loop-next.best cases worth c.if-other-value.true in
     record {
       value = ap (λ p. p.0) step ∙ c.loop-next.invariant.value;
       choice = ap (λ p. Some p.1) step ∙ c.loop-next.invariant.choice;
-      chosen = (next_chosen (choices board) c.loop-next.left _ next c.loop-next.invariant.chosen c.in-Some-pop_first.ensures.cases).1;
+      chosen = (next_chosen (choices board) c.loop-next.invariant.chosen cases).1;
     }
 
 pub loop-next-preserved : goal.loop-next-preserved
 loop-next-preserved t c =
     let board = cells c.args.board in
     let next = c.in-Some-pop_first.next in
-    let worth = child_value c.args.depth board (cells c.after-in-Some-pop_first.result) next c.plain-other.result.value c.after-in-Some-pop_first.ensures (below_is _ _ _ _ _ c.plies-in-Some-pop_first.ensures.value c.plain-other.ensures.value) c.plain-other.ensures.within in
-    let step = running_same (choice_value c.args.depth board) (to_z w32 c.loop-next.value-bits) _ c.loop-next.best next c.loop-next.left c.pop_first-in-loop-next.new.self c.in-Some-pop_first.ensures.cases worth c.if-other-value.false in
+    let below = c.plain-other.ensures in
+    let worth = child_value c.args.depth board next c.after-in-Some-pop_first.ensures c.plies-in-Some-pop_first.ensures.value below.value below.within in
+    let cases = c.in-Some-pop_first.ensures.cases in
+    let step = running_same (choice_value c.args.depth board) (to_z w32 c.loop-next.value-bits) c.loop-next.best cases worth c.if-other-value.false in
     record {
       value = ap (λ p. p.0) step ∙ c.loop-next.invariant.value;
       choice = ap (λ p. Some p.1) step ∙ c.loop-next.invariant.choice;
-      chosen = (next_chosen (choices board) c.loop-next.left _ next c.loop-next.invariant.chosen c.in-Some-pop_first.ensures.cases).1;
+      chosen = (next_chosen (choices board) c.loop-next.invariant.chosen cases).1;
     }
 
 pub returns : goal.returns
 returns t c =
     let board = cells c.args.board in
-    let end = running_all (choice_value c.args.depth board) (to_z w32 c.loop-next.value-bits) c.loop-next.best c.loop-next.left c.in_default-pop_first.ensures.cases in
+    let v = choice_value c.args.depth board in
+    let end = running_all v (to_z w32 c.loop-next.value-bits) c.loop-next.best c.loop-next.left c.in_default-pop_first.ensures.cases in
     let value = ap (λ p. p.0) (sym end) ∙ c.loop-next.invariant.value in
     record {
       value = value;

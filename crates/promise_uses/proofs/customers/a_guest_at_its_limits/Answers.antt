@@ -1,16 +1,12 @@
-use Rattle.std.proofs.Common.{refl}
-use Rattle.site_book.specs.declared.who.Who.TheVariants.{V4, V6}
+use Rattle.promise_uses.proofs.Common.{refl, V4, V6}
 use Rattle.promise_uses.proofs.customers.a_guest_at_its_limits.Goals as goal
 
-pub returns-clause-own : goal.returns-clause-own
-returns-clause-own c network plan ask grants none = ((c.a_refusal_is_ones_own.ensures.opens plan (V6 network) ask grants).0 none).own.segments
-
-pub returns-clause-network : goal.returns-clause-network
-returns-clause-network c network plan ask grants none = (((c.a_refusal_is_ones_own.ensures.opens plan (V6 network) ask grants).0 none).network refl).sessions
-
-pub returns-clause-together : goal.returns-clause-together
-returns-clause-together c address plan ask grants none = (((c.a_refusal_is_ones_own.ensures.opens plan (V4 address) ask grants).0 none).guests refl).nodes
-
-pub returns-clause-raised : goal.returns-clause-raised
-returns-clause-raised c address session plan ask grants held there none =
-    (((c.a_refusal_is_ones_own.ensures.raises plan (V4 address) session ask grants held there).0 none).left.guests refl).segments
+pub returns : goal.returns
+returns c =
+    let law = c.a_refusal_is_ones_own.ensures in
+    record {
+      own = λ network plan ask grants none. ((law.opens plan (V6 network) ask grants).0 none).own.segments;
+      network = λ network plan ask grants none. (((law.opens plan (V6 network) ask grants).0 none).network refl).sessions;
+      together = λ address plan ask grants none. (((law.opens plan (V4 address) ask grants).0 none).guests refl).nodes;
+      raised = λ address session plan ask grants held there none. (((law.raises plan (V4 address) session ask grants held there).0 none).left.guests refl).segments;
+    }

@@ -1,8 +1,5 @@
-use Rattle.std.proofs.Common.{ℕ, arith, ◌∙◌}
-use Rattle.sched_rules.specs.declared.step.StepOf.TheVariants.{Submit}
-use Rattle.jamboree_rules.specs.Places.{root_words, frame_size}
-use Rattle.promises.specs.Replies.{SearchStep}
-use Rattle.promise_uses.proofs.Parts.{told-nine, taken-of, refused-of, list-of, asked-share, asked-tenant}
+use Rattle.promise_uses.proofs.Common.{ℕ, arith, ◌∙◌, Submit, root_words, frame_size, SearchStep}
+use Rattle.promise_uses.proofs.Parts.{taken-nine, refused-nine, list-of, asked-share, asked-tenant}
 use Rattle.promise_uses.proofs.desks.nine_asks.Goals as goal
 
 pub returns-clause-taken : goal.returns-clause-taken
@@ -10,20 +7,20 @@ returns-clause-taken g c =
     let board = c.args.position.now.board in
     let four = c.requires.four in
     let step : ℕ → SearchStep = λ n. Submit n (root_words board.own board.opp 3) frame_size in
-    taken-of g.L.DeskLedger.begun _ _ _ _ (told-nine g.L.DeskLedger.begun _ _ step _ _ c.requires.nine (c.ask.ensures.told (λ full. omega (arith, four, full))))
+    taken-nine g.L.DeskLedger.begun _ _ step _ _ c.requires.nine (c.ask.ensures.told (λ full. omega (arith, four, full)))
 
 pub returns-clause-refused : goal.returns-clause-refused
 returns-clause-refused g c =
     let board = c.args.position.now.board in
     let four = c.requires.four in
     let step : ℕ → SearchStep = λ n. Submit n (root_words board.own board.opp 3) frame_size in
-    refused-of g.L.DeskLedger.begun _ _ _ _ (told-nine g.L.DeskLedger.begun _ _ step _ _ c.requires.nine (c.ask.ensures.told (λ full. omega (arith, four, full))))
+    refused-nine g.L.DeskLedger.begun _ _ step _ _ c.requires.nine (c.ask.ensures.told (λ full. omega (arith, four, full)))
 
 pub returns-clause-list : goal.returns-clause-list
-returns-clause-list g c = list-of _ c.args.seat.now c.ask.new.seat c.ask.result c.ask.ensures.asked
+returns-clause-list g c = list-of c.args.seat.now c.ask.new.seat _ c.ask.result c.ask.ensures.asked
 
 pub returns-clause-share : goal.returns-clause-share
-returns-clause-share g c = asked-share _ c.args.seat.now c.ask.new.seat c.ask.result c.ask.ensures.asked
+returns-clause-share g c = asked-share c.args.seat.now c.ask.new.seat _ c.ask.result c.ask.ensures.asked
 
 pub returns-clause-kept : goal.returns-clause-kept
-returns-clause-kept g c = asked-tenant _ c.args.seat.now c.ask.new.seat c.ask.result c.ask.ensures.asked ∙ c.requires.nine
+returns-clause-kept g c = asked-tenant c.args.seat.now c.ask.new.seat _ c.ask.result c.ask.ensures.asked ∙ c.requires.nine

@@ -2,4 +2,4 @@ use Rattle.promise_uses.proofs.Parts.{no-more}
 use Rattle.promise_uses.proofs.desks.nine_asks_in_vain.Goals as goal
 
 pub returns-clause-refused : goal.returns-clause-refused
-returns-clause-refused g c = no-more _ c.args.seat.now c.ask.new.seat c.ask.result c.ask.ensures.asked c.requires
+returns-clause-refused g c = no-more c.args.seat.now c.ask.new.seat _ c.ask.result c.ask.ensures.asked c.requires

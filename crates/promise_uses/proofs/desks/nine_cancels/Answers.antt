@@ -1,18 +1,16 @@
-use Rattle.std.proofs.Common.{ℕ}
-use Rattle.sched_rules.specs.declared.step.StepOf.TheVariants.{Cancel}
-use Rattle.promises.specs.Replies.{SearchStep}
-use Rattle.promise_uses.proofs.Parts.{told-nine, taken-of, refused-of, kept-of, share-of}
+use Rattle.promise_uses.proofs.Common.{ℕ, Cancel, SearchStep}
+use Rattle.promise_uses.proofs.Parts.{taken-nine, refused-nine, kept-of, share-of}
 use Rattle.promise_uses.proofs.desks.nine_cancels.Goals as goal
 
 pub returns-clause-taken : goal.returns-clause-taken
 returns-clause-taken g c there =
     let step : ℕ → SearchStep = λ n. Cancel n 3 in
-    taken-of g.L.DeskLedger.begun _ _ _ _ (told-nine g.L.DeskLedger.begun _ _ step _ _ c.requires.nine (c.cancel.ensures.told there))
+    taken-nine g.L.DeskLedger.begun _ _ step _ _ c.requires.nine (c.cancel.ensures.told there)
 
 pub returns-clause-refused : goal.returns-clause-refused
 returns-clause-refused g c there =
     let step : ℕ → SearchStep = λ n. Cancel n 3 in
-    refused-of g.L.DeskLedger.begun _ _ _ _ (told-nine g.L.DeskLedger.begun _ _ step _ _ c.requires.nine (c.cancel.ensures.told there))
+    refused-nine g.L.DeskLedger.begun _ _ step _ _ c.requires.nine (c.cancel.ensures.told there)
 
 pub returns-clause-kept : goal.returns-clause-kept
 returns-clause-kept g c = kept-of c.args.seat.now c.cancel.new.seat c.cancel.result c.cancel.ensures.share c.requires.nine

@@ -1,18 +1,16 @@
-use Rattle.std.proofs.Common.{ℕ}
-use Rattle.sched_rules.specs.declared.step.StepOf.TheVariants.{AdmitMore}
-use Rattle.promises.specs.Replies.{SearchStep}
-use Rattle.promise_uses.proofs.Parts.{told-nine, taken-of, refused-of, kept-of, share-of}
+use Rattle.promise_uses.proofs.Common.{ℕ, AdmitMore, SearchStep}
+use Rattle.promise_uses.proofs.Parts.{taken-nine, refused-nine, kept-of, share-of}
 use Rattle.promise_uses.proofs.desks.nine_reserves.Goals as goal
 
 pub returns-clause-taken : goal.returns-clause-taken
 returns-clause-taken g c =
     let step : ℕ → SearchStep = λ n. AdmitMore n c.args.reserve in
-    taken-of g.L.DeskLedger.begun _ _ _ _ (told-nine g.L.DeskLedger.begun _ _ step _ _ c.requires.nine c.reserve.ensures.told)
+    taken-nine g.L.DeskLedger.begun _ _ step _ _ c.requires.nine c.reserve.ensures.told
 
 pub returns-clause-refused : goal.returns-clause-refused
 returns-clause-refused g c =
     let step : ℕ → SearchStep = λ n. AdmitMore n c.args.reserve in
-    refused-of g.L.DeskLedger.begun _ _ _ _ (told-nine g.L.DeskLedger.begun _ _ step _ _ c.requires.nine c.reserve.ensures.told)
+    refused-nine g.L.DeskLedger.begun _ _ step _ _ c.requires.nine c.reserve.ensures.told
 
 pub returns-clause-kept : goal.returns-clause-kept
 returns-clause-kept g c = kept-of c.args.seat.now c.reserve.new.seat c.reserve.result c.reserve.ensures.share c.requires.nine

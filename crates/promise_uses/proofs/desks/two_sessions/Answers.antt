@@ -1,7 +1,4 @@
-use Rattle.std.proofs.Common.{◌≡◌, List, ℕ, sym, subst}
-use mathlib.Core.List.{IsPrefix}
-use Rattle.desk.specs.Traces.{own}
-use Rattle.promises.specs.Replies.{SearchStep}
+use Rattle.promise_uses.proofs.Common.{◌≡◌, List, ℕ, sym, subst, IsPrefix, own, SearchStep}
 use Rattle.promise_uses.proofs.Parts.{seen-by}
 use Rattle.promise_uses.proofs.desks.two_sessions.Goals as goal
 

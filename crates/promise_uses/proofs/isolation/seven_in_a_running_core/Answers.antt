@@ -1,7 +1,4 @@
-use Rattle.std.proofs.Common.{Option, ap, ◌∙◌}
-use Rattle.sched_rules.specs.Trees.{Tenant}
-use Rattle.sched_rules.specs.Runs.{alone_from, answers_from, only}
-use Rattle.sched_rules.specs.Headline.{taken_steps}
+use Rattle.promise_uses.proofs.Common.{Option, ap, ◌∙◌, Tenant, alone_from, answers_from, only, taken_steps}
 use Rattle.promise_uses.proofs.isolation.seven_in_a_running_core.Goals as goal
 
 pub returns : goal.returns

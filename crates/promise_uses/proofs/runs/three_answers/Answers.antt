@@ -1,5 +1,4 @@
-use Rattle.std.proofs.Common.{◌∙◌}
-use Rattle.promise_uses.proofs.Parts.{if-ok}
+use Rattle.promise_uses.proofs.Common.{◌∙◌, if-ok}
 use Rattle.promise_uses.proofs.runs.three_answers.Goals as goal
 
 pub returns : goal.returns

@@ -1,4 +1,4 @@
-use Rattle.promise_uses.proofs.Parts.{if-ok}
+use Rattle.promises.proofs.Answered.{if-ok}
 use Rattle.promise_uses.proofs.Replied.{reply-at}
 use Rattle.promise_uses.proofs.runs.words_of_seven.Goals as goal
 

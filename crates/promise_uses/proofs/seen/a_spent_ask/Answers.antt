@@ -4,4 +4,4 @@ use Rattle.promise_uses.proofs.seen.a_spent_ask.Goals as goal
 pub returns : goal.returns
 returns g c =
     let seen = c.serve.ensures in
-    (seen.session.answered, seen.session.replies, λ quota more board side job known are knows. spent-ask g.L.DeskLedger.begun quota more board side job _ _ known seen.tenant are knows)
+    (seen.session.answered, seen.session.replies, λ quota more board side job known are knows. spent-ask g.L.DeskLedger.begun more board side job known quota _ _ seen.tenant are knows)

@@ -5,4 +5,4 @@ pub returns : goal.returns
 returns g c =
     let seen = c.serve.ensures in
     let session = seen.session in
-    (session.answered, session.replies, session.pieces, session.writes, session.written, seen.dones, λ quota left known are knows. quota-left g.L.DeskLedger.begun quota left _ _ known seen.tenant are knows)
+    (session.answered, session.replies, session.pieces, session.writes, session.written, seen.dones, λ quota left known are knows. quota-left g.L.DeskLedger.begun quota _ _ known seen.tenant knows left are)

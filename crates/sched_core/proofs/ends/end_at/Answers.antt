@@ -6,7 +6,8 @@ use Rattle.sched_core.proofs.ends.end_at.Goals.{After-abort}
 use Rattle.sched_core.proofs.ends.end_at.Goals as goal
 
 -- the root is there, and its tenant is what is left after the abort
-aborts : (g : Over) (c : After-abort g) → (n : IsNamed c.args.store.now c.args.root) × IsWith c.args.store.now c.args.root.tenant (without_under c.args.root.serial n.tenant) c.abort.new.self
+aborts : (g : Over) (c : After-abort g) →
+    (n : IsNamed c.args.store.now c.args.root) × IsWith c.args.store.now c.args.root.tenant (without_under c.args.root.serial n.tenant) c.abort.new.self
 aborts g c =
     let n = named-there c.args.store.now c.args.root c.requires.there in
     (n, then-changed _ _ _ _ c.abort.new.self _ (begins c.args.root.tenant n.tenant c.args.store.now n.owner) c.abort.ensures.aborted)

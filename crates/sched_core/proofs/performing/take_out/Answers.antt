@@ -1,7 +1,8 @@
 use Rattle.sched_core.proofs.Common.{◌≡◌, true, refl, sym, ◌∙◌, on_tenant, without_frame, without_under, staying_with}
 use Rattle.sched_core.proofs.TakenStep.{begins, then-changed}
 use Rattle.sched_core.proofs.Ending.{as-change}
-use Rattle.sched_core.proofs.Inlets.{parent-found, stays-beside, aborts-child, same-tenant}
+use Rattle.sched_core.proofs.Deciding.{some-is}
+use Rattle.sched_core.proofs.Inlets.{parent-found, stays-beside, aborts-child}
 use Rattle.sched_core.proofs.performing.take_out.Goals as goal
 
 pub abort-requires : goal.abort-requires
@@ -20,11 +21,11 @@ returns-then-abort-clause-left g c =
     let m = s.2 in
     let w = begins c.args.child.tenant s.0 c.args.store.now m.owner in
     let w1 = then-changed _ _ _ _ c.remove.new.self (without_frame c.args.child.serial) w c.remove.ensures in
-    let aborts : c.abort.new.self ≡ on_tenant c.args.child.tenant (without_under c.args.parent.serial) c.remove.new.self = rw m.same at c.abort.ensures.aborted in
-    let w2 = then-changed _ _ _ _ c.abort.new.self (without_under c.args.parent.serial) w1 aborts in
+    let w2 = then-changed _ _ _ _ c.abort.new.self (without_under c.args.parent.serial) w1 (rw m.same at c.abort.ensures.aborted) in
     let all = aborts-child c.args.parent.serial c.args.child.serial s.0.frames s.1 m.tree m.found m.under in
-    let same : without_under c.args.parent.serial (without_frame c.args.child.serial s.0) ≡ staying_with c.args.child.serial c.args.parent.serial true s.0 = rw all refl in
-    rw c.if-abort.true (as-change c.args.store.now c.abort.new.self _ s.0 (staying_with c.args.child.serial c.args.parent.serial true) m.owner (rw same at w2))
+    let stays = staying_with c.args.child.serial c.args.parent.serial true in
+    let same : without_under c.args.parent.serial (without_frame c.args.child.serial s.0) ≡ stays s.0 = rw all refl in
+    rw c.if-abort.true (as-change c.args.store.now c.abort.new.self _ s.0 stays m.owner (rw same at w2))
 
 pub returns-then-abort-clause-count : goal.returns-then-abort-clause-count
 returns-then-abort-clause-count g c tenant owner =
@@ -32,4 +33,4 @@ returns-then-abort-clause-count g c tenant owner =
     let m = s.2 in
     let w = begins c.args.child.tenant s.0 c.args.store.now m.owner in
     let w1 = then-changed _ _ _ _ c.remove.new.self (without_frame c.args.child.serial) w c.remove.ensures in
-    rw (c.if-abort.true, ← (same-tenant s.0 tenant (sym m.owner ∙ owner))) (c.abort.ensures.count ∙ rw (m.same, w1.there) refl)
+    rw (c.if-abort.true, ← (some-is s.0 tenant (sym m.owner ∙ owner))) (c.abort.ensures.count ∙ rw (m.same, w1.there) refl)

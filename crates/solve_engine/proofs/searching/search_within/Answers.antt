@@ -1,17 +1,12 @@
-use Rattle.solve_engine.proofs.Common.{ℕ, ap, subst, Jamboree, IsNewCore}
+use Rattle.solve_engine.proofs.Common.{ℕ, ap, arith, subst, Jamboree, IsNewCore}
 use Rattle.solve_engine.proofs.searching.search_within.Goals as goal
 
-pub answer_in-requires-clause-there : goal.answer_in-requires-clause-there
-answer_in-requires-clause-there g c =
+pub answer_in-requires : goal.answer_in-requires
+answer_in-requires g c =
     let P : ℕ → Type 0 = λ grain. IsNewCore grain c.args.reserve c.admit.new.core in
     let begun = subst P (ap (λ (p : Jamboree). p.grain) c.in_ok-core.ensures.procedure) c.in_ok-admit.ensures in
-    (c.args.reserve, (c.work-core.ensures _ (c.ask.ensures c.args.grain c.args.reserve c.segments.ensures.limits begun)).reserved)
-
-pub answer_in-requires-clause-asked : goal.answer_in-requires-clause-asked
-answer_in-requires-clause-asked g c =
-    let P : ℕ → Type 0 = λ grain. IsNewCore grain c.args.reserve c.admit.new.core in
-    let begun = subst P (ap (λ (p : Jamboree). p.grain) c.in_ok-core.ensures.procedure) c.in_ok-admit.ensures in
-    (c.work-core.ensures _ (c.ask.ensures c.args.grain c.args.reserve c.segments.ensures.limits begun)).asked
+    let works = c.work-core.ensures _ (c.ask.ensures c.args.grain c.args.reserve c.segments.ensures.limits begun) in
+    record { shallow = omega arith; there = (c.args.reserve, works.reserved); asked = works.asked }
 
 pub returns-clause-found : goal.returns-clause-found
 returns-clause-found g c =

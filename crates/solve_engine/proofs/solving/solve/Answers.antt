@@ -2,5 +2,4 @@ use Rattle.solve_engine.proofs.RefusalLemmas.{solved-run}
 use Rattle.solve_engine.proofs.solving.solve.Goals as goal
 
 pub returns : goal.returns
-returns g c =
-    solved-run g.S.Source.gives g.K.Sink.takes _ _ _ _ _ _ c.answer_lines.result c.answer_lines.ensures
+returns g c = solved-run g.S.Source.gives g.K.Sink.takes c.answer_lines.ensures

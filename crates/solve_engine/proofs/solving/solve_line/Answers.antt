@@ -13,7 +13,8 @@ returns-in-Ok-solve_by_core-clause-text g c =
     )
 
 pub returns-in-Err-solve_by_core-clause-text : goal.returns-in-Err-solve_by_core-clause-text
-returns-in-Err-solve_by_core-clause-text g c = (true, c.error_text.ensures.text ∙ ap error_text c.number.ensures ∙ ap (question_answer (solved_unless true)) c.in-Ok.ensures)
+returns-in-Err-solve_by_core-clause-text g c =
+    (true, c.error_text.ensures.text ∙ ap error_text c.number.ensures ∙ ap (question_answer (solved_unless true)) c.in-Ok.ensures)
 
 pub returns-in-Err-clause-text : goal.returns-in-Err-clause-text
 returns-in-Err-clause-text g c =

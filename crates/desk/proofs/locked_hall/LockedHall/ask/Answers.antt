@@ -4,5 +4,6 @@ use Rattle.desk.proofs.locked_hall.LockedHall.ask.Goals as goal
 
 pub returns-in_err-take_for-clause-refused : goal.returns-in_err-take_for-clause-refused
 returns-in_err-take_for-clause-refused g c =
-    let known : IfErr c.take_for.result (Contains ask_refusals) = ask_refused _ _ _ _ _ _ c.take_for.result (rw c.submit-search.ensures.step at c.take_for.ensures.step) in
+    let offered = rw c.submit-search.ensures.step at c.take_for.ensures.step in
+    let known : IfErr c.take_for.result (Contains ask_refusals) = ask_refused _ _ _ _ _ _ c.take_for.result offered in
     search rules

@@ -32,7 +32,7 @@ sweep-requires-clause-there g c =
     let slab = c.self.inside.slab in
     let order = c.self.inside.order.list in
     let marks = rw c.as_slice.ensures.value at c.mark_under.ensures.marked in
-    marked_there c.args.under (slots_in slab order) order slab c.mark_under.new.slab order marks (all_there slab [] order c.self.invariant.here)
+    marked_there c.args.under (slots_in slab order) order slab c.mark_under.new.slab marks order (all_there slab [] order c.self.invariant.here)
 
 pub invariant_of-self : goal.invariant_of-self
 invariant_of-self g c =

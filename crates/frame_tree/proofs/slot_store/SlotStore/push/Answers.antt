@@ -22,12 +22,11 @@ invariant_of-self g c =
       slab_room = omega (arith, c.self.invariant.slab_room, c.adopt-root.ensures.capacity);
       order_room = c.self.invariant.order_room;
     } in
-    rw c.push.ensures (push_store slab c.insert_reserved-key.new.self order c.insert_reserved-key.result _ _ c.insert_reserved-key.ensures.was_vacant c.insert_reserved-key.ensures.updates
-    _ _ store less c.adopt-root.ensures.above c.insert_reserved-key.ensures.len c.insert_reserved-key.ensures.capacity)
+    let put = c.insert_reserved-key.ensures in
+    rw c.push.ensures (push_store order put.was_vacant put.updates _ _ store less c.adopt-root.ensures.above put.len put.capacity)
 
 pub returns : goal.returns
 returns g c =
-    let slab = c.adopt-root.new.slab in
-    let order = c.self.inside.order.list in
-    let slots = push_slots slab c.insert_reserved-key.new.self order c.insert_reserved-key.result _ _ c.insert_reserved-key.ensures.was_vacant c.insert_reserved-key.ensures.updates c.adopt-root.ensures.keys.here in
+    let put = c.insert_reserved-key.ensures in
+    let slots = push_slots c.self.inside.order.list put.was_vacant put.updates c.adopt-root.ensures.keys.here in
     rw (← c.self.view_is, c.push.ensures, slots, c.adopt-root.ensures.slots, c.adopt-root.ensures.root) refl

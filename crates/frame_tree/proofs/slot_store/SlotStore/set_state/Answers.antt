@@ -15,23 +15,23 @@ put_state-requires-in-None g c =
 pub invariant_of-self : goal.invariant_of-self
 invariant_of-self g c =
     let put = c.put_state.ensures in
-    state_store _ _ c.in-Some.key c.put_state.result c.args.state c.self.invariant c.in-Some.ensures.1 put.put put.len put.capacity
+    state_store _ _ c.in-Some.key c.put_state.result c.args.state c.self.invariant c.in-Some.ensures.1 put.len put.put put.capacity
 
 pub invariant_of-self-in-None : goal.invariant_of-self-in-None
 invariant_of-self-in-None g c =
     let k = c.search_key-key.ensures in
-    let at = key_searched c.self.inside.slab c.self.inside.order.list _ c.args.serial k.0 c.search_key-key.result (rw (← c.self.view_is) at c.requires.index) k.1 k.2 k.3 in
+    let at = key_searched (rw (← c.self.view_is) at c.requires.index) k.1 k.2 k.3 in
     let put = c.put_state-in-None.ensures in
-    state_store _ _ c.search_key-key.result c.put_state-in-None.result c.args.state c.self.invariant at put.put put.len put.capacity
+    state_store _ _ c.search_key-key.result c.put_state-in-None.result c.args.state c.self.invariant at put.len put.put put.capacity
 
 pub returns-in-Some : goal.returns-in-Some
 returns-in-Some g c =
     let put = c.put_state.ensures in
-    rw (← c.self.view_is) (state_changes _ _ c.in-Some.key c.put_state.result c.args.state c.self.invariant c.in-Some.ensures.1 put.put put.len put.was)
+    rw (← c.self.view_is) (state_changes _ _ c.in-Some.key c.put_state.result c.args.state c.self.invariant c.in-Some.ensures.1 put.len put.put put.was)
 
 pub returns-in-None : goal.returns-in-None
 returns-in-None g c =
     let k = c.search_key-key.ensures in
-    let at = key_searched c.self.inside.slab c.self.inside.order.list _ c.args.serial k.0 c.search_key-key.result (rw (← c.self.view_is) at c.requires.index) k.1 k.2 k.3 in
+    let at = key_searched (rw (← c.self.view_is) at c.requires.index) k.1 k.2 k.3 in
     let put = c.put_state-in-None.ensures in
-    rw (← c.self.view_is) (state_changes _ _ c.search_key-key.result c.put_state-in-None.result c.args.state c.self.invariant at put.put put.len put.was)
+    rw (← c.self.view_is) (state_changes _ _ c.search_key-key.result c.put_state-in-None.result c.args.state c.self.invariant at put.len put.put put.was)

@@ -1,6 +1,6 @@
 use Rattle.frame_tree.proofs.Common.{◌≡◌, ◌∙◌, ℕ, List, subst, sym, arith, lt-ltb, ltb-true, false≢true, Frame, AllBelow}
-use Rattle.frame_tree.proofs.table.FrameTable.can_add.Goals as goal
 use Rattle.frame_tree.proofs.table.FrameTable.can_add.Goals.{then-may_follow, else-may_follow}
+use Rattle.frame_tree.proofs.table.FrameTable.can_add.Goals as goal
 
 -- No answer names the serial that the tree is asked of, so that the contract decides which one it may be.
 below-as : {T : Type 0} (frames : List (Frame T)) (asked serial : ℕ) → AllBelow asked frames → asked ≡ serial → AllBelow serial frames

@@ -1,5 +1,5 @@
-use Rattle.frame_tree.proofs.Common.{vec_capacity, [], owner_of_tree, has-found, said-without_own, length-without}
-use Rattle.frame_tree.proofs.Tenants.{tree_by_places, release_sound, release_keeps}
+use Rattle.frame_tree.proofs.Common.{[], owner_of_tree, has-found, said-without_own, length-without}
+use Rattle.frame_tree.proofs.Tenants.{tree_by_places, has_tree, release_sound, release_keeps}
 use Rattle.frame_tree.proofs.table.FrameTable.release.Goals as goal
 
 pub remove-requires-clause-there : goal.remove-requires-clause-there
@@ -7,7 +7,7 @@ remove-requires-clause-there g c = tree_by_places c.self.inside.trees c.args.ten
 
 pub invariant_of-self : goal.invariant_of-self
 invariant_of-self g c =
-    rw c.remove.ensures.list (release_sound c.self.inside.trees (vec_capacity c.self.inside.removed) c.self.inside.ready c.args.tenant c.remove.result c.self.invariant c.remove.ensures.value (rw (← c.self.view_is) at c.requires.empty))
+    rw c.remove.ensures.list (release_sound (has_tree c.self.invariant c.remove.ensures.value) (rw (← c.self.view_is) at c.requires.empty))
 
 pub returns : goal.returns
 returns g c = rw (← c.self.view_is, c.remove.ensures.list) (record {

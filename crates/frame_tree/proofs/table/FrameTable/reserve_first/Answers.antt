@@ -1,17 +1,18 @@
-use Rattle.frame_tree.proofs.Common.{◌<◌, [], length, ap, vec_capacity, arith, length-inserted, TenantTree, owner_of_tree}
+use Rattle.frame_tree.proofs.Common.{◌<◌, [], length, ap, arith, length-inserted, TenantTree, owner_of_tree}
 use Rattle.frame_tree.proofs.Tenants.{reserve_sound, reserve_here, insert_keeps, more_room}
 use Rattle.frame_tree.proofs.table.FrameTable.reserve_first.Goals as goal
 
 pub invariant_of-self-in_err-tree : goal.invariant_of-self-in_err-tree
 invariant_of-self-in_err-tree g c =
-    more_room c.self.inside.trees (vec_capacity c.self.inside.removed) (vec_capacity c.reserve.new.self) c.self.inside.ready (omega (arith, c.clear.ensures.capacity, c.reserve.ensures.capacity)) c.self.invariant
+    more_room c.self.invariant (omega (arith, c.clear.ensures.capacity, c.reserve.ensures.capacity))
 
 pub invariant_of-self-2 : goal.invariant_of-self-2
 invariant_of-self-2 g c =
     let fresh = rw (← c.self.view_is) at c.requires.fresh in
     let free : length c.self.inside.trees < 64 = rw (← c.self.view_is) at c.requires.free in
     rw c.insert.ensures (reserve_sound c.args.tenant c.args.segments c.self.invariant fresh c.in_ok-tree.ensures
-    (omega (arith, c.clear.ensures.capacity, c.reserve.ensures.capacity)) (omega (arith, c.in_ok-reserve.ensures.ok, c.clear.ensures.len)) c.requires.some c.requires.few free)
+    (omega (arith, c.clear.ensures.capacity, c.reserve.ensures.capacity)) (omega (arith, c.in_ok-reserve.ensures.ok, c.clear.ensures.len))
+    c.requires.some c.requires.few free)
 
 pub returns : goal.returns
 returns g c =

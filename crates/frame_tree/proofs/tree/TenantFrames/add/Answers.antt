@@ -1,9 +1,8 @@
 use Rattle.frame_tree.proofs.Common.{ap, length, [], refl, arith, length-append, with_child, length-map, ◌∷◌}
 use Rattle.frame_tree.specs.SlotStores.{new_slot}
 use Rattle.frame_tree.proofs.Finds.{frames_from-length}
-use Rattle.frame_tree.proofs.Changes.{few_counts, added_sound, added_frames}
+use Rattle.frame_tree.proofs.Changes.{few_counts, added_sound, added_frames, recount_more}
 use Rattle.frame_tree.proofs.Readies.{is_tenant, few_ready_in, added_ready}
-use Rattle.frame_tree.proofs.SlotStores.{length-with_child}
 use Rattle.frame_tree.proofs.Keys.{added_index}
 use Rattle.frame_tree.proofs.tree.TenantFrames.add.Goals as goal
 
@@ -34,7 +33,7 @@ invariant_of-self g c =
     (added_sound c.self.invariant.sound c.args.serial c.args.home c.args.parent c.args.value above there)
     (added_index slots _ c.self.invariant.index c.args.parent _)
     (added_ready slots c.args.parent _ c.args.home c.self.inside.ready.list c.self.invariant.ready_frames refl)
-    (omega (arith, room, long, length-with_child c.args.parent slots, length-append (with_child c.args.parent slots) (new_slot slots c.args.serial c.args.parent c.args.home c.args.value ∷ [])))
+    (omega (arith, room, long, (recount_more c.args.parent slots).long, length-append (with_child c.args.parent slots) (new_slot slots c.args.serial c.args.parent c.args.home c.args.value ∷ [])))
     c.self.invariant.few
     c.self.invariant.serial_places
     c.self.invariant.ready_places)

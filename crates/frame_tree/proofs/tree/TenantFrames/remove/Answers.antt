@@ -1,10 +1,9 @@
 use Rattle.frame_tree.proofs.Common.{[], refl, sym, ◌∙◌, arith, remove, length-remove, without_child, is_ready}
-use Rattle.frame_tree.proofs.SlotStores.{length-without_child}
 use Rattle.frame_tree.proofs.Forest.{linked_rises}
 use Rattle.frame_tree.proofs.Finds.{seen_frame, ready_frames-length, length-filter_remove}
-use Rattle.frame_tree.proofs.Changes.{lost_counted, ready-without_child, leaf_slots, lost, lost_sound, lost_frames}
-use Rattle.frame_tree.proofs.Readies.{is_tenant, tenant_rises, ready_in-remove, ready_in-without_child}
-use Rattle.frame_tree.proofs.Keys.{found_at, seen_by, removed_index, serials_of-without_child}
+use Rattle.frame_tree.proofs.Changes.{lost_counted, leaf_slots, lost, lost_sound, lost_frames, recount_less}
+use Rattle.frame_tree.proofs.Readies.{is_tenant, tenant_rises, ready_in-remove}
+use Rattle.frame_tree.proofs.Keys.{found_at, seen_by, removed_index}
 use Rattle.frame_tree.proofs.tree.TenantFrames.remove.Goals as goal
 
 pub take-slot-requires-clause-leaf : goal.take-slot-requires-clause-leaf
@@ -26,12 +25,14 @@ invariant_of-self g c =
     let seen = seen_by _ _ c.self.invariant.index c.known_place-at.ensures.within c.known_place-at.ensures.found c.take-slot.ensures.value in
     let slots = c.self.inside.store.slots in
     let leaf = rw (← c.self.view_is) at c.requires.leaf in
-    let gone = ready_in-remove slots c.known_place-at.result c.args.serial c.take-slot.result (linked_rises [] slots c.self.invariant.sound.linked) seen.within seen.named seen.read in
+    let gone = ready_in-remove slots c.known_place-at.result c.args.serial c.take-slot.result (linked_rises [] slots c.self.invariant.sound.linked) seen in
+    let left = remove slots c.known_place-at.result in
+    let same = recount_less c.take-slot.result.parent left in
     rw (c.take-slot.ensures.left, c.leave.ensures, c.remove.ensures.left) (is_tenant _ _ _ _ _
     (lost_sound c.self.invariant.sound seen leaf)
-    (removed_index slots _ c.self.invariant.index c.known_place-at.result ∙ sym (serials_of-without_child c.take-slot.result.parent (remove slots c.known_place-at.result)))
-    (rw (ready_in-without_child c.take-slot.result.parent (remove slots c.known_place-at.result), c.self.invariant.ready_frames) gone)
-    (omega (arith, c.self.invariant.within, length-remove slots c.known_place-at.result seen.within, length-without_child c.take-slot.result.parent (remove slots c.known_place-at.result)))
+    (removed_index slots _ c.self.invariant.index c.known_place-at.result ∙ sym same.serials)
+    (rw (same.ready, c.self.invariant.ready_frames) gone)
+    (omega (arith, c.self.invariant.within, length-remove slots c.known_place-at.result seen.within, same.long))
     c.self.invariant.few
     c.self.invariant.serial_places
     c.self.invariant.ready_places)
@@ -55,4 +56,5 @@ returns-clause-count g c =
     let left = remove slots c.known_place-at.result in
     let old = ready_frames-length {T = g.row.T.Denot} [] slots in
     let new = ready_frames-length {T = g.row.T.Denot} [] (without_child slot.parent left) in
-    rw (← c.self.view_is, c.take-slot.ensures.left, old, new, ready-without_child slot.parent left) (length-filter_remove (λ x. is_ready x.state) slots c.known_place-at.result slot seen.within seen.read)
+    let same = (recount_less slot.parent left).chosen (λ x. is_ready x.state) (λ x k. refl) in
+    rw (← c.self.view_is, c.take-slot.ensures.left, old, new, same) (length-filter_remove (λ x. is_ready x.state) slots c.known_place-at.result slot seen.within seen.read)

@@ -10,14 +10,14 @@ pub returns-then-slot-eq0-clause-left : goal.returns-then-slot-eq0-clause-left
 returns-then-slot-eq0-clause-left g c =
     let seen = seen_by _ _ c.self.invariant.index c.known_place-at.ensures.within c.known_place-at.ensures.found c.at-slot.ensures in
     let slots = c.self.inside.store.slots in
-    let none = sym (counted_at (λ n. count_in slots n) slots _ _ _ c.self.invariant.sound.counted seen.within seen.named seen.read) ∙ c.if-slot-eq0.true in
+    let none = sym (counted_at (λ n. count_in slots n) slots _ _ _ c.self.invariant.sound.counted seen) ∙ c.if-slot-eq0.true in
     rw (← c.self.view_is, leaf_aborted c.args.serial slots c.self.invariant.sound.linked none) refl
 
 pub returns-then-slot-eq0-clause-values : goal.returns-then-slot-eq0-clause-values
 returns-then-slot-eq0-clause-values g c =
     let seen = seen_by _ _ c.self.invariant.index c.known_place-at.ensures.within c.known_place-at.ensures.found c.at-slot.ensures in
     let slots = c.self.inside.store.slots in
-    let none = sym (counted_at (λ n. count_in slots n) slots _ _ _ c.self.invariant.sound.counted seen.within seen.named seen.read) ∙ c.if-slot-eq0.true in
+    let none = sym (counted_at (λ n. count_in slots n) slots _ _ _ c.self.invariant.sound.counted seen) ∙ c.if-slot-eq0.true in
     rw (← c.self.view_is, leaf_under c.args.serial slots c.self.invariant.sound.linked none) (sym (append-nil _))
 
 pub cut-requires-clause-linked : goal.cut-requires-clause-linked
@@ -42,26 +42,26 @@ forget_from-requires g c = tenant_rises _ _ _ _ c.self.invariant
 pub add_serials-requires : goal.add_serials-requires
 add_serials-requires g c =
     let seen = seen_by _ _ c.self.invariant.index c.known_place-at.ensures.within c.known_place-at.ensures.found c.at-slot.ensures in
-    let cuts = cut_ready c.self.invariant.sound seen refl c.self.invariant.ready_frames c.self.invariant.within in
-    let fewer = cut_length c.self.invariant.sound seen _ refl in
+    let cuts = cut_ready c.self.invariant.sound seen c.self.invariant.ready_frames c.self.invariant.within in
+    let fewer = cut_length c.self.invariant.sound seen in
     rw (c.truncate.ensures, c.cut.ensures.kept, c.put.ensures) (record { within = cuts.within; room = omega (arith, length-take c.known_place-at.result c.self.inside.serials.list, fewer, c.self.invariant.within, c.self.invariant.serial_places) })
 
 pub add_ready-requires : goal.add_ready-requires
 add_ready-requires g c =
     let seen = seen_by _ _ c.self.invariant.index c.known_place-at.ensures.within c.known_place-at.ensures.found c.at-slot.ensures in
-    let cuts = cut_ready c.self.invariant.sound seen refl c.self.invariant.ready_frames c.self.invariant.within in
+    let cuts = cut_ready c.self.invariant.sound seen c.self.invariant.ready_frames c.self.invariant.within in
     let room = cuts.room in
     rw (c.forget_from.ensures, c.cut.ensures.kept, c.put.ensures) (record { within = cuts.within; room = omega (arith, room, c.self.invariant.ready_places) })
 
 pub invariant_of-self : goal.invariant_of-self
 invariant_of-self g c =
     let seen = seen_by _ _ c.self.invariant.index c.known_place-at.ensures.within c.known_place-at.ensures.found c.at-slot.ensures in
-    let cuts = cut_ready c.self.invariant.sound seen refl c.self.invariant.ready_frames c.self.invariant.within in
+    let cuts = cut_ready c.self.invariant.sound seen c.self.invariant.ready_frames c.self.invariant.within in
     rw (c.add_ready.ensures, c.forget_from.ensures, c.add_serials.ensures, c.truncate.ensures, c.cut.ensures.kept, c.put.ensures) (is_tenant _ _ _ _ _
-    (cut_sound c.self.invariant.sound seen _ _ refl refl)
+    (cut_sound c.self.invariant.sound seen)
     (cut_index c.self.inside.store.slots _ c.self.invariant.index _ c.known_place-at.result cuts.front)
     cuts.ready
-    (omega (arith, cut_length c.self.invariant.sound seen _ refl, c.self.invariant.within))
+    (omega (arith, cut_length c.self.invariant.sound seen, c.self.invariant.within))
     c.self.invariant.few
     c.self.invariant.serial_places
     c.self.invariant.ready_places)
@@ -69,8 +69,7 @@ invariant_of-self g c =
 pub returns-clause-left : goal.returns-clause-left
 returns-clause-left g c =
     let seen = seen_by _ _ c.self.invariant.index c.known_place-at.ensures.within c.known_place-at.ensures.found c.at-slot.ensures in
-    let frames = cut_frames c.self.invariant.sound seen _ refl in
-    rw (← c.self.view_is, c.cut.ensures.kept, c.put.ensures, frames) refl
+    rw (← c.self.view_is, c.cut.ensures.kept, c.put.ensures, cut_frames c.self.invariant.sound seen) refl
 
 pub returns-clause-values : goal.returns-clause-values
 returns-clause-values g c =

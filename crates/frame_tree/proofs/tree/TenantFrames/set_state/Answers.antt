@@ -13,7 +13,7 @@ pub follow-requires-clause-room : goal.follow-requires-clause-room
 follow-requires-clause-room g c =
     let was = c.set_state-was.ensures in
     let slots = c.self.inside.store.slots in
-    let changed = ready_in-state slots was.at c.args.serial was.slot c.args.state (linked_rises [] slots c.self.invariant.sound.linked) was.seen.within was.seen.named was.seen.read in
+    let changed = ready_in-state slots was.at c.args.serial was.slot c.args.state (linked_rises [] slots c.self.invariant.sound.linked) was.seen in
     let few = few_ready_in (set slots was.at (in_state c.args.state was.slot)) in
     rw (was.told, c.self.invariant.ready_frames, changed) (omega (arith, few, length-set slots was.at (in_state c.args.state was.slot), c.self.invariant.within, c.self.invariant.ready_places))
 
@@ -22,7 +22,7 @@ invariant_of-self g c =
     let was = c.set_state-was.ensures in
     let slots = c.self.inside.store.slots in
     let slot = was.slot in
-    let changed = ready_in-state slots was.at c.args.serial slot c.args.state (linked_rises [] slots c.self.invariant.sound.linked) was.seen.within was.seen.named was.seen.read in
+    let changed = ready_in-state slots was.at c.args.serial slot c.args.state (linked_rises [] slots c.self.invariant.sound.linked) was.seen in
     rw (was.changed, c.follow.ensures, was.told) (is_tenant _ _ _ _ _
     (sound_state c.self.invariant.sound was.seen c.args.state (length (ready_slots (set slots was.at (in_state c.args.state slot)))) (omega (arith, c.self.invariant.sound.ready_count, ready_state c.self.invariant.sound was.seen c.args.state)))
     (index_set slots _ c.self.invariant.index was.at slot (in_state c.args.state slot) was.seen.read refl)

@@ -1,25 +1,23 @@
 use Rattle.jamboree.proofs.Common.{take, sym, ◌∙◌, ap, subst, arith, length-drop, choices, minimax, best_choice, entered, IsTable, Frame, board, frame_of, are_entries, bounds_of, decoded, bounds_by}
 use Rattle.std.proofs.Common.{◌≡◌, ◌≤◌, ℕ, List, length}
 use Rattle.jamboree.proofs.ActLemmas.{best-wide}
-use Rattle.jamboree.proofs.KnowledgeLemmas.{table-read}
-use Rattle.jamboree.proofs.ReplyLemmas.{kept-root}
+use Rattle.jamboree.proofs.ReplyLemmas.{kept-root, table-read}
 use Rattle.jamboree.proofs.reply.Reply.read.Goals as goal
 
-pub kept_view-root-requires-clause-form : goal.kept_view-root-requires-clause-form
-kept_view-root-requires-clause-form c = (kept-root c.args.words.now c.requires).formed
-
-pub kept_view-root-requires-clause-few : goal.kept_view-root-requires-clause-few
-kept_view-root-requires-clause-few c = let k = kept-root c.args.words.now c.requires in omega (arith, k.few)
+pub kept_view-root-requires : goal.kept_view-root-requires
+kept_view-root-requires c = let k = kept-root c.args.words.now c.requires in record { form = k.formed; few = omega (arith, k.few) }
 
 pub kept_entries-entries-requires : goal.kept_entries-entries-requires
 kept_entries-entries-requires c = omega (arith, c.kept_view-root.ensures.entries)
 
-pub known_in-requires-clause-few : goal.known_in-requires-clause-few
-known_in-requires-clause-few c =
-    omega (arith, ap (λ (es : List ℕ). length es) c.kept_entries-entries.ensures, length-drop 12 c.args.words.now, (kept-root c.args.words.now c.requires).few)
-
-pub known_in-requires-clause-entries : goal.known_in-requires-clause-entries
-known_in-requires-clause-entries c = ap are_entries c.kept_entries-entries.ensures ∙ (kept-root c.args.words.now c.requires).entries
+pub known_in-requires : goal.known_in-requires
+known_in-requires c =
+    let k = kept-root c.args.words.now c.requires in
+    let same = c.kept_entries-entries.ensures in
+    record {
+      few = omega (arith, ap (λ (es : List ℕ). length es) same, length-drop 12 c.args.words.now, k.few);
+      entries = ap are_entries same ∙ k.entries;
+    }
 
 pub invariant_of-result : goal.invariant_of-result
 invariant_of-result c =
@@ -35,21 +33,19 @@ invariant_of-result c =
       counted = subst (λ (f : Frame). length entries ≡ length (entered f.depth (board f))) e (len ∙ k.counted);
       few = omega (arith, len, length-drop 12 w, k.few);
       table = subst (λ (f : Frame). IsTable f.depth (board f) (bounds_by (choices (board f)) (take (length entries) c.known_in.result))) e
-          (subst (IsTable (frame_of w).depth (board (frame_of w))) (sym (table-read (choices (board (frame_of w))) entries w _ c.known_in.ensures c.kept_entries-entries.ensures)) k.table);
+          (subst (IsTable (frame_of w).depth (board (frame_of w)))
+          (sym (table-read (choices (board (frame_of w))) entries w _ c.known_in.ensures c.kept_entries-entries.ensures)) k.table);
     }
 
-pub returns-clause-own : goal.returns-clause-own
-returns-clause-own c = ap (λ (f : Frame). f.own) c.kept_view-root.ensures.frame
-
-pub returns-clause-opp : goal.returns-clause-opp
-returns-clause-opp c = ap (λ (f : Frame). f.opp) c.kept_view-root.ensures.frame
-
-pub returns-clause-depth : goal.returns-clause-depth
-returns-clause-depth c = ap (λ (f : Frame). f.depth) c.kept_view-root.ensures.frame
-
-pub returns-clause-table : goal.returns-clause-table
-returns-clause-table c =
+pub returns : goal.returns
+returns c =
     let w = c.args.words.now in
     let entries = c.kept_entries-entries.result.now in
-    subst (λ (f : Frame). bounds_by (choices (board f)) (take (length entries) c.known_in.result) ≡ bounds_of (frame_of w)) (sym c.kept_view-root.ensures.frame)
-    (table-read (choices (board (frame_of w))) entries w _ c.known_in.ensures c.kept_entries-entries.ensures)
+    let same = c.kept_view-root.ensures.frame in
+    record {
+      own = ap (λ (f : Frame). f.own) same;
+      opp = ap (λ (f : Frame). f.opp) same;
+      depth = ap (λ (f : Frame). f.depth) same;
+      table = subst (λ (f : Frame). bounds_by (choices (board f)) (take (length entries) c.known_in.result) ≡ bounds_of (frame_of w)) (sym same)
+          (table-read (choices (board (frame_of w))) entries w _ c.known_in.ensures c.kept_entries-entries.ensures);
+    }

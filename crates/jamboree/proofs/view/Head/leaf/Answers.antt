@@ -1,5 +1,5 @@
-use Rattle.jamboree.proofs.Common.{sym, ◌∙◌, arith, ints, is_leaf, score_of, IsLeaf, leaf-told, leaf-is}
-use Rattle.std.proofs.Common.{◌≡◌, ◌<ℤ◌, true, refl}
+use Rattle.jamboree.proofs.Common.{sym, ◌∙◌, arith, ints, score_of, leaf-told, leaf-is}
+use Rattle.std.proofs.Common.{◌<ℤ◌, refl}
 use Rattle.jamboree.proofs.ViewLemmas.{word-high, as-wide}
 use Rattle.jamboree.proofs.view.Head.leaf.Goals as goal
 
@@ -8,8 +8,7 @@ returns c =
     let own = c.args.self.own in
     let alpha = c.args.self.alpha in
     let beta = c.args.self.beta in
-    let told : is_leaf own c.args.self.opp c.args.self.depth (score_of alpha) (score_of beta) ≡ true = sym c.is_leaf.ensures ∙ c.if-not-is_leaf.false in
-    let l : IsLeaf own c.args.self.opp c.args.self.depth (score_of alpha) (score_of beta) = leaf-told own c.args.self.opp c.args.self.depth (score_of alpha) (score_of beta) told in
+    let l = leaf-told own c.args.self.opp c.args.self.depth (score_of alpha) (score_of beta) (sym c.is_leaf.ensures ∙ c.if-not-is_leaf.false) in
     let window : score_of alpha <ℤ score_of beta = l.window in
     leaf-is _ own c.args.self.opp c.args.self.depth (score_of alpha) (score_of beta)
     (record {

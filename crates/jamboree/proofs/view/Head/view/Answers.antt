@@ -1,6 +1,6 @@
 use Rattle.jamboree.proofs.Common.{ap, ◌∙◌, arith, is_frame}
 use Rattle.std.proofs.Common.{[], refl}
-use Rattle.jamboree.proofs.ViewLemmas.{ranged, frame-read, alpha-low, below-beta, beta-high, best-low, best-high}
+use Rattle.jamboree.proofs.ViewLemmas.{ranged, alpha-low, below-beta, beta-high, best-low, best-high}
 use Rattle.jamboree.proofs.view.Head.view.Goals as goal
 
 pub score_of_word-requires-3 : goal.score_of_word-requires-3

@@ -1,8 +1,8 @@
 use Rattle.othello_eval.proofs.Common.{subst, Contains, cells, choices, contained_allowed}
 use Rattle.othello_eval.proofs.weighed.Weighed.after.Goals as goal
 
-pub play-requires-clause-on_board : goal.play-requires-clause-on_board
-play-requires-clause-on_board c = (contained_allowed (cells c.args.self.board) _ (subst (Contains (choices (cells c.args.self.board))) c.in-Square.is c.requires)).0
-
-pub play-requires-clause-legal : goal.play-requires-clause-legal
-play-requires-clause-legal c = (contained_allowed (cells c.args.self.board) _ (subst (Contains (choices (cells c.args.self.board))) c.in-Square.is c.requires)).1
+pub play-requires : goal.play-requires
+play-requires c =
+    let board = cells c.args.self.board in
+    let allowed = contained_allowed board _ (subst (Contains (choices board)) c.in-Square.is c.requires) in
+    record { on_board = allowed.0; legal = allowed.1 }

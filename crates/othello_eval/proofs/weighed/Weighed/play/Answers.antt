@@ -12,4 +12,21 @@ invariant_of-result c =
     let moved = after_move board.own board.opp next.own next.opp c.args.square board.disjoint next.disjoint c.requires.legal c.play-board.ensures in
     let known = c.args.self.weighed in
     let within = known_within _ (cells board) known in
-    record { weighed = omega (arith, ints, moved, known, within.0, within.1, c.turned.ensures, c.word_value-flipped.ensures.value, c.word_value-flipped.ensures.within.0, c.word_value-flipped.ensures.within.1, c.weight_of.ensures.value, c.weight_of.ensures.within.0, c.weight_of.ensures.within.1) }
+    let flipped = c.word_value-flipped.ensures in let weight = c.weight_of.ensures in
+    record {
+      weighed = omega (
+        arith,
+        ints,
+        moved,
+        known,
+        within.0,
+        within.1,
+        c.turned.ensures,
+        flipped.value,
+        flipped.within.0,
+        flipped.within.1,
+        weight.value,
+        weight.within.0,
+        weight.within.1,
+      );
+    }

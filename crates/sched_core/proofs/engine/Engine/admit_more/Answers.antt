@@ -1,14 +1,16 @@
 use Rattle.sched_core.proofs.TakenStep.{step_result-admission}
-use Rattle.sched_core.proofs.Raising.{raise-going, raise-taken}
+use Rattle.sched_core.proofs.Beginning.{raise-going, raise-taken}
 use Rattle.sched_core.proofs.engine.Engine.admit_more.Goals as goal
 
 pub raise-requires-clause-above : goal.raise-requires-clause-above
 raise-requires-clause-above g c =
-    (raise-going (g.P.Procedure.functions c.args.self.now.procedure) c.args.self.now.store c.args.number c.args.reserve c.in_ok-may_admit_more.ensures.refusal).above
+    let functions = g.P.Procedure.functions c.args.self.now.procedure in
+    (raise-going functions c.args.self.now.store c.args.number c.args.reserve c.in_ok-may_admit_more.ensures.refusal).above
 
 pub raise-requires-clause-room : goal.raise-requires-clause-room
 raise-requires-clause-room g c =
-    (raise-going (g.P.Procedure.functions c.args.self.now.procedure) c.args.self.now.store c.args.number c.args.reserve c.in_ok-may_admit_more.ensures.refusal).room
+    let functions = g.P.Procedure.functions c.args.self.now.procedure in
+    (raise-going functions c.args.self.now.store c.args.number c.args.reserve c.in_ok-may_admit_more.ensures.refusal).room
 
 pub returns-clause-admitted : goal.returns-clause-admitted
 returns-clause-admitted g c =

@@ -1,13 +1,14 @@
-use Rattle.sched_core.proofs.Common.{refl, Answer, found-serial}
+use Rattle.sched_core.proofs.Common.{not-false, refl, Answer, found-serial}
 use Rattle.sched_core.proofs.TakenStep.{step_result-taken, then-run, step-left}
 use Rattle.sched_core.proofs.Ending.{with-named}
-use Rattle.sched_core.proofs.Acting.{IsAnswered, is-answered, not-false, computes-holds, may-hold}
+use Rattle.sched_core.proofs.Acting.{IsAnswered, is-answered, computes-holds, may-hold}
 use Rattle.sched_core.proofs.engine.Engine.answer.Given.{Over}
 use Rattle.sched_core.proofs.engine.Engine.answer.Goals.{After-store_all}
 use Rattle.sched_core.proofs.engine.Engine.answer.Goals as goal
 
 -- the answer is allowed, and the stores that it asks for are made
-accepted : (g : Over) (c : After-store_all g) → IsAnswered (g.P.Procedure.functions c.args.self.now.procedure) c.args.self.now.store c.args.worker c.args.name c.args.answer.now c.store_all.new.self
+accepted : (g : Over) (c : After-store_all g) →
+    IsAnswered (g.P.Procedure.functions c.args.self.now.procedure) c.args.self.now.store c.args.worker c.args.name c.args.answer.now c.store_all.new.self
 accepted g c = is-answered _ _ _ _ _ _ c.in_ok-stores.ensures.refusal (rw (c.as_slice.ensures, c.in_ok-stores.ensures.stores) at c.store_all.ensures)
 
 pub run-requires-clause-there : goal.run-requires-clause-there

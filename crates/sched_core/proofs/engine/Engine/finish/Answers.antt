@@ -5,13 +5,15 @@ use Rattle.sched_core.proofs.engine.Engine.finish.Goals as goal
 
 pub count_step-requires : goal.count_step-requires
 count_step-requires g c =
-    let t = finish-going (g.P.Procedure.functions c.args.self.now.procedure) c.args.self.now.store c.args.name c.args.worker c.in_ok-may_finish.ensures.refusal in
+    let functions = g.P.Procedure.functions c.args.self.now.procedure in
+    let t = finish-going functions c.args.self.now.store c.args.name c.args.worker c.in_ok-may_finish.ensures.refusal in
     let w = begins c.args.name.tenant t.tenant c.args.self.now.store t.owner in
     step-left (then-changed _ _ _ _ c.end_at.new.store (ended c.args.name.serial (Done c.of-kept.result)) w c.end_at.ensures) t.passes.1.0
 
 pub returns-clause-step_result : goal.returns-clause-step_result
 returns-clause-step_result g c =
-    let t = finish-going (g.P.Procedure.functions c.args.self.now.procedure) c.args.self.now.store c.args.name c.args.worker c.in_ok-may_finish.ensures.refusal in
+    let functions = g.P.Procedure.functions c.args.self.now.procedure in
+    let t = finish-going functions c.args.self.now.store c.args.name c.args.worker c.in_ok-may_finish.ensures.refusal in
     let w = begins c.args.name.tenant t.tenant c.args.self.now.store t.owner in
     let w1 = then-changed _ _ _ _ c.end_at.new.store (ended c.args.name.serial (Done c.of-kept.result)) w c.end_at.ensures in
     let w2 = then-changed _ _ _ _ c.count_step.new.self counted w1 c.count_step.ensures in

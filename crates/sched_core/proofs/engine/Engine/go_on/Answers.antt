@@ -8,7 +8,8 @@ open-requires-clause-parent g c =
     rw s.2.owner (found-there s.0.frames c.args.name.serial s.1 s.2.found)
 
 pub returns-in-Go-clause-came : goal.returns-in-Go-clause-came
-returns-in-Go-clause-came g c tenant frame on root = go-came (g.P.Procedure.functions c.args.self.now.procedure) c.args.self.now.store c.args.worker c.args.name tenant frame c.args.after.now on.owner c.in-Go.is
+returns-in-Go-clause-came g c tenant frame on root =
+    go-came (g.P.Procedure.functions c.args.self.now.procedure) c.args.self.now.store c.args.worker c.args.name tenant frame _ on.owner c.in-Go.is
 
 pub returns-in-Grow-clause-came : goal.returns-in-Grow-clause-came
 returns-in-Grow-clause-came g c tenant frame on root =
@@ -16,12 +17,13 @@ returns-in-Grow-clause-came g c tenant frame on root =
 
 pub returns-in-Spawn-clause-came : goal.returns-in-Spawn-clause-came
 returns-in-Spawn-clause-came g c tenant frame on root =
-    spawn-came (g.P.Procedure.functions c.args.self.now.procedure) c.args.self.now.store c.args.worker c.args.name tenant frame c.args.after.now on.owner c.open.new.self c.open.result _ _ c.in-Spawn.is
-    (rw (c.as_slice.ensures.words, c.number.ensures.value) at c.open.ensures.opened) c.open.ensures.name
+    spawn-came (g.P.Procedure.functions c.args.self.now.procedure) c.args.self.now.store c.args.worker c.args.name tenant frame c.args.after.now on.owner
+    c.open.new.self c.open.result _ _ c.in-Spawn.is (rw (c.as_slice.ensures.words, c.number.ensures.value) at c.open.ensures.opened) c.open.ensures.name
 
 pub returns-in-Compute-clause-came : goal.returns-in-Compute-clause-came
 returns-in-Compute-clause-came g c tenant frame on root =
-    compute-came (g.P.Procedure.functions c.args.self.now.procedure) c.args.self.now.store c.args.worker c.args.name tenant frame c.args.after.now on.owner c.hold.new.self c.input-input.result c.in-Compute.is on.found (rw c.number-in-Compute.ensures.value at c.hold.ensures)
+    compute-came (g.P.Procedure.functions c.args.self.now.procedure) c.args.self.now.store c.args.worker c.args.name tenant frame c.args.after.now on.owner
+    c.hold.new.self c.input-input.result c.in-Compute.is on.found (rw c.number-in-Compute.ensures.value at c.hold.ensures)
     (rw (← c.own.ensures) c.input-input.ensures)
 
 pub returns-then-not-has_child-clause-came : goal.returns-then-not-has_child-clause-came
@@ -30,15 +32,18 @@ returns-then-not-has_child-clause-came g c tenant frame on root =
 
 pub returns-else-not-has_child-clause-came : goal.returns-else-not-has_child-clause-came
 returns-else-not-has_child-clause-came g c tenant frame on root =
-    waits-came (g.P.Procedure.functions c.args.self.now.procedure) c.args.self.now.store c.args.worker c.args.name tenant frame c.args.after.now on.owner c.let_go.new.self (inl c.in-Wait.is) (sym c.if-not-has_child.ensures) c.let_go.ensures
+    waits-came (g.P.Procedure.functions c.args.self.now.procedure) c.args.self.now.store c.args.worker c.args.name tenant frame c.args.after.now on.owner
+    c.let_go.new.self (inl c.in-Wait.is) (sym c.if-not-has_child.ensures) c.let_go.ensures
 
 pub returns-then-has_child-clause-came : goal.returns-then-has_child-clause-came
 returns-then-has_child-clause-came g c tenant frame on root =
-    waits-came (g.P.Procedure.functions c.args.self.now.procedure) c.args.self.now.store c.args.worker c.args.name tenant frame c.args.after.now on.owner c.let_go-then-has_child.new.self (inr c.in-Return.is) (sym c.if-has_child.ensures) c.let_go-then-has_child.ensures
+    waits-came (g.P.Procedure.functions c.args.self.now.procedure) c.args.self.now.store c.args.worker c.args.name tenant frame c.args.after.now on.owner
+    c.let_go-then-has_child.new.self (inr c.in-Return.is) (sym c.if-has_child.ensures) c.let_go-then-has_child.ensures
 
 pub returns-else-has_child-clause-came : goal.returns-else-has_child-clause-came
 returns-else-has_child-clause-came g c tenant frame on root =
-    return-came (g.P.Procedure.functions c.args.self.now.procedure) c.args.self.now.store c.args.worker c.args.name tenant frame c.args.after.now on.owner c.let_go-in-Return.new.self c.args.is_root c.in-Return.is on.found (sym c.if-has_child.ensures) c.let_go-in-Return.ensures root
+    return-came (g.P.Procedure.functions c.args.self.now.procedure) c.args.self.now.store c.args.worker c.args.name tenant frame c.args.after.now on.owner
+    c.let_go-in-Return.new.self c.args.is_root c.in-Return.is on.found (sym c.if-has_child.ensures) c.let_go-in-Return.ensures root
 
 pub let_go-requires-clause-held : goal.let_go-requires-clause-held
 let_go-requires-clause-held g c = let s = c.requires in held-by-runner c.args.self.now.store c.args.name c.args.worker c.args.after.now s.0 s.1 s.2

@@ -12,5 +12,6 @@ returns g c =
     let own = c.in_ok-own.ensures.words in
     let words = c.known-above.ensures.words in
     record {
-      refusal = inlet-told (g.P.Procedure.functions c.args.self.now.procedure) c.args.self.now.store c.args.worker c.args.name s.0 s.1 _ c.in_ok-own.parent c.inlet-act.result c.may_take_in.result c.known-above.ensures.rising s.3 (rw (own, words) at c.inlet-act.ensures) (rw words at c.may_take_in.ensures);
+      refusal = inlet-told (g.P.Procedure.functions c.args.self.now.procedure) c.args.self.now.store c.args.worker c.args.name s.0 s.1 _ c.in_ok-own.parent
+          c.inlet-act.result c.may_take_in.result c.known-above.ensures.rising s.3 (rw (own, words) at c.inlet-act.ensures) (rw words at c.may_take_in.ensures);
     }

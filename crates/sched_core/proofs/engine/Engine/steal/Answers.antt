@@ -9,11 +9,13 @@ returns-in_err-may_steal-clause-step_result g c =
 
 pub run-requires-clause-left : goal.run-requires-clause-left
 run-requires-clause-left g c =
-    let t = steal-going (g.P.Procedure.functions c.args.self.now.procedure) c.args.self.now.store c.args.worker c.args.name c.args.from c.in_ok-may_steal.ensures.refusal in
+    let functions = g.P.Procedure.functions c.args.self.now.procedure in
+    let t = steal-going functions c.args.self.now.store c.args.worker c.args.name c.args.from c.in_ok-may_steal.ensures.refusal in
     step-left (begins c.args.name.tenant t.tenant c.args.self.now.store t.owner) t.passes.1.1.0
 
 pub returns-clause-step_result : goal.returns-clause-step_result
 returns-clause-step_result g c =
-    let t = steal-going (g.P.Procedure.functions c.args.self.now.procedure) c.args.self.now.store c.args.worker c.args.name c.args.from c.in_ok-may_steal.ensures.refusal in
+    let functions = g.P.Procedure.functions c.args.self.now.procedure in
+    let t = steal-going functions c.args.self.now.store c.args.worker c.args.name c.args.from c.in_ok-may_steal.ensures.refusal in
     let w = begins c.args.name.tenant t.tenant c.args.self.now.store t.owner in
     step_result-taken _ _ _ _ _ _ t.among refl (rw (found-serial t.tenant.frames c.args.name.serial t.frame t.found) (then-run w _ _ _ c.run.ensures.ran).is)

@@ -11,24 +11,27 @@ returns-in_err-may_submit-clause-step_result g c =
 
 pub begin_job-requires-clause-there : goal.begin_job-requires-clause-there
 begin_job-requires-clause-there g c =
-    let o = submit-opens (g.P.Procedure.functions c.args.self.now.procedure) _ c.args.number c.args.words.now c.args.size c.in_ok-may_submit.ensures.refusal _ c.open-root.ensures.opened in
+    let functions = g.P.Procedure.functions c.args.self.now.procedure in
+    let o = submit-opens functions _ c.args.number c.args.words.now c.args.size c.in_ok-may_submit.ensures.refusal _ c.open-root.ensures.opened in
     with-there _ _ _ _ o.1
 
 pub begin_job-requires-clause-room : goal.begin_job-requires-clause-room
 begin_job-requires-clause-room g c =
-    let o = submit-opens (g.P.Procedure.functions c.args.self.now.procedure) _ c.args.number c.args.words.now c.args.size c.in_ok-may_submit.ensures.refusal _ c.open-root.ensures.opened in
+    let functions = g.P.Procedure.functions c.args.self.now.procedure in
+    let o = submit-opens functions _ c.args.number c.args.words.now c.args.size c.in_ok-may_submit.ensures.refusal _ c.open-root.ensures.opened in
     rw o.1.there (grind (arith, nat_tests, o.0.passes.1.0))
 
 pub begin_job-requires-clause-fresh : goal.begin_job-requires-clause-fresh
 begin_job-requires-clause-fresh g c =
-    let o = submit-opens (g.P.Procedure.functions c.args.self.now.procedure) _ c.args.number c.args.words.now c.args.size c.in_ok-may_submit.ensures.refusal _ c.open-root.ensures.opened in
+    let functions = g.P.Procedure.functions c.args.self.now.procedure in
+    let o = submit-opens functions _ c.args.number c.args.words.now c.args.size c.in_ok-may_submit.ensures.refusal _ c.open-root.ensures.opened in
     let fresh = fresh-root o.0.tenant (shaped-in c.args.number c.args.self.now.store.tenants o.0.tenant c.requires o.0.owner) in
     rw (o.1.there, c.open-root.ensures.name, o.0.owner) fresh
 
 pub returns-clause-step_result : goal.returns-clause-step_result
 returns-clause-step_result g c =
-    let o = submit-opens (g.P.Procedure.functions c.args.self.now.procedure) _ c.args.number c.args.words.now c.args.size c.in_ok-may_submit.ensures.refusal _ c.open-root.ensures.opened in
+    let functions = g.P.Procedure.functions c.args.self.now.procedure in
+    let o = submit-opens functions _ c.args.number c.args.words.now c.args.size c.in_ok-may_submit.ensures.refusal _ c.open-root.ensures.opened in
     let name : c.open-root.result ≡ record { tenant = c.args.number; serial = o.0.tenant.serials + 1 } = rw o.0.owner at c.open-root.ensures.name in
-    let begun : c.begin_job.new.self ≡ on_tenant c.args.number (with_job (Live (o.0.tenant.serials + 1))) c.open-root.new.self = rw name at c.begin_job.ensures in
-    let w2 = then-changed _ _ _ _ c.begin_job.new.self (with_job (Live (o.0.tenant.serials + 1))) o.1 begun in
+    let w2 = then-changed _ _ _ _ c.begin_job.new.self (with_job (Live (o.0.tenant.serials + 1))) o.1 (rw name at c.begin_job.ensures) in
     step_result-taken _ c.args.self.now.store _ _ _ _ o.0.among (rw (name, c.job_count.ensures.count, o.0.owner) refl) w2.is

@@ -23,13 +23,15 @@ loop-step-preserved g c =
 pub returns-clause-headline : goal.returns-clause-headline
 returns-clause-headline g c =
     let runs = rw (take-all c.args.steps.now c.loop-step.step-index c.loop-step-test.false, c.in_ok-reserve.ensures.items) at c.loop-step.invariant.runs in
-    runs-out (g.P.Procedure.functions c.args.self.now.procedure) c.args.self.now.shared c.args.steps.now c.args.answers.now.items c.loop-step.answers.items c.loop-step.self.shared
+    runs-out (g.P.Procedure.functions c.args.self.now.procedure) c.args.self.now.shared c.args.steps.now c.args.answers.now.items c.loop-step.answers.items
+    c.loop-step.self.shared
     (rw (← c.self.view_is) c.self.invariant.kept.known) runs
 
 pub returns-clause-fitting : goal.returns-clause-fitting
 returns-clause-fitting g c =
     let runs = rw (take-all c.args.steps.now c.loop-step.step-index c.loop-step-test.false, c.in_ok-reserve.ensures.items) at c.loop-step.invariant.runs in
     let procedure = c.args.self.now.procedure in
-    fits-on {functions = g.P.Procedure.functions procedure} {fits = g.P.Procedure.fits procedure} {rooted = g.P.Procedure.rooted procedure} c.args.self.now.shared
-    (record { next = g.met.P.Procedure.next_keeps procedure; inlet = g.met.P.Procedure.inlet_keeps procedure; accept = g.met.P.Procedure.accept_keeps procedure }) c.args.steps.now c.args.answers.now.items c.loop-step.answers.items c.loop-step.self.shared
-    (rw (← c.self.view_is) c.self.invariant.kept) runs
+    let own = g.met.P.Procedure in
+    fits-on {functions = g.P.Procedure.functions procedure} {fits = g.P.Procedure.fits procedure} {rooted = g.P.Procedure.rooted procedure}
+    c.args.self.now.shared (record { next = own.next_keeps procedure; inlet = own.inlet_keeps procedure; accept = own.accept_keeps procedure })
+    c.args.steps.now c.args.answers.now.items c.loop-step.answers.items c.loop-step.self.shared (rw (← c.self.view_is) c.self.invariant.kept) runs

@@ -6,5 +6,6 @@ abbrev pub invariant-loop-step : goal.invariant-loop-step
 invariant-loop-step g l = record {
   procedure : l.self.procedure ≡ l.initial.self.procedure;
   room : vec_len l.answers + length l.steps ≤ vec_capacity l.answers + l.step-index;
-  runs : IsRunning (g.P.Procedure.functions l.initial.self.procedure) l.initial.self.shared (take l.step-index l.steps) l.initial.answers.items l.answers.items l.self.shared;
+  runs : IsRunning (g.P.Procedure.functions l.initial.self.procedure) l.initial.self.shared (take l.step-index l.steps) l.initial.answers.items
+      l.answers.items l.self.shared;
 }

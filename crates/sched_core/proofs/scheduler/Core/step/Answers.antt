@@ -5,8 +5,9 @@ use Rattle.sched_core.proofs.scheduler.Core.step.Goals as goal
 pub invariant_of-self : goal.invariant_of-self
 invariant_of-self g c =
     let procedure = c.self.inside.engine.procedure in
+    let own = g.met.P.Procedure in
     rw c.step.ensures.procedure (kept-fitting (g.P.Procedure.functions procedure) (g.P.Procedure.fits procedure) (g.P.Procedure.rooted procedure) _ _ _ _ _ _
-    (record { next = g.met.P.Procedure.next_keeps procedure; inlet = g.met.P.Procedure.inlet_keeps procedure; accept = g.met.P.Procedure.accept_keeps procedure })
+    (record { next = own.next_keeps procedure; inlet = own.inlet_keeps procedure; accept = own.accept_keeps procedure })
     c.self.invariant c.step.ensures.one c.stays_fitting-self-inside.ensures.before (λ so ok. c.stays_fitting-self-inside.ensures.root so))
 
 pub returns-clause-known : goal.returns-clause-known
@@ -18,8 +19,11 @@ returns-clause-known_before g c = rw (← c.self.view_is) c.self.invariant.kept.
 pub returns-clause-fitting : goal.returns-clause-fitting
 returns-clause-fitting g c =
     let procedure = c.self.inside.engine.procedure in
-    rw (← c.self.view_is) (fits-still {functions = g.P.Procedure.functions procedure} {fits = g.P.Procedure.fits procedure} {rooted = g.P.Procedure.rooted procedure} _
-    (record { next = g.met.P.Procedure.next_keeps procedure; inlet = g.met.P.Procedure.inlet_keeps procedure; accept = g.met.P.Procedure.accept_keeps procedure }) _ _ _ c.self.invariant.kept c.step.ensures.one)
+    let own = g.met.P.Procedure in
+    rw (← c.self.view_is)
+    (fits-still {functions = g.P.Procedure.functions procedure} {fits = g.P.Procedure.fits procedure} {rooted = g.P.Procedure.rooted procedure} _
+    (record { next = own.next_keeps procedure; inlet = own.inlet_keeps procedure; accept = own.accept_keeps procedure })
+    _ _ _ c.self.invariant.kept c.step.ensures.one)
 
 pub returns-clause-kept : goal.returns-clause-kept
 returns-clause-kept g c = kept-still _ _ _ _ _ c.self.invariant.kept c.step.ensures.one

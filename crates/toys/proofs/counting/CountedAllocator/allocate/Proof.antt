@@ -9,6 +9,10 @@ use Rattle.toys.specs.contracts.counting.Counted as L
 use Rattle.toys.proofs.Asked.{asked_key, Asks, at_asked, Told, shown_val, seen_if, Shown-typed, asked_goes, asked_gives}
 use Rattle.toys.proofs.counting.Counted.asked.Met as asked_met
 
+-- a value of the answer's type
+abbrev IsTyped : Val → Type 0
+IsTyped z = T (has_ty (layout Answer) z) × WT z
+
 module _ (Z : Al) where
   abbrev args : Args
   args = bounded (a_type ∷ []) (Z.row, tt) (dcons Z.d (dcons Z.drops dnil))
@@ -63,27 +67,30 @@ module _ (Z : Al) {M : Type 1} {𝓤 : Ura M} (𝓛 : Logic 𝓤) (at_mem : Memo
 
       shown : (f : Option (Bor Z.row.Denot)) → Seq (Go {0}) 𝓛 (had f) (lands 𝓣.C 𝓣.Λ En (place 5 []) u (after 1 (here Z).body) (at_ret En Post))
       shown None =
-          learn ! (λ k. split3 ! $ lands_as ! k.0 refl (Shown-typed Z None) $
-          first ! $ switches_on ! (get_tag ! (vrt ! refl (fld ! refl (stop !))) (whole !)) $ exec ! 𝓣.C 𝓣.Λ En (arm_body 1 (front (after 1 (here Z).body))) Then $
-          sets ! (agg ! (no_more !)) refl (tt, tt) $ sets_last ! (agg ! (and_then ! (lit ! tt) (and_then ! (get ! refl) (no_more !)))) refl (Answer-typed false 0 0) $
-          exec ! 𝓣.C 𝓣.Λ En (after 2 (here Z).body) (at_ret En Post) $ sets ! (of_opd ! (get ! refl)) refl (Answer-typed false 0 0) $ returns ! (look_at ! 0 refl) $ free_all ! refl $
-          use0 𝓛 (‵ (Answer.own_val (Err (record {})) (answer_val false 0 0 ∷ []))) (Answer-err 𝓛) $ by ! (exits (answer_val false 0 0) (Err (record {}))))
+          learn ! (λ k. split3 ! $ lands_as ! k.0 refl (Shown-typed Z None) $ first ! $ switches_on ! (get_tag ! (vrt ! refl (fld ! refl (stop !))) (whole !)) $
+          exec ! 𝓣.C 𝓣.Λ En (arm_body 1 (front (after 1 (here Z).body))) Then $ sets ! (agg ! (no_more !)) refl (tt, tt) $
+          sets_last ! (agg ! (and_then ! (lit ! tt) (and_then ! (get ! refl) (no_more !)))) refl (Answer-typed false 0 0) $
+          exec ! 𝓣.C 𝓣.Λ En (after 2 (here Z).body) (at_ret En Post) $ sets ! (of_opd ! (get ! refl)) refl (Answer-typed false 0 0) $
+          returns ! (look_at ! 0 refl) $ free_all ! refl $ use0 𝓛 (‵ (Answer.own_val (Err (record {})) (answer_val false 0 0 ∷ []))) (Answer-err 𝓛) $
+          by ! (exits (answer_val false 0 0) (Err (record {}))))
       shown (Some g) =
           let y : (Takes Z 𝓛 at_mem run).Ghost = at_takes Z 𝓛 at_mem run κ q g.ref_ptr g.now n a τ in
-          learn ! (λ k. split3 ! $ lands_as ! k.0 refl (Shown-typed Z (Some g)) $
-          first ! $ switches_on ! (get_tag ! (vrt ! refl (fld ! refl (stop !))) (whole !)) $ exec ! 𝓣.C 𝓣.Λ En (arm_body 0 (front (after 1 (here Z).body))) Then $
+          learn ! (λ k. split3 ! $ lands_as ! k.0 refl (Shown-typed Z (Some g)) $ first ! $
+          switches_on ! (get_tag ! (vrt ! refl (fld ! refl (stop !))) (whole !)) $ exec ! 𝓣.C 𝓣.Λ En (arm_body 0 (front (after 1 (here Z).body))) Then $
           sets ! (of_opd ! (get_in ! (vrt ! refl (fld ! refl (stop !))) (in_variant ! 1 0 refl refl (whole !)))) refl (tt, tt) $
           use2 𝓛 (raw ((Takes Z 𝓛 at_mem run).pre y)) (Takes-goes Z 𝓛 at_mem run κ q g.ref_ptr g.now (⊑_trans κ ρ Z.row.lives out le) n a τ said.0 said.1 fn fa) $
           calls_at_last ! (fm_of 𝓤 H 𝓛.laws 𝓣) (Takes Z 𝓛 at_mem run) tk y (and_then ! (get ! refl) (and_then ! (get ! refl) (and_then ! (get ! refl) (no_more !)))) (λ v.
-          use1 𝓛 (later (raw (Answered Z 𝓛 at_mem run g.now τ v) ⊛ ‵ (flft κ q))) (Takes-gives Z 𝓛 at_mem run κ q g.ref_ptr g.now n a τ v) $ await ! tt $ split ! $
-          answers Z ! at_mem run g.now τ v
+          use1 𝓛 (later (raw (Answered Z 𝓛 at_mem run g.now τ v) ⊛ ‵ (flft κ q))) (Takes-gives Z 𝓛 at_mem run κ q g.ref_ptr g.now n a τ v) $ await ! tt $
+          split ! $ answers Z ! at_mem run g.now τ v
           (λ b o e. rewrite ! 1 (λ (z : Z.row.Denot). ‵ (token Z z τ (block_ptr b o))) k.1 refl $ fjoin ! $
-          lands_last ! refl (subst (λ (z : Val). T (has_ty (layout Answer) z) × WT z) (sym e) (Answer-typed true b o)) $
-          exec ! 𝓣.C 𝓣.Λ En (after 2 (here Z).body) (at_ret En Post) $ sets ! (of_opd ! (get ! refl)) refl (subst (λ (z : Val). T (has_ty (layout Answer) z) × WT z) (sym e) (Answer-typed true b o)) $ returns ! (look_at ! 0 refl) $ free_all ! refl $
-          use0 𝓛 (‵ (Answer.own_val (Ok (block_ptr b o)) (answer_val true b o ∷ []))) (Answer-Ok 𝓛 b o) $ rewrite ! 0 (λ (z : Val). ‵ (Answer.own_val (Ok (block_ptr b o)) (z ∷ []))) (sym e) refl $ by ! (exits v (Ok (block_ptr b o))))
-          (λ e. nothing ! $ lands_last ! refl (subst (λ (z : Val). T (has_ty (layout Answer) z) × WT z) (sym e) (Answer-typed false 0 0)) $
-          exec ! 𝓣.C 𝓣.Λ En (after 2 (here Z).body) (at_ret En Post) $ sets ! (of_opd ! (get ! refl)) refl (subst (λ (z : Val). T (has_ty (layout Answer) z) × WT z) (sym e) (Answer-typed false 0 0)) $ returns ! (look_at ! 0 refl) $ free_all ! refl $
-          use0 𝓛 (‵ (Answer.own_val (Err (record {})) (answer_val false 0 0 ∷ []))) (Answer-err 𝓛) $ rewrite ! 0 (λ (z : Val). ‵ (Answer.own_val (Err (record {})) (z ∷ []))) (sym e) refl $ by ! (exits v (Err (record {}))))))
+          lands_last ! refl (subst IsTyped (sym e) (Answer-typed true b o)) $ exec ! 𝓣.C 𝓣.Λ En (after 2 (here Z).body) (at_ret En Post) $
+          sets ! (of_opd ! (get ! refl)) refl (subst IsTyped (sym e) (Answer-typed true b o)) $ returns ! (look_at ! 0 refl) $ free_all ! refl $
+          use0 𝓛 (‵ (Answer.own_val (Ok (block_ptr b o)) (answer_val true b o ∷ []))) (Answer-Ok 𝓛 b o) $
+          rewrite ! 0 (λ (z : Val). ‵ (Answer.own_val (Ok (block_ptr b o)) (z ∷ []))) (sym e) refl $ by ! (exits v (Ok (block_ptr b o))))
+          (λ e. nothing ! $ lands_last ! refl (subst IsTyped (sym e) (Answer-typed false 0 0)) $ exec ! 𝓣.C 𝓣.Λ En (after 2 (here Z).body) (at_ret En Post) $
+          sets ! (of_opd ! (get ! refl)) refl (subst IsTyped (sym e) (Answer-typed false 0 0)) $ returns ! (look_at ! 0 refl) $ free_all ! refl $
+          use0 𝓛 (‵ (Answer.own_val (Err (record {})) (answer_val false 0 0 ∷ []))) (Answer-err 𝓛) $
+          rewrite ! 0 (λ (z : Val). ‵ (Answer.own_val (Err (record {})) (z ∷ []))) (sym e) refl $ by ! (exits v (Err (record {}))))))
 
     walk : n < 2 ^ 64 → a < 2 ^ 64 → ent 𝓤 ((walk_of 𝓛 (ended Z) (stayed Z) held).pre bound) (WpFn 𝓤 H 𝓣.C 𝓣.Λ (here Z) vs Post)
     walk fn fa =
@@ -99,10 +106,13 @@ pub allocate_spec : {M : Type 1} → stated.statement M
 unfolding tables_of
 allocate_spec 𝓤 𝓛 𝓜 𝓡 wired Y L g d d' met _ =
     let Z : Al = record { row = Y; laws = L; g = g; d = d; drops = d' } in
-    let A = 𝓛.A in
     let 𝓣 : Tables 𝓤 𝓛.H = tables_of 𝓤 𝓛.H 𝓜 (tables 𝓤 𝓛.H 𝓜 𝓡 𝓡.env) in
     let c = F.clauses Y g d d' 𝓛 𝓜.mem 𝓡.returns in
-    entered 𝓤 𝓛.H (triple_of 𝓛 (F.signature Y) (F.spec Y g d d' 𝓛 𝓜.mem 𝓡.returns)) 𝓣.C 𝓣.Λ (key.name (args Z)) (here Z) (code.unfolded 𝓤 𝓛.H 𝓜 𝓡 wired (Y, tt) d d')
-    (walk_Meets 𝓛 (ended Z) (stayed Z) (Goes-dropped 𝓛 2 (self Z) yes (λ κs x f. refl), (Goes-dropped 𝓛 2 (plain (λ _. usize)) yes (λ κs x f. refl), (Goes-dropped 𝓛 2 (plain (λ _. usize)) yes (λ κs x f. refl), tt))) c (WpFn 𝓤 𝓛.H 𝓣.C 𝓣.Λ (here Z)) (WpFn-mono 𝓤 𝓛.H 𝓛.laws 𝓣 (here Z))
-    (walked 𝓛 (ended Z) (stayed Z) c (WpFn 𝓤 𝓛.H 𝓣.C 𝓣.Λ (here Z)) (λ κs. (shr_vals, (uint_vals w64, (uint_vals w64, tt)))) (λ κs. ((λ r vs s. s.0), (uint_Tells w64, (uint_Tells w64, tt))))
-    (λ κs qs bounds a τ are. walk Z 𝓛 𝓜.mem 𝓡.returns 𝓣 (met.allocate d') (asked_met.met 𝓤 𝓛 𝓜 𝓡 (code.calls-toys::counting::Counted::asked 𝓡.env wired) Y L) κs.0 κs.1.0 qs.0 qs.1.0 bounds.0 a.0 a.1.0 a.1.1.0 τ are.1.0.1 are.1.1.0.1)))
+    let wp = WpFn 𝓤 𝓛.H 𝓣.C 𝓣.Λ (here Z) in
+    let asks = asked_met.met 𝓤 𝓛 𝓜 𝓡 (code.calls-toys::counting::Counted::asked 𝓡.env wired) Y L in
+    let sizes = Goes-dropped 𝓛 2 (plain (λ _. usize)) yes (λ κs x f. refl) in
+    entered 𝓤 𝓛.H (triple_of 𝓛 (F.signature Y) (F.spec Y g d d' 𝓛 𝓜.mem 𝓡.returns)) 𝓣.C 𝓣.Λ (key.name (args Z)) (here Z)
+    (code.unfolded 𝓤 𝓛.H 𝓜 𝓡 wired (Y, tt) d d')
+    (walk_Meets 𝓛 (ended Z) (stayed Z) (Goes-dropped 𝓛 2 (self Z) yes (λ κs x f. refl), (sizes, (sizes, tt))) c wp (WpFn-mono 𝓤 𝓛.H 𝓛.laws 𝓣 (here Z))
+    (walked 𝓛 (ended Z) (stayed Z) c wp (λ κs. (shr_vals, (uint_vals w64, (uint_vals w64, tt)))) (λ κs. ((λ r vs s. s.0), (uint_Tells w64, (uint_Tells w64, tt))))
+    (λ κs qs bounds a τ are. walk Z 𝓛 𝓜.mem 𝓡.returns 𝓣 (met.allocate d') asks κs.0 κs.1.0 qs.0 qs.1.0 bounds.0 a.0 a.1.0 a.1.1.0 τ are.1.0.1 are.1.1.0.1)))

@@ -1,6 +1,0 @@
-use Rattle.session.proofs.Common.{refl, digits, squares}
-use Rattle.session.proofs.rows.a_table_is_asked_for.Goals as goal
-
-pub returns : goal.returns
-unfolding digits squares
-returns c = record { calls = refl; out = refl }

@@ -1,6 +1,0 @@
-use Rattle.solve_engine.proofs.Common.{refl, digits, squares, squares_beside, in_order, weights, minimax, best_choice}
-use Rattle.solve_engine.proofs.rows.opening_at_depth_2.Goals as goal
-
-pub returns : goal.returns
-unfolding digits squares squares_beside in_order weights minimax best_choice
-returns c = refl
