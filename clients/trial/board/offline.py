@@ -5,6 +5,12 @@ import subprocess
 from browsers import opened
 from stand import GAME, NAMES, PAGE, SCORES, TEXT, TOP, check, chosen, files, free_port, play, random_moves, settled, until, whole_game, worths
 
+# Whether each script and style that the page has asked for is kept.
+KEPT = """(caches.open('board').then(async (kept) => {
+    const there = new Set((await kept.keys()).map((one) => one.url));
+    window.left = performance.getEntriesByType('resource').filter(({ name }) => /[.](js|css)$/.test(name) && !there.has(name)).length + (there.size < 2);
+  }), window.left === 0)"""
+
 
 def brief(value, ends):
     """A value as a square shows it."""
@@ -42,7 +48,7 @@ def try_again(name):
     with opened(name) as shown:
         with files(port) as address:
             shown.open(f"{address}#moves=f5d6&depth=2")
-            shown.until("the page is kept", "(caches.open('board').then(async (one) => { window.count = (await one.keys()).length; }), window.count > 30)", 60)
+            shown.until("the page is kept", KEPT, 60)
         shown.open(f"{address}#moves={whole_game(2)[:40]}&depth=2")
         shown.known()
         check(shown.evaluate(f"Object.keys({SCORES}).length") > 0, f"{name}: no values without the server")

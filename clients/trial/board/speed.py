@@ -30,7 +30,7 @@ def try_shifts(name, address, shapes):
             there = shown.evaluate(PLACES)
             for move in (*MOVES, ""):
                 play(shown, [move] if move else [])
-                shown.known() if not move else shown.until("a value", "document.querySelector('.score')")
+                shown.known() if not move else shown.until("a value", "!!document.querySelector('.score')")
                 moved = {part: place for part, place in shown.evaluate(PLACES).items() if any(abs(one - other) > 1 for one, other in zip(place, there[part]))}
                 check(not moved, f"{name} at {width}: behind {move or 'all moves'} these jump: {moved}, from {there}")
             counted.append(shown.evaluate("window.shifts ?? 0"))
