@@ -1,5 +1,5 @@
 """Tells when this machine stood still: on each processor a thread of real-time priority wakes each 5 ms, and where it is late by 20 ms or more, its processor was
-taken away (a virtual one by its host). Prints a line for each: from when to when, on the clock of time.monotonic. It ends with its standard input; usage: deploy/trial/stood.py"""
+taken away (a virtual one by its host). Prints a line for each: from when to when, on the clock of time.monotonic. It ends with its standard input; usage: python3 deploy/trial/stood.py"""
 from __future__ import annotations
 
 import os
