@@ -78,7 +78,7 @@ def test_the_program_for_the_processor(tmp_path: pathlib.Path, monkeypatch: pyte
         about.write_text(f"processor\t: 0\nflags\t\t: {flags}\nbugs\t\t: spectre_v1\n")
         assert runs_v3(str(about)) is holds
     assert not runs_v3(str(tmp_path / "none"))
-    here = tmp_path / "coluwen/engine.py"
+    here = tmp_path / "a/python3/dist-packages/coluwen/engine.py"
     (here.parent / "program").mkdir(parents=True)
     for name in ("othello", "othello-v3"):
         (here.parent / "program" / name).write_text("#!/bin/sh\n")
@@ -91,8 +91,9 @@ def test_the_program_for_the_processor(tmp_path: pathlib.Path, monkeypatch: pyte
     (tmp_path / "othello").write_text("#!/bin/sh\n")
     (tmp_path / "othello").chmod(0o755)
     assert programs_here()[0] == str(tmp_path / "othello")
-    monkeypatch.setattr(engine_module, "HERE", tmp_path / "clients/python/src/coluwen/engine.py")
     monkeypatch.setenv("PATH", "")
+    assert [pathlib.Path(one).parent.name for one in programs_here()] == ["program"]  # what lies above a package that is installed isn't its own
+    monkeypatch.setattr(engine_module, "HERE", tmp_path / "clients/python/src/coluwen/engine.py")
     assert programs_here() == [str(tmp_path / "othello")]  # an archive's
     (tmp_path / "crates").mkdir()
     assert not programs_here()  # a checkout's is a script that builds

@@ -49,11 +49,14 @@ def program_of(named: str | None = None) -> tuple[str, str]:
 
 def programs_here() -> list[str]:
     """Where the program may be, the first to be tried first: beside `othello` may lie `othello-v3`, built for processors with AVX2."""
-    own, top = HERE.parent / "program", HERE.parents[min(4, len(HERE.parents) - 1)]
-    built = top / "crates/othello_server/out"  # of a checkout, whose own `othello` is a script
+    own = HERE.parent / "program"
     names = ["othello-v3", "othello"] if runs_v3() else ["othello"]
-    released = [folder / name for folder in (own, top) if folder == own or not (top / "crates").exists() for name in names]
-    there = [str(path) for path in (*released, built / "othello_server", built / "unproved/othello") if os.access(path, os.X_OK)]
+    places = [own / name for name in names]
+    if HERE.parts[-5:-1] == ("clients", "python", "src", "coluwen"):  # of an archive, or of a checkout, whose own `othello` is a script
+        top = HERE.parents[4]
+        built = top / "crates/othello_server/out"
+        places += [built / "othello_server", built / "unproved/othello"] if (top / "crates").exists() else [top / name for name in names]
+    there = [str(path) for path in places if os.access(path, os.X_OK)]
     return [found, *there] if (found := shutil.which("othello")) else there
 
 
