@@ -104,7 +104,7 @@ def figures(files):
         "crates": len(crates),
         "crates:serve": len(below("othello_server", [])),
         "edits": sum(1 for name in files if re.fullmatch(r"crates/\w+/must-fail/\w+\.edit", name)),
-        "bodies": sum(1 for name in files if re.fullmatch(r"crates/\w+/must-fail/(more/)?\w+\.edit", name)),
+        "bodies": sum(1 for name in files if re.fullmatch(r"crates/\w+/(must-fail|wrong-bodies)/\w+\.edit", name)),
         "tests": sum((TOP / name).read_text().count("#[test]") for name in files if name.startswith("crates/") and name.endswith(".rt")),
         "lines:specs": lines_of(files, r"crates/\w+/specs/.*\.antt"),
         "lines:proofs": lines_of(files, r"crates/\w+/proofs/.*\.antt"),
@@ -328,6 +328,17 @@ def name_faults(files):
         yield f"docs/GLOSSARY.md: {word} is defined in {' and '.join(sorted(crates[word])) or 'no crate'}: one name for one thing"
 
 
+def lemma_faults(files):
+    """The lemmas of an equation or an order whose words `_` joins, but for those that an attribute of the code cites: its paths have no hyphen."""
+    cited = {word for name in files if name.endswith(".rt") for word in re.findall(r"\bproofs::(?:\w+::)*(\w+)", (TOP / name).read_text())}
+    for name in files:
+        if re.fullmatch(r"crates/\w+/proofs/.*\.antt", name):
+            text = (TOP / name).read_text()
+            for _, word, said in re.findall(r"^( *)(?:pub )?([a-z]\w*_\w*) : (.*(?:\n\1 +\S.*)*)\n\1\2 ", text, flags=re.M):
+                if re.search("[≡≢≤<⊥]", said.rpartition("→")[2]) and word not in cited:
+                    yield f"{name}: {word.replace('_', '-')}, as lemmas are spelled, for {word}"
+
+
 def documents():
     found = [TOP / "README.md", TOP / "CONTRIBUTING.md", TOP / "CHANGELOG.md", TOP / "SECURITY.md", TOP / "clients/README.md", *sorted((TOP / "docs").glob("*.md")), *BY_HAND]
     return [path for path in found if path.exists()]
@@ -384,7 +395,7 @@ def main():
     if not words:
         others = [TOP / name for name in files if name.endswith(".md") and not name.startswith("docs/") and TOP / name not in documents()]
         linked = [f"{other.relative_to(TOP)}: {fault}" for other in others for fault in link_faults(other, other.read_text())]
-        for fault in sorted({*head_faults(files, names), *name_faults(files), *linked, *version_faults(), *count_words()[2]}):
+        for fault in sorted({*head_faults(files, names), *name_faults(files), *lemma_faults(files), *linked, *version_faults(), *count_words()[2]}):
             print(fault)
             bad += 1
         for script in MADE:

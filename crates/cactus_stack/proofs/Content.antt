@@ -229,20 +229,20 @@ module _ {region : Segments} {n len : ℕ} (sound : IsSoundList region n len) wh
 
   -- the segment that holds a place
   module _ (at : ℕ) (below : at < len) where
-    pub place_is_taken : IsTaken region (get_or (segments_of region n len) (at / 16) 0) × (length (words_at region (get_or (segments_of region n len) (at / 16) 0)) ≡ 16)
-    place_is_taken =
+    pub place-is_taken : IsTaken region (get_or (segments_of region n len) (at / 16) 0) × (length (words_at region (get_or (segments_of region n len) (at / 16) 0)) ≡ 16)
+    place-is_taken =
         blocks-get_or region (segments_of region n len) (at / 16) sound.is_chain.blocks (omega (arith, sound.is_chain.whole, charge-below at len below))
 
     -- links lead to it
-    pub front_of_sound : IsChain region (chain (suc (at / 16)) region (Some n)) (suc (at / 16))
-    front_of_sound = chain-front region (Some n) (suc (at / 16)) (charge len) (omega (arith, charge-below at len below)) sound.is_chain
+    pub front-of-sound : IsChain region (chain (suc (at / 16)) region (Some n)) (suc (at / 16))
+    front-of-sound = chain-front region (Some n) (suc (at / 16)) (charge len) (omega (arith, charge-below at len below)) sound.is_chain
 
-    pub place_of_sound : get_or (chain (suc (at / 16)) region (Some n)) (at / 16) 0 ≡ get_or (segments_of region n len) (at / 16) 0
-    place_of_sound = chain-front-get_or region (Some n) (at / 16) (suc (at / 16)) (charge len) (omega arith) (omega (arith, charge-below at len below))
+    pub place-of-sound : get_or (chain (suc (at / 16)) region (Some n)) (at / 16) 0 ≡ get_or (segments_of region n len) (at / 16) 0
+    place-of-sound = chain-front-get_or region (Some n) (at / 16) (suc (at / 16)) (charge len) (omega arith) (omega (arith, charge-below at len below))
 
     -- the word at a place is in its segment
-    pub word_of_sound : slice_get (words_in_chain region n len) at ≡ Some (get_or (words_at region (get_or (segments_of region n len) (at / 16) 0)) (at % 16) 0)
-    word_of_sound =
+    pub word-of-sound : slice_get (words_in_chain region n len) at ≡ Some (get_or (words_at region (get_or (segments_of region n len) (at / 16) 0)) (at % 16) 0)
+    word-of-sound =
         let c : List ℕ = content region (segments_of region n len) in
         let block : at / 16 < length (segments_of region n len) = omega (arith, sound.is_chain.whole, charge-below at len below) in
         let split : 16 * (at / 16) + at % 16 ≡ at = omega arith in
@@ -252,14 +252,14 @@ module _ {region : Segments} {n len : ℕ} (sound : IsSoundList region n len) wh
   -- The words of one segment.
   module _ (k : ℕ) (below : k < charge len) where
     -- links lead to it
-    pub front_of_block : IsChain region (chain (suc k) region (Some n)) (suc k)
-    front_of_block = chain-front region (Some n) (suc k) (charge len) below sound.is_chain
+    pub front-of-block : IsChain region (chain (suc k) region (Some n)) (suc k)
+    front-of-block = chain-front region (Some n) (suc k) (charge len) below sound.is_chain
 
-    pub place_of_block : get_or (chain (suc k) region (Some n)) k 0 ≡ get_or (segments_of region n len) k 0
-    place_of_block = chain-front-get_or region (Some n) k (suc k) (charge len) (omega arith) below
+    pub place-of-block : get_or (chain (suc k) region (Some n)) k 0 ≡ get_or (segments_of region n len) k 0
+    place-of-block = chain-front-get_or region (Some n) k (suc k) (charge len) (omega arith) below
 
-    pub block_is_taken : (s : ℕ) → s ≡ get_or (segments_of region n len) k 0 → IsTaken region s × (length (words_at region s) ≡ 16)
-    block_is_taken s e = rw e (blocks-get_or region (segments_of region n len) k sound.is_chain.blocks (omega (arith, sound.is_chain.whole)))
+    pub block-is_taken : (s : ℕ) → s ≡ get_or (segments_of region n len) k 0 → IsTaken region s × (length (words_at region s) ≡ 16)
+    block-is_taken s e = rw e (blocks-get_or region (segments_of region n len) k sound.is_chain.blocks (omega (arith, sound.is_chain.whole)))
 
     -- its front holds what is left of the words from its first place on
     block-words : (j : ℕ) (block : List ℕ) → j ≡ min (len - 16 * k) 16 → block ≡ words_at region (get_or (segments_of region n len) k 0) → length block ≡ 16 →
@@ -279,9 +279,9 @@ module _ {region : Segments} {n len : ℕ} (sound : IsSoundList region n len) wh
         ∙ sym (get_or-drop (16 * k) words i 0)
         ∙ sym (get_or-take 16 (drop (16 * k) words) i 0 (omega arith)))
 
-    pub words_of_block : (s j : ℕ) (block : List ℕ) → j ≡ min (len - 16 * k) 16 → s ≡ get_or (segments_of region n len) k 0 → block ≡ words_at region s →
+    pub words-of-block : (s j : ℕ) (block : List ℕ) → j ≡ min (len - 16 * k) 16 → s ≡ get_or (segments_of region n len) k 0 → block ≡ words_at region s →
         take j block ≡ take 16 (drop (16 * k) (words_in_chain region n len))
-    words_of_block s j block e there is = block-words j block e (rw there at is) (rw is (block_is_taken s there).1)
+    words-of-block s j block e there is = block-words j block e (rw there at is) (rw is (block-is_taken s there).1)
 
 pub charge_of-node_in : (region : Segments) (n len : ℕ) (parent : Option ℕ) → IsSoundList region n len → charge_of (node_in region n len parent) ≡ charge len
 charge_of-node_in region n zero parent sound = refl

@@ -7,8 +7,8 @@ module _ (old : Segments) (n : ℕ) (words : List ℕ) (link : Option ℕ) (free
   abbrev taken : Segments
   taken = with_entry old n (Some blank)
 
-  pub fresh_segment_is_filled : with_link (with_segment_words taken n (words ++ drop (length words) (words_at taken n))) n link ≡ with_entry old n (Some (filled words link))
-  fresh_segment_is_filled =
+  pub fresh-segment-is-filled : with_link (with_segment_words taken n (words ++ drop (length words) (words_at taken n))) n link ≡ with_entry old n (Some (filled words link))
+  fresh-segment-is-filled =
       let first : segment_at taken n ≡ Some blank = get_or-set_same old n (Some blank) None free.0 in
       let zeros : drop (length words) (words_at taken n) ≡ replicate (16 - length words) 0 = rw first (drop-replicate (length words) 16 0) in
       let entry : Option Segment = Some (filled words None) in
@@ -24,11 +24,11 @@ padded-twice : (words : List ℕ) (cut count : ℕ) → cut ≡ min (length word
 padded-twice words cut count is room =
     grind (arith, take_all, drop_all, append_assoc, replicate-append-replicate, length-take-le, length-drop, append-nil, take-append-drop)
 
-still_free : (old mid : Option Segment) → (IsSome old → mid ≡ old) → mid ≡ None → old ≡ None
-still_free old mid h3 h4 = grind arith
+still-free : (old mid : Option Segment) → (IsSome old → mid ≡ old) → mid ≡ None → old ≡ None
+still-free old mid h3 h4 = grind arith
 
-other_than_free : (region : Segments) (s n : ℕ) → IsTaken region s → segment_at region n ≡ None → s ≢ n
-other_than_free region s n taken free = λ e. (let none : segment_at region s ≡ None = rw e free in absurd (cc (taken, none)))
+other-than-free : (region : Segments) (s n : ℕ) → IsTaken region s → segment_at region n ≡ None → s ≢ n
+other-than-free region s n taken free = λ e. (let none : segment_at region s ≡ None = rw e free in absurd (cc (taken, none)))
 
 module _ (old mid : Segments) (rest : Option ℕ) (n : ℕ) (words : List ℕ) (cut : ℕ) (is : cut ≡ min (length words) 16) (free : IsFree mid n) where
   abbrev entry : Option Segment
@@ -38,9 +38,9 @@ module _ (old mid : Segments) (rest : Option ℕ) (n : ℕ) (words : List ℕ) (
   linked = set mid n entry
 
   -- a chain that was made goes on at its front with a segment more
-  fresh_chain_is_longer : (count : ℕ) → length words ≤ 16 * suc count → IsFreshChain old mid (chain count mid rest) (drop cut words) count →
+  fresh-chain-is-longer : (count : ℕ) → length words ≤ 16 * suc count → IsFreshChain old mid (chain count mid rest) (drop cut words) count →
       IsFreshChain old linked (chain (suc count) linked (Some n)) words (suc count)
-  fresh_chain_is_longer count room fresh =
+  fresh-chain-is-longer count room fresh =
       let new : Segments = linked in
       let xs : List ℕ = chain count mid rest in
       let here : segment_at new n ≡ entry = get_or-set_same mid n entry None free.0 in
@@ -53,28 +53,28 @@ module _ (old mid : Segments) (rest : Option ℕ) (n : ℕ) (words : List ℕ) (
       rw segments (record {
         same_count = length-set mid n entry ∙ fresh.same_count;
         counted = omega (arith, taken_count-take mid n (filled (take cut words) rest) free.0 free.1, fresh.counted);
-        kept = λ s taken. get_or-set_other mid n s entry None (other_than_free mid s n (rw (fresh.kept s taken) taken) free.1) ∙ fresh.kept s taken;
+        kept = λ s taken. get_or-set_other mid n s entry None (other-than-free mid s n (rw (fresh.kept s taken) taken) free.1) ∙ fresh.kept s taken;
         is_chain = grind (arith, blocks-agrees);
-        were_free = ((rw (← fresh.same_count) free.0, still_free (segment_at old n) (segment_at mid n) (fresh.kept n) free.1), fresh.were_free);
+        were_free = ((rw (← fresh.same_count) free.0, still-free (segment_at old n) (segment_at mid n) (fresh.kept n) free.1), fresh.were_free);
         holds = rw (here, content-agrees mid new xs agrees, fresh.holds) (padded-twice words cut count is room);
       })
 
   -- the same, where the count is given as one number
-  pub fresh_chain_grows : (new : Segments) (count : ℕ) → 0 < count → length words ≤ 16 * count → IsFreshChain old mid (chain (count - 1) mid rest) (drop cut words) (count - 1) →
+  pub fresh-chain-grows : (new : Segments) (count : ℕ) → 0 < count → length words ≤ 16 * count → IsFreshChain old mid (chain (count - 1) mid rest) (drop cut words) (count - 1) →
       new ≡ linked → IsFreshChain old new (chain count new (Some n)) words count
-  fresh_chain_grows new zero some room fresh after = absurd (omega arith)
-  fresh_chain_grows new (suc count) some room fresh after =
+  fresh-chain-grows new zero some room fresh after = absurd (omega arith)
+  fresh-chain-grows new (suc count) some room fresh after =
       let less : suc count - 1 ≡ count = omega arith in
-      rw after (fresh_chain_is_longer count room (rw less at fresh))
+      rw after (fresh-chain-is-longer count room (rw less at fresh))
 
 -- a chain of one segment
-pub fresh_chain_of_one : (old new : Segments) (n : ℕ) (words : List ℕ) → length words ≤ 16 → IsFree old n → new ≡ set old n (Some (filled words None)) →
+pub fresh-chain-of-one : (old new : Segments) (n : ℕ) (words : List ℕ) → length words ≤ 16 → IsFree old n → new ≡ set old n (Some (filled words None)) →
     IsFreshChain old new (chain 1 new (Some n)) words 1
-fresh_chain_of_one old new n words short free after =
+fresh-chain-of-one old new n words short free after =
     let front : take (length words) words ≡ words = take_all (length words) words (omega arith) in
     let back : drop (length words) words ≡ [] = drop_all (length words) words (omega arith) in
     let nothing : IsFreshChain old old [] [] 0 = grind arith in
-    fresh_chain_grows old old None n words (length words) (omega (arith, short)) free new 1 (omega arith) (omega (arith, short)) (rw back nothing) (rw front after)
+    fresh-chain-grows old old None n words (length words) (omega (arith, short)) free new 1 (omega arith) (omega (arith, short)) (rw back nothing) (rw front after)
 
 -- A chain that is made longer, and one that is given back.
 
@@ -122,9 +122,9 @@ module _ (old mid : Segments) (first more : ℕ) (fresh : Option ℕ) (made : Is
   longer count new = chain (count + more) new (Some first)
 
   -- a chain goes on with a new one at its last segment
-  chain_is_grown : (count : ℕ) → IsChain old (front (suc count)) (suc count) →
+  chain-is-grown : (count : ℕ) → IsChain old (front (suc count)) (suc count) →
       IsGrownChain old (with_link mid (last_of count) fresh) (front (suc count)) (longer (suc count) (with_link mid (last_of count) fresh)) more
-  chain_is_grown count is =
+  chain-is-grown count is =
       let xs : List ℕ = front (suc count) in
       let ys : List ℕ = chain more mid fresh in
       let last : ℕ = last_of count in
@@ -159,18 +159,18 @@ module _ (old mid : Segments) (first more : ℕ) (fresh : Option ℕ) (made : Is
       })
 
   -- the same, where the count is given as one number
-  pub chain_grows : (new : Segments) (last count : ℕ) → 0 < count → IsChain old (front count) count → last ≡ last_of (count - 1) → new ≡ with_link mid last fresh →
+  pub chain-grows : (new : Segments) (last count : ℕ) → 0 < count → IsChain old (front count) count → last ≡ last_of (count - 1) → new ≡ with_link mid last fresh →
       IsGrownChain old new (front count) (longer count new) more
-  chain_grows new last zero some is at after = absurd (omega arith)
-  chain_grows new last (suc count) some is at after =
+  chain-grows new last zero some is at after = absurd (omega arith)
+  chain-grows new last (suc count) some is at after =
       let less : suc count - 1 ≡ count = omega arith in
       let place : last ≡ last_of count = rw less at at in
-      rw (after, place) (chain_is_grown count is)
+      rw (after, place) (chain-is-grown count is)
 
   -- its last segment is still taken when the new ones are there
-  pub last_is_taken : (last count : ℕ) → 0 < count → IsChain old (front count) count → last ≡ last_of (count - 1) → IsTaken mid last
-  last_is_taken last zero some is at = absurd (omega arith)
-  last_is_taken last (suc count) some is at = grind (arith, blocks-get_or)
+  pub last_is-taken : (last count : ℕ) → 0 < count → IsChain old (front count) count → last ≡ last_of (count - 1) → IsTaken mid last
+  last_is-taken last zero some is at = absurd (omega arith)
+  last_is-taken last (suc count) some is at = grind (arith, blocks-get_or)
 
 -- a chain is given back from its front
 pub give-rest : (old : Segments) (n count : ℕ) → IsChain old (n ∷ chain count old (link_at old n)) (suc count) →

@@ -57,10 +57,10 @@ module _ (nodes : Nodes) where
 
 -- what is charged when nodes go
 
-charge-without_one : (nodes : Nodes) (n : ℕ) → total_charge (set nodes n None) + charge_of (node_at nodes n) ≡ total_charge nodes
-charge-without_one [] n = refl
-charge-without_one (e ∷ nodes) zero = omega (arith, sum_by-cons charge_of e nodes, sum_by-cons charge_of None nodes)
-charge-without_one (e ∷ nodes) (suc n) = omega (arith, sum_by-cons charge_of e nodes, sum_by-cons charge_of e (set nodes n None), charge-without_one nodes n)
+charge-without-one : (nodes : Nodes) (n : ℕ) → total_charge (set nodes n None) + charge_of (node_at nodes n) ≡ total_charge nodes
+charge-without-one [] n = refl
+charge-without-one (e ∷ nodes) zero = omega (arith, sum_by-cons charge_of e nodes, sum_by-cons charge_of None nodes)
+charge-without-one (e ∷ nodes) (suc n) = omega (arith, sum_by-cons charge_of e nodes, sum_by-cons charge_of e (set nodes n None), charge-without-one nodes n)
 
 sums-agree : (f g : ℕ → ℕ) (numbers : List ℕ) → ((n : ℕ) → Contains numbers n → f n ≡ g n) → sum_by f numbers ≡ sum_by g numbers
 sums-agree f g [] same = refl
@@ -76,7 +76,7 @@ charge-without nodes (n ∷ numbers) once =
     let rest = charge-without (set nodes n None) numbers rest_once in
     let apart : (m : ℕ) → Contains numbers m → m ≢ n = λ m is e. once 0 (suc is.0) m (omega arith) (omega (arith, is.1)) (sym e ∙ sym is.2) in
     let same = sums-agree (λ m. charge_of (node_at (set nodes n None) m)) (λ m. charge_of (node_at nodes m)) numbers (λ m is. ap charge_of (get_or-set_other nodes n m None None (apart m is))) in
-    omega (arith, sum_by-cons (λ m. charge_of (node_at nodes m)) n numbers, charge-without_one nodes n, rest, same)
+    omega (arith, sum_by-cons (λ m. charge_of (node_at nodes m)) n numbers, charge-without-one nodes n, rest, same)
 
 -- Lists of options: what is there under a number.
 
@@ -139,8 +139,8 @@ without-more nodes (m ∷ numbers) (suc i) n h is =
 not-before : (numbers : List ℕ) (i n : ℕ) → AllPairs ◌≢◌ numbers → i < length numbers → n ≡ get_or numbers i n → Contains (take i numbers) n → ⊥
 not-before numbers i n once h is among = grind (arith, length-take-le, get_or-take)
 
-pub still_there : (nodes : Nodes) (numbers : List ℕ) (i n : ℕ) → AllPairs ◌≢◌ numbers → i < length numbers → n ≡ get_or numbers i n → IsOpen nodes n → IsOpen (without nodes (take i numbers)) n
-still_there nodes numbers i n once h is there = grind (arith, kept, not-before)
+pub still-there : (nodes : Nodes) (numbers : List ℕ) (i n : ℕ) → AllPairs ◌≢◌ numbers → i < length numbers → n ≡ get_or numbers i n → IsOpen nodes n → IsOpen (without nodes (take i numbers)) n
+still-there nodes numbers i n once h is there = grind (arith, kept, not-before)
 
 only : (n k j : ℕ) → j < length (n ∷ []) → get_or (n ∷ []) j k ≡ k → k ≡ n
 only n k j h1 h2 = grind arith

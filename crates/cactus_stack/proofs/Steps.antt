@@ -1,6 +1,6 @@
 -- One place changes, and all others stay.
 use Rattle.cactus_stack.proofs.Common.{◌≡◌, ◌≢◌, ℕ, zero, suc, ◌+◌, ◌<◌, List, [], ◌∷◌, length, sum_by, Option, None, Some, get_or, refl, sym, ap, ◌∙◌, arith, inl, inr, get_or-set_other, get_or-set_same, ◌-◌, ◌*◌, ◌/◌, ◌%◌, ◌≤◌, ◌++◌, take, drop, replicate, set, length-set, ext_get_or, append_assoc, take-append-drop, take-replicate, drop-replicate, replicate-append-replicate, drop-set-lt, length-replicate, get_or_default, set-get_or, sum_by-set, sum_by-cons, cases_eq, Segments, taken_count, Segment, words_at, link_at, IsTaken, IsFree, with_segment_words, Node, Nodes, charge, node_at, total_charge, charge_of, padded, node_words, IsOpen, IsUnused, HasAllChildren, free_segments, with_node, with_node_words, without, AreApart, AgreesOn, chain, content, AllBlocks, AllFree, IsFreshChain, IsGrownChain, IsGivenBack, node_in, nodes_from, nowhere, place_at, len_at, charge_of_place, segments_of, IsSoundList, AreStored, resized, with_len, set-keeps, get_or-blanks, words_in_chain, IsUnder, IsForest, IsStack, IsWholeSight, Place, take-append-add, drop-append-add, take-set-lt, sum_by-replicate, taken_count-write, taken_count-replicate}
-use Rattle.cactus_stack.proofs.Content.{apart-sym, chain-agrees, content-agrees, blocks-agrees, charge_of-node_in, apart-append, apart-get_or, agrees-apart, agrees-taken, agrees-set, apart-free, content-write, chain-write, blocks-write, blocks-get_or, charge-some, charge-room, charge-below, length-words_in, len-of-node, node_in-some, place_of_sound}
+use Rattle.cactus_stack.proofs.Content.{apart-sym, chain-agrees, content-agrees, blocks-agrees, charge_of-node_in, apart-append, apart-get_or, agrees-apart, agrees-taken, agrees-set, apart-free, content-write, chain-write, blocks-write, blocks-get_or, charge-some, charge-room, charge-below, length-words_in, len-of-node, node_in-some, place-of-sound}
 use Rattle.cactus_stack.proofs.LawFacts.{tree-write, tree-open, tree-without, depth-le-length, sight-open}
 
 -- the node of a number, given its place
@@ -65,8 +65,8 @@ module _ {old new : Segments} {places : List Place} {n : ℕ} {place : Place} (c
             (node_in-agrees old new i (len_at places i) (place_at places i).parent (change.agrees i other) ∙ sym (node_at-nodes_from old i places))
       ])
 
-  pub still_stored : AreStored old places → AreStored new (set places n place)
-  still_stored stored =
+  pub still-stored : AreStored old places → AreStored new (set places n place)
+  still-stored stored =
       let same : (m : ℕ) → m ≢ n → segments_of new m (len_at places m) ≡ segments_of old m (len_at places m) = λ m other. chain-agrees (charge (len_at places m)) old new (Some m) (change.agrees m other) in
       let here : len_at (set places n place) n ≡ place.len = ap (λ (p : Place). p.len) (get_or-set_same places n place nowhere change.within) in
       let there : (m : ℕ) → m ≢ n → len_at (set places n place) m ≡ len_at places m = λ m other. ap (λ (p : Place). p.len) (get_or-set_other places n m place nowhere other) in
@@ -104,12 +104,12 @@ pub record IsRead (region : Segments) (places : List Place) (nodes : Nodes) (n a
   pub len : place.len ≡ length (node_words nodes n)
 
 module _ {region : Segments} {places : List Place} {nodes : Nodes} (stored : AreStored region places) (view : nodes_from region 0 places ≡ nodes) where
-  pub kept_node : (n : ℕ) → IsOpen nodes n → IsKept region places nodes n
-  kept_node n is_open = grind (arith, node_at-nodes_from, len-of-node, node_in-some, lt-of-len, length-words_in)
+  pub kept-node : (n : ℕ) → IsOpen nodes n → IsKept region places nodes n
+  kept-node n is_open = grind (arith, node_at-nodes_from, len-of-node, node_in-some, lt-of-len, length-words_in)
 
-  pub is_read : {n first at : ℕ} {place : Place} → IsOpen nodes n → at ≡ first → first ≡ n → place ≡ get_or places at place → IsRead region places nodes n at place
-  is_read {n = n} {place = place} is_open at_first first_is read =
-      let it = kept_node n is_open in
+  pub is-read : {n first at : ℕ} {place : Place} → IsOpen nodes n → at ≡ first → first ≡ n → place ≡ get_or places at place → IsRead region places nodes n at place
+  is-read {n = n} {place = place} is_open at_first first_is read =
+      let it = kept-node n is_open in
       let is : place ≡ place_at places n = (rw (at_first ∙ first_is) at read) ∙ get_or_default places n place nowhere it.within in
       record { it = it; at_node = at_first ∙ first_is; is = is; some = rw is it.some; len = ap (λ (p : Place). p.len) is ∙ sym it.len }
 
@@ -150,10 +150,10 @@ module _ {region : Segments} {places : List Place} (stored : AreStored region pl
 
   -- a store
 
-  pub store_change : {n at s : ℕ} (word : ℕ) → at < len_at places n → s ≡ get_or (segments_at n) (at / 16) 0 →
+  pub store-change : {n at s : ℕ} (word : ℕ) → at < len_at places n → s ≡ get_or (segments_at n) (at / 16) 0 →
       IsChange region (with_segment_words region s (set (words_at region s) (at % 16) word)) places n (place_at places n)
       × (words_in_chain (with_segment_words region s (set (words_at region s) (at % 16) word)) n (len_at places n) ≡ set (words_in_chain region n (len_at places n)) at word)
-  store_change {n = n} {at = at} {s = s} word below is =
+  store-change {n = n} {at = at} {s = s} word below is =
       let len : ℕ = len_at places n in
       let xs : List ℕ = segments_of region n len in
       let own : IsSoundList region n len = stored.sound n in
@@ -180,8 +180,8 @@ module _ {region : Segments} {places : List Place} (stored : AreStored region pl
 
   -- a close
 
-  pub close_change : {new : Segments} {n : ℕ} → 0 < len_at places n → IsGivenBack region new (segments_at n) → IsChange region new places n (resized (place_at places n) 0)
-  close_change {new = new} {n = n} some given =
+  pub close-change : {new : Segments} {n : ℕ} → 0 < len_at places n → IsGivenBack region new (segments_at n) → IsChange region new places n (resized (place_at places n) 0)
+  close-change {new = new} {n = n} some given =
       let own : IsSoundList region n (len_at places n) = stored.sound n in
       record {
         within = lt-of-len places n some;
@@ -194,10 +194,10 @@ module _ {region : Segments} {places : List Place} (stored : AreStored region pl
 
   -- a growth
 
-  pub grow_change : {new : Segments} {n : ℕ} (more added : ℕ) → 0 < len_at places n → len_at places n + more ≤ 128 → charge (len_at places n) + added ≡ charge (len_at places n + more) →
+  pub grow-change : {new : Segments} {n : ℕ} (more added : ℕ) → 0 < len_at places n → len_at places n + more ≤ 128 → charge (len_at places n) + added ≡ charge (len_at places n + more) →
       IsGrownChain region new (segments_at n) (segments_of new n (len_at places n + more)) added →
       IsChange region new places n (resized (place_at places n) (len_at places n + more)) × (words_in_chain new n (len_at places n + more) ≡ words_in_chain region n (len_at places n) ++ replicate more 0)
-  grow_change {new = new} {n = n} more added some limit charges grown =
+  grow-change {new = new} {n = n} more added some limit charges grown =
       let len : ℕ = len_at places n in
       let own : IsSoundList region n len = stored.sound n in
       let xs : List ℕ = segments_of region n len in
@@ -226,14 +226,14 @@ module _ {region : Segments} {places : List Place} (stored : AreStored region pl
   -- an opening
 
   -- the first of the new segments was no node's number
-  pub was_unused : {new : Segments} {n size : ℕ} {words : List ℕ} → 0 < size → IsFreshChain region new (segments_of new n size) words (charge size) → (n < length places) × (len_at places n ≡ 0)
-  was_unused some fresh = grind (arith, head-free, charge-some, unused)
+  pub was-unused : {new : Segments} {n size : ℕ} {words : List ℕ} → 0 < size → IsFreshChain region new (segments_of new n size) words (charge size) → (n < length places) × (len_at places n ≡ 0)
+  was-unused some fresh = grind (arith, head-free, charge-some, unused)
 
-  pub open_change : {new : Segments} {n size : ℕ} {words : List ℕ} (parent : Option ℕ) (depth : ℕ) → 0 < size → size ≤ 128 → length words ≤ size → IsFreshChain region new (segments_of new n size) words (charge size) →
+  pub open-change : {new : Segments} {n size : ℕ} {words : List ℕ} (parent : Option ℕ) (depth : ℕ) → 0 < size → size ≤ 128 → length words ≤ size → IsFreshChain region new (segments_of new n size) words (charge size) →
       IsChange region new places n (record { len = size; parent = parent; depth = depth }) × (words_in_chain new n size ≡ padded words size)
-  open_change {new = new} {n = n} {size = size} {words = words} parent depth some limit room fresh =
+  open-change {new = new} {n = n} {size = size} {words = words} parent depth some limit room fresh =
       let xs : List ℕ = segments_of new n size in
-      let before = was_unused some fresh in
+      let before = was-unused some fresh in
       let none : charge (len_at places n) ≡ 0 = ap charge before.1 in
       let zeros : ℕ = 16 * charge size - length words in
       let cut = cut-zeros (content new xs) words zeros (size - length words) fresh.holds (omega (arith, charge-room size)) in
@@ -260,31 +260,31 @@ module _ {old : Segments} {places : List Place} {nodes : Nodes} (stack : IsStack
   tree : IsForest nodes places
   tree = rw view at stack.tree
 
-  as_many : length places ≡ length nodes
-  as_many = stack.stored.same_count ∙ sym (all-taken old places nodes stack.stored view).1
+  as-many : length places ≡ length nodes
+  as-many = stack.stored.same_count ∙ sym (all-taken old places nodes stack.stored view).1
 
-  pub depth_in_limits : (n : ℕ) → IsOpen nodes n → (place_at places n).depth ≤ 65536
-  depth_in_limits n is_open = omega (arith, depth-le-length nodes places n as_many tree is_open, stack.stored.in_limits)
+  pub depth-in_limits : (n : ℕ) → IsOpen nodes n → (place_at places n).depth ≤ 65536
+  depth-in_limits n is_open = omega (arith, depth-le-length nodes places n as-many tree is_open, stack.stored.in_limits)
 
-  pub sight_of : (n : ℕ) → IsOpen nodes n → IsWholeSight nodes n (place_at places n).depth
-  sight_of n is_open = sight-open nodes places n (place_at places n).depth tree is_open refl
+  pub sight-of : (n : ℕ) → IsOpen nodes n → IsWholeSight nodes n (place_at places n).depth
+  sight-of n is_open = sight-open nodes places n (place_at places n).depth tree is_open refl
 
   -- an open node gets other words, in as many segments as they take
   pub rewritten : {new : Segments} {n len : ℕ} (words : List ℕ) → IsOpen nodes n → IsChange old new places n (resized (place_at places n) len) → 0 < len → words_in_chain new n len ≡ words →
       Shows new (with_len places n len) (with_node_words nodes n words)
   rewritten {new = new} {n = n} {len = len} words is_open change some is =
-      let it = kept_node stack.stored view n is_open in
+      let it = kept-node stack.stored view n is_open in
       let after : nodes_from new 0 (with_len places n len) ≡ with_node_words nodes n words = rw it.entry (changed-to words change some is view) in (
         after,
-        record { stored = still_stored change stack.stored; tree = rw after (tree-write nodes places (with_len places n len) (depths-stay places n len) tree n words is_open) },
+        record { stored = still-stored change stack.stored; tree = rw after (tree-write nodes places (with_len places n len) (depths-stay places n len) tree n words is_open) },
       )
 
-  pub stored_word : {at s : ℕ} (n word : ℕ) → IsOpen nodes n → at < length (node_words nodes n) → s ≡ get_or (chain (suc (at / 16)) old (Some n)) (at / 16) 0 →
+  pub stored-word : {at s : ℕ} (n word : ℕ) → IsOpen nodes n → at < length (node_words nodes n) → s ≡ get_or (chain (suc (at / 16)) old (Some n)) (at / 16) 0 →
       Shows (with_segment_words old s (set (words_at old s) (at % 16) word)) places (with_node_words nodes n (set (node_words nodes n) at word))
-  stored_word {at = at} {s = s} n word is_open below is =
-      let it = kept_node stack.stored view n is_open in
+  stored-word {at = at} {s = s} n word is_open below is =
+      let it = kept-node stack.stored view n is_open in
       let inside : at < len_at places n = omega (arith, below, it.len) in
-      let change = store_change stack.stored word inside (is ∙ place_of_sound (stack.stored.sound n) at inside) in
+      let change = store-change stack.stored word inside (is ∙ place-of-sound (stack.stored.sound n) at inside) in
       let same : with_len places n (len_at places n) ≡ places = set-get_or places n nowhere in
       rw it.words (rw same at (rewritten (set (words_in_chain old n (len_at places n)) at word) is_open change.0 it.some change.1))
 
@@ -294,13 +294,13 @@ module _ {old : Segments} {places : List Place} {nodes : Nodes} (stack : IsStack
   opened {new = new} {n = n} {size = size} {words = words} parent depth under some limit room is_charge made =
       let fresh : IsFreshChain old new (segments_of new n size) words (charge size) = rw is_charge at made in
       let place : Place = record { len = size; parent = parent; depth = depth } in
-      let before = was_unused stack.stored some fresh in
-      let change = open_change stack.stored parent depth some limit room fresh in
+      let before = was-unused stack.stored some fresh in
+      let change = open-change stack.stored parent depth some limit room fresh in
       let after : nodes_from new 0 (set places n place) ≡ with_node nodes n (Some (record { parent = parent; words = padded words size })) = changed-to (padded words size) change.0 some change.1 view in
-      let below : n < length nodes = rw (← as_many) before.0 in
+      let below : n < length nodes = rw (← as-many) before.0 in
       let unused : node_at nodes n ≡ None = rw (← view) (node_at-nodes_from old n places ∙ ap (λ (len : ℕ). node_in old n len (place_at places n).parent) before.1) in (
         (below, unused),
-        (after, record { stored = still_stored change.0 stack.stored; tree = rw after (tree-open nodes places n (padded words size) place as_many below unused tree under) }),
+        (after, record { stored = still-stored change.0 stack.stored; tree = rw after (tree-open nodes places n (padded words size) place as-many below unused tree under) }),
       )
 
   -- nodes are closed with all their children
@@ -318,23 +318,23 @@ module _ {old : Segments} {places : List Place} {nodes : Nodes} (stack : IsStack
       let broad : wide ≡ charge (len + more) = is_wide ∙ ap (λ (k : ℕ). charge (k + more)) same in
       let whole : charge len + (charge (len + more) - charge len) ≡ charge (len + more) = omega arith in
       let named : IsGrownChain old new (segments_of old n len) (segments_of new n (len + more)) (charge (len + more) - charge len) = rw whole at (rw (is_first, narrow, broad) at made) in
-      let change = grow_change stack.stored more (charge (len + more) - charge len) of.it.some (rw same at limit) whole named in
+      let change = grow-change stack.stored more (charge (len + more) - charge len) of.it.some (rw same at limit) whole named in
       rw (same, of.it.words) (rewritten (words_in_chain old n len ++ replicate more 0) is_open change.0 (omega (arith, of.it.some)) change.1)
 
 -- at first all is free
 
-pub none_at_first : (region : Segments) (count n : ℕ) → nodes_from region n (replicate count nowhere) ≡ replicate count None
-none_at_first region zero n = refl
-none_at_first region (suc count) n = ap (λ (rest : Nodes). None ∷ rest) (none_at_first region count (suc n))
+pub none-at-first : (region : Segments) (count n : ℕ) → nodes_from region n (replicate count nowhere) ≡ replicate count None
+none-at-first region zero n = refl
+none-at-first region (suc count) n = ap (λ (rest : Nodes). None ∷ rest) (none-at-first region count (suc n))
 
 len_at-nowhere : (count n : ℕ) → len_at (replicate count nowhere) n ≡ 0
 len_at-nowhere count n = ap (λ (p : Place). p.len) (get_or-blanks count n nowhere)
 
-none_stored : (region : Segments) (n : ℕ) → IsSoundList region n 0
-none_stored region n = record { at_most = omega arith; is_chain = record { blocks = tt; whole = refl; once = tt }; zeros = refl }
+none-stored : (region : Segments) (n : ℕ) → IsSoundList region n 0
+none-stored region n = record { at_most = omega arith; is_chain = record { blocks = tt; whole = refl; once = tt }; zeros = refl }
 
-none_open : (count n : ℕ) → IsOpen (replicate count None) n → ⊥
-none_open count n is = absurd (let none : node_at (replicate count None) n ≡ None = get_or-blanks count n None in cc (none, is))
+none-open : (count n : ℕ) → IsOpen (replicate count None) n → ⊥
+none-open count n is = absurd (let none : node_at (replicate count None) n ≡ None = get_or-blanks count n None in cc (none, is))
 
-pub stack_at_first : (count : ℕ) → count ≤ 65536 → IsStack (replicate count None) (replicate count nowhere)
-stack_at_first count limit = grind (arith, length-replicate, taken_count-replicate, sum_by-replicate, len_at-nowhere, none_stored, tree, none_open, none_at_first)
+pub stack-at-first : (count : ℕ) → count ≤ 65536 → IsStack (replicate count None) (replicate count nowhere)
+stack-at-first count limit = grind (arith, length-replicate, taken_count-replicate, sum_by-replicate, len_at-nowhere, none-stored, tree, none-open, none-at-first)

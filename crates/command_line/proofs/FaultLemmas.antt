@@ -7,6 +7,6 @@ use Rattle.command_line.specs.declared.options.Options.{Options}
 use Rattle.command_line.specs.Faults.{IsOutside, IsRefusalOf}
 
 -- a value is refused where the words have no other fault
-pub refused_outside : (found : List ErrorKind) (asked : Option Options) (fault : WordsFault) → found ≡ [] → asked ≡ None → IsOutside fault → IsRefusalOf found asked fault
-refused_outside found asked OutOfMemory faultless none outside = tt
-refused_outside found asked (Refused error) faultless none outside = inr (faultless, none, outside)
+pub refused-outside : (found : List ErrorKind) (asked : Option Options) (fault : WordsFault) → found ≡ [] → asked ≡ None → IsOutside fault → IsRefusalOf found asked fault
+refused-outside found asked OutOfMemory faultless none outside = tt
+refused-outside found asked (Refused error) faultless none outside = inr (faultless, none, outside)

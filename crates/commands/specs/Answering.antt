@@ -1,5 +1,5 @@
 -- Meaning: what is done for the words of a command line whose command is solve, and the exit status.
-use Rattle.std.specs.Prelude.{◌≡◌, ◌≤◌, ℕ, List, Bool, true, false, [], Option, Some, Result, Ok, Err}
+use Rattle.std.specs.Prelude.{◌≡◌, ℕ, List, Bool, true, false, [], Option, Some, Result, Ok, Err}
 use Rattle.clap.specs.Words.{Text, fault_of}
 use Rattle.clap.specs.declared.error.kind.ErrorKind.{ErrorKind}
 use Rattle.line_io.specs.declared.faults.LineFault.{LineFault}

@@ -1,8 +1,8 @@
 -- What lies under the lock has come by the steps of the history, one after the other.
 use Rattle.desk.proofs.Common.{◌≡◌, ℕ, ◌+◌, ◌<◌, ◌≤◌, List, [], ◌∷◌, ◌++◌, true, false, refl, sym, ap, ◌∙◌, subst, arith, None, Result, Ok, Err, OnOk, OnErr, IsPrefix, Quota, Refusal, Admit, Leave, DidOf, Left, refusal_in, tenant_of, only, alone_from, CoreState, tenant_in, shared_run, newest_after, IsOneStep, AreNumbersGiven, step-taken, known-number, tenant_in-new, Leaf, LeafAnswer, jamboree, HallOf, IsOffered, hall_after, IsExplained, own, Known, SeatOf, seeing, steps_of, core_at, is_admit, with_taken, is_leave, AreSeats, HasNoLeave, HasOwners, IsComeBy, IsThere, IsLook, IsToldOf}
-use Rattle.desk.proofs.Judged.{run-more, taken-more, no_first, newest-stays, Rights, Headlines, isolated}
-use Rattle.desk.proofs.Staying.{there_more, seat_stays, leaves}
-use Rattle.desk.proofs.Owners.{Step, Entries, IsOfSeat, steps_of-more, owners_more, owners_admit, steps_are_mine, unused, unmade, upto_more}
+use Rattle.desk.proofs.Judged.{run-more, taken-more, no-first, newest-stays, Rights, Headlines, isolated}
+use Rattle.desk.proofs.Staying.{there-more, seat-stays, leaves}
+use Rattle.desk.proofs.Owners.{Step, Entries, IsOfSeat, steps_of-more, owners-more, owners-admit, steps-are-mine, unused, unmade, upto-more}
 
 abbrev Answer : Type 0
 Answer = Result (DidOf Leaf) Refusal
@@ -14,16 +14,16 @@ offered before step (Ok did) after one taken refused = record { one = one; left 
 offered before step (Err refusal) after one taken refused = record { one = one; left = refused }
 
 -- nothing has come by yet
-pub come_begun : (begun hall : HallOf) → hall ≡ begun → IsExplained hall → IsComeBy begun hall.grain hall.shared []
-come_begun begun hall is explained =
+pub come-begun : (begun hall : HallOf) → hall ≡ begun → IsExplained hall → IsComeBy begun hall.grain hall.shared []
+come-begun begun hall is explained =
     let given = explained.known in
     subst (λ (b : HallOf). IsComeBy b hall.grain hall.shared []) is
     (record { same = refl; core = refl; legal = tt; owners = ((λ _. 0), tt); upto = tt; later = omega arith; first = given; given = given; there = λ t stays. absurd (cc stays) })
 
 -- A hall that has come by this history.
 module _ {begun : HallOf} {log : Entries} (before : HallOf) (come : IsComeBy begun before.grain before.shared log) where
-  pub new_unused : (t : ℕ) → t ≡ before.shared.newest + 1 → only t (steps_of log) ≡ []
-  new_unused t number = unused before.shared.newest t log come.upto (omega (arith, number))
+  pub new-unused : (t : ℕ) → t ≡ before.shared.newest + 1 → only t (steps_of log) ≡ []
+  new-unused t number = unused before.shared.newest t log come.upto (omega (arith, number))
 
   -- a seat looks
   pub looks : (was now : SeatOf) → Rights (jamboree begun.grain) → Headlines (jamboree begun.grain) → AreSeats was.tenant was.known.mine → begun.shared.newest < was.tenant →
@@ -33,7 +33,7 @@ module _ {begun : HallOf} {log : Entries} (before : HallOf) (come : IsComeBy beg
       let t = was.tenant in
       let nobody : tenant_in begun.shared.tenants t ≡ None = tenant_in-new begun.shared.newest t begun.shared.tenants new come.first in
       let alone = isolated rules begun.shared (steps_of log) t right headline come.first come.legal ∙ ap (λ o. alone_from rules o (only t (steps_of log))) nobody in
-      let mine = steps_are_mine was.known.maker log come.owners t was.known.mine seats is_mine in
+      let mine = steps-are-mine was.known.maker log come.owners t was.known.mine seats is_mine in
       subst (λ (s : SeatOf). IsLook begun was s) (sym is) (record { kept = refl; saw = (prefix, is_mine, refl, refl); legal = come.legal; mine = mine; alone = alone })
 
   -- One more step, and the hall after it.
@@ -51,9 +51,9 @@ module _ {begun : HallOf} {log : Entries} (before : HallOf) (come : IsComeBy beg
     one-at : (step : Step) (answer : Answer) → Answers step answer → IsOneStep (jamboree begun.grain) (core_at begun log) step answer after.shared
     one-at step answer one = subst (λ (x : ℕ × CoreState). IsOneStep (jamboree x.0) x.1 step answer after.shared) (λ i. (come.same i, come.core i)) one
 
-    come_more : (m : ℕ) (step : Step) (did : DidOf Leaf) → Answers step (Ok did) → Went step → IsExplained after → HasOwners (log ++ (m, step) ∷ []) →
+    come-more : (m : ℕ) (step : Step) (did : DidOf Leaf) → Answers step (Ok did) → Went step → IsExplained after → HasOwners (log ++ (m, step) ∷ []) →
         before.shared.newest ≤ after.shared.newest → tenant_of step ≤ after.shared.newest → Comes (log ++ (m, step) ∷ [])
-    come_more m step did one is explained owners more within =
+    come-more m step did one is explained owners more within =
         let rules = jamboree begun.grain in
         let core = core_at begun log in
         let at = one-at step (Ok did) one in
@@ -65,40 +65,40 @@ module _ {begun : HallOf} {log : Entries} (before : HallOf) (come : IsComeBy beg
           core = at.left ∙ sym (ap (λ l. shared_run rules begun.shared l) (steps_of-more log m step) ∙ run-more rules begun.shared (steps_of log) step);
           legal = rw steps_of-more (taken-more rules begun.shared (steps_of log) step come.legal (ap (λ r. refusal_in r) taken.among));
           owners = owners;
-          upto = upto_more before.shared.newest after.shared.newest log m step come.upto more within;
+          upto = upto-more before.shared.newest after.shared.newest log m step come.upto more within;
           later = omega arith;
           first = come.first;
           given = explained.known;
-          there = λ t stays. subst (IsThereIn t) (sym at.left) (there_more taken false (steps_of log) t (λ h. subst (IsThereIn t) come.core (come.there t h)) (rw steps_of-more at stays));
+          there = λ t stays. subst (IsThereIn t) (sym at.left) (there-more taken false (steps_of log) t (λ h. subst (IsThereIn t) come.core (come.there t h)) (rw steps_of-more at stays));
         }
 
     -- a step that is no Admit, by the owner of its tenant or a worker
-    pub come_offered : (m : ℕ) (mine : List Step) (step : Step) (answer : Answer) → is_admit step ≡ false → IsOfSeat mine step → own m log ≡ mine → Answers step answer → OnOk answer (Went step) →
+    pub come-offered : (m : ℕ) (mine : List Step) (step : Step) (answer : Answer) → is_admit step ≡ false → IsOfSeat mine step → own m log ≡ mine → Answers step answer → OnOk answer (Went step) →
         OnErr answer (after ≡ before) → OnOk answer (after.shared.newest ≡ newest_after before.shared.newest step) → IsExplained after → Comes (with_taken log (m, step) answer)
-    come_offered m mine step (Ok did) other seats is_mine one is refused newest explained =
+    come-offered m mine step (Ok did) other seats is_mine one is refused newest explained =
         let rules = jamboree before.grain in
         let core = before.shared in
         let same : after.shared.newest ≡ core.newest = newest ∙ newest-stays core.newest step other in
         let taken = step-taken rules core step did come.given one.answered in
-        let within = known-number core.newest (tenant_of step) core.tenants come.given (λ none. no_first rules step taken.outcome other (rw none at taken.own)) in
-        come_more m step did one is explained (owners_more m log come.owners mine step seats is_mine) (omega (arith, same)) (omega (arith, same, within))
-    come_offered m mine step (Err refusal) other seats is_mine one is refused newest explained = rw refused come
+        let within = known-number core.newest (tenant_of step) core.tenants come.given (λ none. no-first rules step taken.outcome other (rw none at taken.own)) in
+        come-more m step did one is explained (owners-more m log come.owners mine step seats is_mine) (omega (arith, same)) (omega (arith, same, within))
+    come-offered m mine step (Err refusal) other seats is_mine one is refused newest explained = rw refused come
 
     -- the Admit of a new tenant
-    pub come_admitted : (m t : ℕ) (reserve : Quota) (did : DidOf Leaf) → t ≡ before.shared.newest + 1 → Answers (Admit t reserve) (Ok did) → Went (Admit t reserve) → after.shared.newest ≡ t → IsExplained after →
+    pub come-admitted : (m t : ℕ) (reserve : Quota) (did : DidOf Leaf) → t ≡ before.shared.newest + 1 → Answers (Admit t reserve) (Ok did) → Went (Admit t reserve) → after.shared.newest ≡ t → IsExplained after →
         Comes (log ++ (m, Admit t reserve) ∷ [])
-    come_admitted m t reserve did number one is newest explained =
+    come-admitted m t reserve did number one is newest explained =
         let none = unmade before.shared.newest t log come.upto (omega (arith, number)) in
-        let owners = owners_admit m log come.owners t reserve none in
-        come_more m (Admit t reserve) did one is explained owners (omega (arith, number, newest)) (omega (arith, newest))
+        let owners = owners-admit m log come.owners t reserve none in
+        come-more m (Admit t reserve) did one is explained owners (omega (arith, number, newest)) (omega (arith, newest))
 
     -- a seat's Leave is taken
-    pub leave_taken : (m : ℕ) (mine : List Step) (step : Step) (answer : Answer) → is_leave step ≡ true → IsOfSeat mine step → HasNoLeave mine → own m log ≡ mine → Answers step answer → answer ≡ Ok Left
-    leave_taken m mine (Leave t) answer is seats none_left is_mine one =
+    pub leave-taken : (m : ℕ) (mine : List Step) (step : Step) (answer : Answer) → is_leave step ≡ true → IsOfSeat mine step → HasNoLeave mine → own m log ≡ mine → Answers step answer → answer ≡ Ok Left
+    leave-taken m mine (Leave t) answer is seats none_left is_mine one =
         let a = seats refl in
-        let stays = seat_stays t (steps_of log) mine a.1 (Admit t a.0) (steps_are_mine m log come.owners t mine a is_mine) a.2 none_left in
+        let stays = seat-stays t (steps_of log) mine a.1 (Admit t a.0) (steps-are-mine m log come.owners t mine a is_mine) a.2 none_left in
         leaves {A = LeafAnswer} (jamboree before.grain) before.shared t answer (come.there t stays) one.answered
-    leave_taken m mine _ answer is seats none_left is_mine one = absurd cc
+    leave-taken m mine _ answer is seats none_left is_mine one = absurd cc
 
     -- what a maker knows after its step, and what it is told
     abbrev known_after : Known Step → Step → Answer → Known Step
@@ -112,10 +112,10 @@ module _ {begun : HallOf} {log : Entries} (before : HallOf) (come : IsComeBy beg
 
 -- A step that is no Leave.
 module _ (step : Step) (other : is_leave step ≡ false) where
-  stay_more : (mine : List Step) → HasNoLeave mine → HasNoLeave (mine ++ step ∷ [])
-  stay_more [] h = (other, tt)
-  stay_more (s ∷ mine) h = (h.0, stay_more mine h.1)
+  stay-more : (mine : List Step) → HasNoLeave mine → HasNoLeave (mine ++ step ∷ [])
+  stay-more [] h = (other, tt)
+  stay-more (s ∷ mine) h = (h.0, stay-more mine h.1)
 
-  pub no_leave_taken : {X : Type 0} (mine : List Step) (answer : Result X Refusal) → HasNoLeave mine → HasNoLeave (with_taken mine step answer)
-  no_leave_taken mine (Err refusal) h = h
-  no_leave_taken mine (Ok value) h = stay_more mine h
+  pub no-leave-taken : {X : Type 0} (mine : List Step) (answer : Result X Refusal) → HasNoLeave mine → HasNoLeave (with_taken mine step answer)
+  no-leave-taken mine (Err refusal) h = h
+  no-leave-taken mine (Ok value) h = stay-more mine h

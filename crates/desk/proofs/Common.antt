@@ -10,7 +10,7 @@ pub use mathlib.Core.Option.{none, some, some-injective, some-ne-none}
 pub use prog.Atomic.{either}
 pub use Rattle.atomic_table.proofs.Lists.{at_set, set_again}
 pub use Rattle.atomic_table.specs.Table.{Act, Allows, Joins, Splits, State, opening, step}
-pub use Rattle.desk_rules.proofs.Refused.{ask_refused}
+pub use Rattle.desk_rules.proofs.Refused.{ask-refused}
 pub use Rattle.desk_rules.specs.Asked.{ask_refusals}
 pub use Rattle.hall.specs.Halls.{HallOf, IsExplained, hall_after}
 pub use Rattle.hall.specs.jamboree_rules.Places.{frame_size, root_words}
@@ -19,7 +19,7 @@ pub use Rattle.hall.specs.jamboree_rules.declared.leaf.Leaf.{Leaf}
 pub use Rattle.hall.specs.jamboree_rules.declared.leaf.LeafAnswer.{LeafAnswer}
 pub use Rattle.sched_laws.proofs.Shaped.{by-kinds}
 pub use Rattle.sched_rules.proofs.Isolation.{IsTaken, step-taken}
-pub use Rattle.sched_rules.proofs.Tenants.{known-number, tenant_in-new, tenant_in-with_outcome, tenant_in_other-with_outcome}
+pub use Rattle.sched_rules.proofs.Tenants.{known-number, tenant_in-new, tenant_in-with_outcome, tenant_in-other-with_outcome}
 pub use Rattle.sched_rules.specs.Cores.{CoreState, is_beyond, newest_after, reservations_in, reserved_by, shared_after, shared_refusal}
 pub use Rattle.sched_rules.specs.Cores.{shared_run, step_result, tenant_in, unless_beyond, with_outcome}
 pub use Rattle.sched_rules.specs.Functions.{Functions}

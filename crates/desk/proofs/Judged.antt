@@ -8,8 +8,8 @@ newest-stays newest step other = grind arith
 -- Steps of cores whose frames run this procedure.
 module _ {I A : Type 0} (functions : Functions I A) where
   -- and it isn't taken of a tenant that isn't there
-  pub no_first : (step : StepOf A) (outcome : Outcome I) → is_admit step ≡ false → lone functions None step ≡ Ok outcome → ⊥
-  no_first step outcome other taken = grind arith
+  pub no-first : (step : StepOf A) (outcome : Outcome I) → is_admit step ≡ false → lone functions None step ≡ Ok outcome → ⊥
+  no-first step outcome other taken = grind arith
 
   -- the core after a step
   abbrev pub next : CoreState → StepOf A → CoreState
@@ -49,20 +49,20 @@ module _ {I A : Type 0} (functions : Functions I A) where
   abbrev AreRight : CoreState → List (StepOf A) → Answers → Type 0
   AreRight shared steps answers = AreAnswersTo functions shared steps answers × (taken_steps steps answers ≡ steps) × (after shared steps answers ≡ run shared steps)
 
-  one_right : (shared : CoreState) (step : StepOf A) (steps : List (StepOf A)) (later : Answers) (r : Result (Outcome I) Refusal) → IsAnswerTo functions shared step (answer_of r) → step_result functions shared step ≡ r →
+  one-right : (shared : CoreState) (step : StepOf A) (steps : List (StepOf A)) (later : Answers) (r : Result (Outcome I) Refusal) → IsAnswerTo functions shared step (answer_of r) → step_result functions shared step ≡ r →
       refusal_in r ≡ None → AreRight (next shared step) steps later → AreRight shared (step ∷ steps) (answer_of r ∷ later)
-  one_right shared step steps later (Err refusal) right is none rest = absurd (cc none)
-  one_right shared step steps later (Ok outcome) right is none rest = ((right, rest.0), ap (λ l. step ∷ l) rest.1, rest.2)
+  one-right shared step steps later (Err refusal) right is none rest = absurd (cc none)
+  one-right shared step steps later (Ok outcome) right is none rest = ((right, rest.0), ap (λ l. step ∷ l) rest.1, rest.2)
 
-  right_answers : (shared : CoreState) (steps : List (StepOf A)) → Rights → AreTaken functions shared steps → AreRight shared steps (answers_to shared steps)
-  right_answers shared [] right h = (tt, refl, refl)
-  right_answers shared (step ∷ steps) right h =
-      one_right shared step steps (answers_to (next shared step) steps) (step_result functions shared step) (right shared step) refl h.0 (right_answers (next shared step) steps right h.1)
+  right-answers : (shared : CoreState) (steps : List (StepOf A)) → Rights → AreTaken functions shared steps → AreRight shared steps (answers_to shared steps)
+  right-answers shared [] right h = (tt, refl, refl)
+  right-answers shared (step ∷ steps) right h =
+      one-right shared step steps (answers_to (next shared step) steps) (step_result functions shared step) (right shared step) refl h.0 (right-answers (next shared step) steps right h.1)
 
   -- each tenant is what its own steps make of it
   pub isolated : (shared : CoreState) (steps : List (StepOf A)) (t : ℕ) → Rights → Headlines → AreNumbersGiven shared → AreTaken functions shared steps →
       tenant_in (run shared steps).tenants t ≡ alone_from functions (tenant_in shared.tenants t) (only t steps)
   isolated shared steps t right headline given h =
-      let r = right_answers shared steps right h in
+      let r = right-answers shared steps right h in
       let state = ((headline shared steps (answers_to shared steps) given r.0).undisturbed t).state in
       ap (λ (c : CoreState). tenant_in c.tenants t) (sym r.2) ∙ state ∙ ap (λ l. alone_from functions (tenant_in shared.tenants t) (only t l)) r.1

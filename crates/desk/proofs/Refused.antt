@@ -1,39 +1,39 @@
 -- As what an ask, and a raise of what is reserved, can be refused.
-use Rattle.desk.proofs.Common.{◌≡◌, ℕ, Bool, true, false, Option, Some, None, refl, lit<, inl, inr, Result, Ok, Err, Refusal, OutOfMemory, Lower, AdmitMore, Submit, DidOf, Quota, tenant_in, step_result, is_beyond, unless_beyond, reserved_by, reservations_in, Functions, Outcome, is_lower, lone, raised, refusal_in, answer_of, Tenant, Leaf, LeafAnswer, root_words, frame_size, jamboree, HallOf, IsOffered, reserve_refusals, ask_refusals, ask_refused as offered_refused}
+use Rattle.desk.proofs.Common.{◌≡◌, ℕ, Bool, true, false, Option, Some, None, refl, lit<, inl, inr, Result, Ok, Err, Refusal, OutOfMemory, Lower, AdmitMore, Submit, DidOf, Quota, tenant_in, step_result, is_beyond, unless_beyond, reserved_by, reservations_in, Functions, Outcome, is_lower, lone, raised, refusal_in, answer_of, Tenant, Leaf, LeafAnswer, root_words, frame_size, jamboree, HallOf, IsOffered, reserve_refusals, ask_refusals, ask-refused as offered_refused}
 use Rattle.std.specs.Prelude.{Contains, IfErr, if◌then◌else◌, ◌⊎◌}
 
-pub ask_refused : (before after : HallOf) (number own opp depth : ℕ) (answer : Result (DidOf Leaf) Refusal) → IsOffered before (Submit number (root_words own opp depth) frame_size) answer after →
+pub ask-refused : (before after : HallOf) (number own opp depth : ℕ) (answer : Result (DidOf Leaf) Refusal) → IsOffered before (Submit number (root_words own opp depth) frame_size) answer after →
     IfErr answer (Contains ask_refusals)
-ask_refused before after number own opp depth answer h = offered_refused before after number own opp depth answer h.one
+ask-refused before after number own opp depth answer h = offered_refused before after number own opp depth answer h.one
 
 -- where it is refused it is as a raise can be
 abbrev Within : {X : Type 0} → Result X Refusal → Type 0
 Within result = IfErr result (Contains reserve_refusals)
 
 -- an admission is refused for what is reserved, or for want of memory
-within_memory : (own : Result (Outcome Leaf) Refusal) (answer : Result (DidOf Leaf) Refusal) → ((refusal : Refusal) → refusal_in own ≡ Some refusal → answer ≡ Err refusal) →
+within-memory : (own : Result (Outcome Leaf) Refusal) (answer : Result (DidOf Leaf) Refusal) → ((refusal : Refusal) → refusal_in own ≡ Some refusal → answer ≡ Err refusal) →
     (refusal_in own ≡ None → (answer ≡ answer_of own) ⊎ (answer ≡ Err OutOfMemory)) → Within own → Within answer
-within_memory (Ok outcome) answer refused taken h = elim (taken refl) [ inl is ↦ rw is tt | inr is ↦ rw is (3, lit< tt, refl) ]
-within_memory (Err refusal) answer refused taken h = rw (refused refusal refl) h
+within-memory (Ok outcome) answer refused taken h = elim (taken refl) [ inl is ↦ rw is tt | inr is ↦ rw is (3, lit< tt, refl) ]
+within-memory (Err refusal) answer refused taken h = rw (refused refusal refl) h
 
-raise_tested : {X : Type 0} (effect : X) (lower : Bool) → Within (if lower then Err Lower else Ok effect)
-raise_tested effect true = (1, lit< tt, refl)
-raise_tested effect false = tt
+raise-tested : {X : Type 0} (effect : X) (lower : Bool) → Within (if lower then Err Lower else Ok effect)
+raise-tested effect true = (1, lit< tt, refl)
+raise-tested effect false = tt
 
-raise_within : (rules : Functions Leaf LeafAnswer) (tenant : Option Tenant) (number : ℕ) (quota : Quota) → Within (lone rules tenant (AdmitMore number quota))
-raise_within rules None number quota = (0, lit< tt, refl)
-raise_within rules (Some tenant) number quota = raise_tested {X = Outcome Leaf} (raised tenant quota) (is_lower tenant.reserve quota)
+raise-within : (rules : Functions Leaf LeafAnswer) (tenant : Option Tenant) (number : ℕ) (quota : Quota) → Within (lone rules tenant (AdmitMore number quota))
+raise-within rules None number quota = (0, lit< tt, refl)
+raise-within rules (Some tenant) number quota = raise-tested {X = Outcome Leaf} (raised tenant quota) (is_lower tenant.reserve quota)
 
-beyond_within : (beyond : Bool) (alone : Result (Outcome Leaf) Refusal) → Within alone → Within (unless_beyond beyond alone)
-beyond_within true (Ok outcome) h = (2, lit< tt, refl)
-beyond_within false (Ok outcome) h = tt
-beyond_within beyond (Err refusal) h = h
+beyond-within : (beyond : Bool) (alone : Result (Outcome Leaf) Refusal) → Within alone → Within (unless_beyond beyond alone)
+beyond-within true (Ok outcome) h = (2, lit< tt, refl)
+beyond-within false (Ok outcome) h = tt
+beyond-within beyond (Err refusal) h = h
 
-pub reserve_refused : (before after : HallOf) (number : ℕ) (quota : Quota) (answer : Result (DidOf Leaf) Refusal) → IsOffered before (AdmitMore number quota) answer after → Within answer
-reserve_refused before after number quota answer h =
+pub reserve-refused : (before after : HallOf) (number : ℕ) (quota : Quota) (answer : Result (DidOf Leaf) Refusal) → IsOffered before (AdmitMore number quota) answer after → Within answer
+reserve-refused before after number quota answer h =
     let right = h.one.answered.0 refl in
     let rules = jamboree before.grain in
     let tenant = tenant_in before.shared.tenants number in
     let beyond = is_beyond (reservations_in before.shared) (reserved_by tenant) quota in
-    let own = beyond_within beyond (lone rules tenant (AdmitMore number quota)) (raise_within rules tenant number quota) in
-    within_memory (step_result rules before.shared (AdmitMore number quota)) answer right.refused right.else_taken own
+    let own = beyond-within beyond (lone rules tenant (AdmitMore number quota)) (raise-within rules tenant number quota) in
+    within-memory (step_result rules before.shared (AdmitMore number quota)) answer right.refused right.else_taken own

@@ -1,14 +1,14 @@
 -- A tenant that was admitted and hasn't left is there.
-use Rattle.desk.proofs.Common.{◌≡◌, ◌≢◌, ℕ, ◌==◌, List, [], ◌∷◌, ◌++◌, Bool, true, false, refl, sym, ap, ◌∙◌, subst, arith, if◌then◌else◌, Option, Some, None, Result, Ok, ◌⊎◌, inl, inr, nat_tests, not, Refusal, StepOf, Leave, DidOf, Left, Functions, Tenant, Outcome, lone, tenant_of, CoreState, tenant_in, with_outcome, IsAnswerTo, IsTaken, tenant_in-with_outcome, tenant_in_other-with_outcome, by-kinds, is_leave, is_seat_step, seat_steps, stays_by, HasNoLeave, IsThere}
+use Rattle.desk.proofs.Common.{◌≡◌, ◌≢◌, ℕ, ◌==◌, List, [], ◌∷◌, ◌++◌, Bool, true, false, refl, sym, ap, ◌∙◌, subst, arith, if◌then◌else◌, Option, Some, None, Result, Ok, ◌⊎◌, inl, inr, nat_tests, not, Refusal, StepOf, Leave, DidOf, Left, Functions, Tenant, Outcome, lone, tenant_of, CoreState, tenant_in, with_outcome, IsAnswerTo, IsTaken, tenant_in-with_outcome, tenant_in-other-with_outcome, by-kinds, is_leave, is_seat_step, seat_steps, stays_by, HasNoLeave, IsThere}
 use Rattle.std.specs.Prelude.{◌&&◌}
 use Rattle.desk.proofs.Judged.{next}
 
 -- What steps leave, of cores whose frames run this procedure.
 module _ {I A : Type 0} (functions : Functions I A) where
   -- a step that was taken, and is no Leave, leaves its tenant there
-  pub lone_keeps : (its : Option Tenant) (step : StepOf A) (outcome : Outcome I) → is_leave step ≡ false → lone functions its step ≡ Ok outcome → IsThere outcome.0
-  lone_keeps None step outcome other is = grind arith
-  lone_keeps (Some tenant) step outcome other is = by-kinds functions tenant step outcome IsThere is (record {
+  pub lone-keeps : (its : Option Tenant) (step : StepOf A) (outcome : Outcome I) → is_leave step ≡ false → lone functions its step ≡ Ok outcome → IsThere outcome.0
+  lone-keeps None step outcome other is = grind arith
+  lone-keeps (Some tenant) step outcome other is = by-kinds functions tenant step outcome IsThere is (record {
     at_raise = λ number quota raises. tt;
     at_submit = λ serials root frames. tt;
     at_work = λ serials frames. tt;
@@ -33,32 +33,32 @@ module _ {A : Type 0} (t : ℕ) where
   stays-more was [] step = refl
   stays-more was (s ∷ steps) step = stays-more (now_stays was s) steps step
 
-  worker_stays : (step : StepOf A) → is_seat_step step ≡ false → is_leave step ≡ false
-  worker_stays step worker = grind arith
+  worker-stays : (step : StepOf A) → is_seat_step step ≡ false → is_leave step ≡ false
+  worker-stays step worker = grind arith
 
   -- who made no Leave stays, where it was there or has made a step
   abbrev Stays : Bool → List (StepOf A) → List (StepOf A) → Type 0
   Stays was mine steps = HasNoLeave mine → (was ≡ true) ⊎ (mine ≢ []) → stays_by was t steps ≡ true
 
-  stays_unless : (was : Bool) (steps : List (StepOf A)) → Stays was (seat_steps t steps) steps
-  stays_unless was [] no_leave (inl is) = is
-  stays_unless was [] no_leave (inr is) = absurd (is refl)
-  stays_unless was (step ∷ steps) no_leave begun = by_tests (is_seat_step step) (tenant_of step == t) refl (λ now. stays_unless now steps) no_leave begun
+  stays-unless : (was : Bool) (steps : List (StepOf A)) → Stays was (seat_steps t steps) steps
+  stays-unless was [] no_leave (inl is) = is
+  stays-unless was [] no_leave (inr is) = absurd (is refl)
+  stays-unless was (step ∷ steps) no_leave begun = by-tests (is_seat_step step) (tenant_of step == t) refl (λ now. stays-unless now steps) no_leave begun
     where
       rest : List (StepOf A)
       rest = seat_steps t steps
 
-      by_tests : (b c : Bool) → is_seat_step step ≡ b → ((now : Bool) → Stays now rest steps) → HasNoLeave (if b && c then step ∷ rest else rest) →
+      by-tests : (b c : Bool) → is_seat_step step ≡ b → ((now : Bool) → Stays now rest steps) → HasNoLeave (if b && c then step ∷ rest else rest) →
           (was ≡ true) ⊎ ((if b && c then step ∷ rest else rest) ≢ []) → stays_by (if c then not (is_leave step) else was) t steps ≡ true
-      by_tests true true is again clear begun = again (not (is_leave step)) clear.1 (inl (ap not clear.0))
-      by_tests false true is again clear begun = again (not (is_leave step)) clear (inl (ap not (worker_stays step is)))
-      by_tests true false is again clear begun = again was clear begun
-      by_tests false false is again clear begun = again was clear begun
+      by-tests true true is again clear begun = again (not (is_leave step)) clear.1 (inl (ap not clear.0))
+      by-tests false true is again clear begun = again (not (is_leave step)) clear (inl (ap not (worker-stays step is)))
+      by-tests true false is again clear begun = again was clear begun
+      by-tests false false is again clear begun = again was clear begun
 
-  pub seat_stays : (steps mine later : List (StepOf A)) (first : StepOf A) → seat_steps t steps ≡ mine → mine ≡ first ∷ later → HasNoLeave mine →
+  pub seat-stays : (steps mine later : List (StepOf A)) (first : StepOf A) → seat_steps t steps ≡ mine → mine ≡ first ∷ later → HasNoLeave mine →
       stays_by false t steps ≡ true
-  seat_stays steps mine later first is begins no_leave =
-      stays_unless false steps (subst HasNoLeave (sym is) no_leave) (inr (λ none. absurd (cc (sym (is ∙ begins) ∙ none))))
+  seat-stays steps mine later first is begins no_leave =
+      stays-unless false steps (subst HasNoLeave (sym is) no_leave) (inr (λ none. absurd (cc (sym (is ∙ begins) ∙ none))))
 
 -- A step that was taken.
 module _ {I A : Type 0} {functions : Functions I A} {shared : CoreState} {step : StepOf A} {did : DidOf I} (taken : IsTaken functions shared step did) where
@@ -69,16 +69,16 @@ module _ {I A : Type 0} {functions : Functions I A} {shared : CoreState} {step :
   tenants = with_outcome (tenant_of step) its shared.tenants
 
   -- who was there and stays is there after it
-  pub there_more : (was : Bool) (steps : List (StepOf A)) (t : ℕ) → (stays_by was t steps ≡ true → IsThere (tenant_in shared.tenants t)) → stays_by was t (steps ++ step ∷ []) ≡ true →
+  pub there-more : (was : Bool) (steps : List (StepOf A)) (t : ℕ) → (stays_by was t steps ≡ true → IsThere (tenant_in shared.tenants t)) → stays_by was t (steps ++ step ∷ []) ≡ true →
       IsThere (tenant_in (next functions shared step).tenants t)
-  there_more was steps t before stays = rw taken.among (by_test (tenant_of step == t) refl (sym (stays-more t was steps step) ∙ stays))
+  there-more was steps t before stays = rw taken.among (by-test (tenant_of step == t) refl (sym (stays-more t was steps step) ∙ stays))
     where
-      by_test : (b : Bool) → (tenant_of step == t) ≡ b → (if b then not (is_leave step) else stays_by was t steps) ≡ true → IsThere (tenant_in tenants t)
-      by_test true is h =
+      by-test : (b : Bool) → (tenant_of step == t) ≡ b → (if b then not (is_leave step) else stays_by was t steps) ≡ true → IsThere (tenant_in tenants t)
+      by-test true is h =
           let same : tenant_of step ≡ t = grind (arith, nat_tests, is) in
           let other : is_leave step ≡ false = grind arith in
-          let there = lone_keeps functions (tenant_in shared.tenants (tenant_of step)) step taken.outcome other taken.own in
+          let there = lone-keeps functions (tenant_in shared.tenants (tenant_of step)) step taken.outcome other taken.own in
           rw (← same, tenant_in-with_outcome (tenant_of step) its shared.tenants) there
-      by_test false is h =
+      by-test false is h =
           let other : tenant_of step ≢ t = λ e. absurd (grind (arith, nat_tests, is, e)) in
-          rw (tenant_in_other-with_outcome t (tenant_of step) its shared.tenants other) (before h)
+          rw (tenant_in-other-with_outcome t (tenant_of step) its shared.tenants other) (before h)

@@ -11,8 +11,8 @@ pub use Rattle.std.specs.List.{concat}
 pub use Rattle.std.specs.Prelude.{Contains, IfErr, MatchResult, option_and_then, option_map, slice_index, ◌⊎◌}
 pub use Rattle.std.specs.Str.{bytes_eq}
 pub use mathlib.Core.List.{IsPrefix}
-pub use Rattle.desk.proofs.Prefixes.{prefix_self, prefix_trans}
-pub use Rattle.desk.proofs.Staying.{lone_keeps}
+pub use Rattle.desk.proofs.Prefixes.{prefix-self, prefix-trans}
+pub use Rattle.desk.proofs.Staying.{lone-keeps}
 pub use Rattle.desk.specs.Histories.{AllOwn, AreTaken, IsLook, IsSeated, IsShownAt, IsThere, IsToldOf, IsTrueTo, Saw, Took, core_at, is_admit, is_leave}
 pub use Rattle.desk.specs.Histories.{is_seat_step, lone_tenant, seat_steps, steps_of}
 pub use Rattle.desk.specs.Seats.{IsAsked, SeatOf, reserve_refusals, seeing, stepped}
@@ -47,7 +47,7 @@ pub use Rattle.othello_eval.specs.Minimax.{best_choice, minimax}
 pub use Rattle.othello_eval.specs.Tables.{IsTable}
 pub use Rattle.position_text.specs.declared.positions.Side.{Side}
 pub use Rattle.sched_laws.specs.Fitted.{origins_of, submits}
-pub use Rattle.sched_rules.proofs.Tenants.{tenant_in-with_outcome, tenant_in_other-with_outcome}
+pub use Rattle.sched_rules.proofs.Tenants.{tenant_in-with_outcome, tenant_in-other-with_outcome}
 pub use Rattle.sched_rules.specs.Cores.{CoreState, admit_tests, is_beyond, meets_busy, reservations_in, reserved_by, shared_after, shared_refusal, shared_run}
 pub use Rattle.sched_rules.specs.Cores.{shared_with, step_result, tenant_in, unless_beyond, unless_busy, with_outcome}
 pub use Rattle.sched_rules.specs.Functions.{Functions}
@@ -62,9 +62,9 @@ pub use Rattle.sched_rules.specs.declared.step.DidOf.{DidOf}
 pub use Rattle.sched_rules.specs.declared.step.DidOf.TheVariants.{Admitted}
 pub use Rattle.sched_rules.specs.declared.step.StepOf.{StepOf}
 pub use Rattle.sched_rules.specs.declared.step.StepOf.TheVariants.{Admit, AdmitMore, Submit}
-pub use Rattle.session.proofs.DoneLemmas.{each_done}
+pub use Rattle.session.proofs.DoneLemmas.{each-done}
 pub use Rattle.session.proofs.Served.{next_turns}
-pub use Rattle.session.proofs.TrueCalls.{all_true}
+pub use Rattle.session.proofs.TrueCalls.{all-true}
 pub use Rattle.session.specs.Asks.{Asked, IsAnalysisOf, IsJobReply, IsOfficeReplyTo, KeepsAsks, SaysTrue, ShowsFound, asked_at, asks_after}
 pub use Rattle.session.specs.Calls.{Alive, Ask, AskLive, AskQuota, Call, Cancel, Ended, Get, Gone, Hello, Job, Leave, OfficeReply, Refused, Reserve, Reserved}
 pub use Rattle.session.specs.Calls.{Rest, Told, Wait, Welcome, reply_of}

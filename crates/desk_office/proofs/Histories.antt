@@ -1,5 +1,5 @@
 -- A tenant at a moment of a history: what its own steps have made of it, and that its jobs are what its seat asked for.
-use Rattle.desk_office.proofs.Common.{◌≡◌, ◌≢◌, ℕ, ◌≤◌, ◌==◌, ◌&&◌, List, [], ◌∷◌, ◌++◌, length, Bool, true, false, refl, sym, ap, ◌∙◌, subst, arith, if◌then◌else◌, Option, Some, None, Result, Ok, Err, nat_tests, Quota, Refusal, StepOf, Admit, AdmitMore, Admitted, Functions, Tenant, admitted_with, first_step, lone, refusal_in, unless, tenant_of, only, state_after, alone_from, CoreState, tenant_in, with_outcome, meets_busy, is_beyond, reservations_in, reserved_by, unless_busy, unless_beyond, admit_tests, step_result, shared_refusal, shared_after, shared_with, shared_run, tenant_in-with_outcome, tenant_in_other-with_outcome, submits, origins_of, AreTakenFrom, IsJournalOf, StaysTaken, AreReplies, AreSearches, IsSearch, journal-searches, tenant-replies, Leaf, LeafAnswer, jamboree, HallOf, own, core_at, is_admit, is_leave, is_seat_step, seat_steps, steps_of, lone_tenant, AllOwn, AreTaken, IsThere, lone_keeps, History}
+use Rattle.desk_office.proofs.Common.{◌≡◌, ◌≢◌, ℕ, ◌≤◌, ◌==◌, ◌&&◌, List, [], ◌∷◌, ◌++◌, length, Bool, true, false, refl, sym, ap, ◌∙◌, subst, arith, if◌then◌else◌, Option, Some, None, Result, Ok, Err, nat_tests, Quota, Refusal, StepOf, Admit, AdmitMore, Admitted, Functions, Tenant, admitted_with, first_step, lone, refusal_in, unless, tenant_of, only, state_after, alone_from, CoreState, tenant_in, with_outcome, meets_busy, is_beyond, reservations_in, reserved_by, unless_busy, unless_beyond, admit_tests, step_result, shared_refusal, shared_after, shared_with, shared_run, tenant_in-with_outcome, tenant_in-other-with_outcome, submits, origins_of, AreTakenFrom, IsJournalOf, StaysTaken, AreReplies, AreSearches, IsSearch, journal-searches, tenant-replies, Leaf, LeafAnswer, jamboree, HallOf, own, core_at, is_admit, is_leave, is_seat_step, seat_steps, steps_of, lone_tenant, AllOwn, AreTaken, IsThere, lone-keeps, History}
 use Rattle.sched_rules.specs.Lone.{Outcome}
 
 abbrev pub Step : Type 0
@@ -93,7 +93,7 @@ pub record Follows (rules : Rules) (t : ℕ) (shared : CoreState) (own : Option 
 
 -- a step of another tenant
 by-other : (t : ℕ) (shared : CoreState) (step : Step) (came : Came) → tenant_of step ≢ t → tenant_in (shared_after shared step came).tenants t ≡ tenant_in shared.tenants t
-by-other t shared step came other = grind (arith, tenant_in_other-with_outcome)
+by-other t shared step came other = grind (arith, tenant_in-other-with_outcome)
 
 later-go : (b c : Bool) (step : Step) (steps : List Step) → AllGo (if b && c then step ∷ steps else steps) → AllGo steps
 later-go b c step steps go = grind arith
@@ -119,7 +119,7 @@ by-own rules t shared own step steps same at goes none legal go again =
         StaysTaken came × AreTakenFrom rules (state_after (Some own) came) (only t steps) × (tenant_in (shared_run rules (shared_after shared step came) steps).tenants t ≡ alone_from rules (state_after (Some own) came) (only t steps))
         × IsThere (alone_from rules (state_after (Some own) came) (only t steps))
     by (Err refusal) is none legal = absurd (cc none)
-    by (Ok (None, did)) is none legal = absurd (lone_keeps rules (Some own) step (None, did) goes.1 is)
+    by (Ok (None, did)) is none legal = absurd (lone-keeps rules (Some own) step (None, did) goes.1 is)
     by (Ok (Some next, did)) is none legal =
         let here : tenant_in (with_outcome (tenant_of step) (Some next) shared.tenants) t ≡ Some next =
         subst (λ n. tenant_in (with_outcome (tenant_of step) (Some next) shared.tenants) n ≡ Some next) same (tenant_in-with_outcome (tenant_of step) (Some next) shared.tenants) in

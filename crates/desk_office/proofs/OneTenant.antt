@@ -11,51 +11,51 @@ Goes (Makes call) = is_stay call ≡ true
 Goes Ends = ⊥
 Goes _ = Unit {0}
 
-quota_goes : (call : Quota → Call) → ((quota : Quota) → is_stay (call quota) ≡ true) → (quota : Option Quota) → Goes (quota_request call quota)
-quota_goes call stays quota = grind arith
+quota-goes : (call : Quota → Call) → ((quota : Quota) → is_stay (call quota) ≡ true) → (quota : Option Quota) → Goes (quota_request call quota)
+quota-goes call stays quota = grind arith
 
-ask_goes : (asked : _) → Goes (ask_request asked)
-ask_goes asked = grind arith
+ask-goes : (asked : _) → Goes (ask_request asked)
+ask-goes asked = grind arith
 
-job_goes : (asked : ℕ → Request) → ((job : ℕ) → Goes (asked job)) → (job : Option ℕ) → Goes (job_request asked job)
-job_goes asked goes job = grind arith
+job-goes : (asked : ℕ → Request) → ((job : ℕ) → Goes (asked job)) → (job : Option ℕ) → Goes (job_request asked job)
+job-goes asked goes job = grind arith
 
-seated_goes : (form : Form) → (form ≡ ByeForm) ⊎ Goes (seated_request form)
-seated_goes form = grind (arith, quota_goes, ask_goes, job_goes)
+seated-goes : (form : Form) → (form ≡ ByeForm) ⊎ Goes (seated_request form)
+seated-goes form = grind (arith, quota-goes, ask-goes, job-goes)
 
-seated_ends : (form : Option Form) → form_request true form ≡ Ends → form ≡ Some ByeForm
-seated_ends form e = grind (arith, seated_goes)
+seated-ends : (form : Option Form) → form_request true form ≡ Ends → form ≡ Some ByeForm
+seated-ends form e = grind (arith, seated-goes)
 
-form_stays : (form : Option Form) (call : Call) → form_request true form ≡ Makes call → is_stay call ≡ true
-form_stays form call e = grind (arith, seated_goes)
+form-stays : (form : Option Form) (call : Call) → form_request true form ≡ Makes call → is_stay call ≡ true
+form-stays form call e = grind (arith, seated-goes)
 
-seated_stays : (line : LineText) (call : Call) → request true line ≡ Makes call → is_stay call ≡ true
-seated_stays TooLong call e = absurd (cc e)
-seated_stays (Whole bytes) call e = form_stays (form_of bytes) call e
+seated-stays : (line : LineText) (call : Call) → request true line ≡ Makes call → is_stay call ≡ true
+seated-stays TooLong call e = absurd (cc e)
+seated-stays (Whole bytes) call e = form-stays (form_of bytes) call e
 
 -- only the line BYE is read as the end
 bare : (q l b : Bool) → (if q then Some QuotaForm else (if l then Some LiveForm else (if b then Some ByeForm else None))) ≡ Some ByeForm → b ≡ true
 bare q l b e = grind arith
 
-no_one : (a b c d : Bool) (job : Option ℕ) → (if a then Some (GetOf job) else (if b then Some (WaitOf job) else (if c then Some (CancelOf job) else (if d then Some (TableOf job) else None)))) ≡ Some ByeForm → ⊥
-no_one a b c d job e = grind arith
+no-one : (a b c d : Bool) (job : Option ℕ) → (if a then Some (GetOf job) else (if b then Some (WaitOf job) else (if c then Some (CancelOf job) else (if d then Some (TableOf job) else None)))) ≡ Some ByeForm → ⊥
+no-one a b c d job e = grind arith
 
-no_two : (a b c : Bool) (depth text : List ℕ) (segments nodes : Option ℕ) → (if a then Some (AskOf depth text) else (if b then Some (HelloOf segments nodes) else (if c then Some (ReserveOf segments nodes) else None))) ≡ Some ByeForm → ⊥
-no_two a b c depth text segments nodes e = grind arith
+no-two : (a b c : Bool) (depth text : List ℕ) (segments nodes : Option ℕ) → (if a then Some (AskOf depth text) else (if b then Some (HelloOf segments nodes) else (if c then Some (ReserveOf segments nodes) else None))) ≡ Some ByeForm → ⊥
+no-two a b c depth text segments nodes e = grind arith
 
-after_bye : (word rest : List ℕ) (split : Option (List ℕ × List ℕ)) → form_after word rest split ≡ Some ByeForm → ⊥
-after_bye word rest split e = grind (arith, no_one, no_two)
+after-bye : (word rest : List ℕ) (split : Option (List ℕ × List ℕ)) → form_after word rest split ≡ Some ByeForm → ⊥
+after-bye word rest split e = grind (arith, no-one, no-two)
 
-by_bye : (bytes : List ℕ) (split : Option (List ℕ × List ℕ)) → form_by bytes split ≡ Some ByeForm → bytes_eq bytes (codes "BYE") ≡ true
-by_bye bytes split e = grind (arith, bare, after_bye)
+by-bye : (bytes : List ℕ) (split : Option (List ℕ × List ℕ)) → form_by bytes split ≡ Some ByeForm → bytes_eq bytes (codes "BYE") ≡ true
+by-bye bytes split e = grind (arith, bare, after-bye)
 
 -- how a line splits at its first space, as `protocol` says it, which has no name here
 abbrev split : List ℕ → Option (List ℕ × List ℕ)
 split [] = None
 split (b ∷ bs) = if b == 32 then Some ([], bs) else option_map (λ p. (b ∷ p.0, p.1)) (split bs)
 
-ends_is_bye : (line : LineText) → request true line ≡ Ends → is_bye line ≡ true
-ends_is_bye line e = grind (arith, by_bye, seated_ends)
+ends-is_bye : (line : LineText) → request true line ≡ Ends → is_bye line ≡ true
+ends-is_bye line e = grind (arith, by-bye, seated-ends)
 
 -- before a tenant is there, the only call is HELLO
 abbrev IsEarly : Request → Type 0
@@ -65,14 +65,14 @@ IsEarly (Makes _) = ⊥
 IsEarly (Tabulates job) = ⊥
 IsEarly Ends = Unit {0}
 
-quota_early : (quota : Option Quota) → IsEarly (quota_request Hello quota)
-quota_early quota = grind arith
+quota-early : (quota : Option Quota) → IsEarly (quota_request Hello quota)
+quota-early quota = grind arith
 
-form_early : (form : Option Form) → IsEarly (form_request false form)
-form_early form = grind (arith, quota_early)
+form-early : (form : Option Form) → IsEarly (form_request false form)
+form-early form = grind (arith, quota-early)
 
 early : (line : LineText) → IsEarly (request false line)
-early line = grind (arith, form_early)
+early line = grind (arith, form-early)
 
 -- ---- only the last line may be BYE
 
@@ -80,20 +80,20 @@ abbrev EndsAtBye : List LineText → Type 0
 EndsAtBye [] = Unit {0}
 EndsAtBye (line ∷ lines) = (is_bye line ≡ true → lines ≡ []) × EndsAtBye lines
 
-upto_ends : (lines : List LineText) → EndsAtBye (upto is_bye lines)
-upto_ends [] = tt
-upto_ends (line ∷ lines) = grind (arith, upto_ends lines)
+upto-ends : (lines : List LineText) → EndsAtBye (upto is_bye lines)
+upto-ends [] = tt
+upto-ends (line ∷ lines) = grind (arith, upto-ends lines)
 
-none_before : (xs rest : List LineText) → xs ++ rest ≡ [] → xs ≡ []
-none_before [] rest is = refl
-none_before (x ∷ xs) rest is = absurd (cc is)
+none-before : (xs rest : List LineText) → xs ++ rest ≡ [] → xs ≡ []
+none-before [] rest is = refl
+none-before (x ∷ xs) rest is = absurd (cc is)
 
-prefix_ends : (xs rest : List LineText) → EndsAtBye (xs ++ rest) → EndsAtBye xs
-prefix_ends [] rest ends = tt
-prefix_ends (x ∷ xs) rest ends = (λ bye. none_before xs rest (ends.0 bye), prefix_ends xs rest ends.1)
+prefix-ends : (xs rest : List LineText) → EndsAtBye (xs ++ rest) → EndsAtBye xs
+prefix-ends [] rest ends = tt
+prefix-ends (x ∷ xs) rest ends = (λ bye. none-before xs rest (ends.0 bye), prefix-ends xs rest ends.1)
 
-pub answered_ends : (r : Result End SessionFault) (answered : List LineText) (bytes : List ℕ) → IsAnsweredOf r answered (session_lines bytes) → EndsAtBye answered
-answered_ends r answered bytes is = grind (arith, upto_ends, prefix_ends)
+pub answered-ends : (r : Result End SessionFault) (answered : List LineText) (bytes : List ℕ) → IsAnsweredOf r answered (session_lines bytes) → EndsAtBye answered
+answered-ends r answered bytes is = grind (arith, upto-ends, prefix-ends)
 
 -- ---- the calls of a session
 
@@ -101,45 +101,45 @@ module _ (begun : HallOf) where
   abbrev Led : OfficeOf → List (Call × OfficeReply) → OfficeOf → Type 0
   Led from calls to = Leads (Called (IsTurnAt begun)) from calls to
 
-  stays_seated : (call : Call) (reply : OfficeReply) → is_stay call ≡ true → IsOfficeReplyTo call reply → seated_after true reply ≡ true
-  stays_seated call reply stays to = grind arith
+  stays-seated : (call : Call) (reply : OfficeReply) → is_stay call ≡ true → IsOfficeReplyTo call reply → seated_after true reply ≡ true
+  stays-seated call reply stays to = grind arith
 
   -- these calls are made for a tenant that is there, and it leaves by the last
   abbrev AreSeated : List (Call × OfficeReply) → Type 0
   AreSeated calls = (later : List (Call × OfficeReply)) × AllStay later × (calls ≡ later ++ (Leave, Gone) ∷ [])
 
-  one_more : (call : Call) (reply : OfficeReply) (seated : Bool) (lines : List LineText) (replies : List OfficeReply) → is_stay call ≡ true → seated ≡ true → AreSeated (calls_in true (turns true lines replies)) → AreSeated ((call, reply) ∷ calls_in seated (turns seated lines replies))
-  one_more call reply seated lines replies stays is rest =
+  one-more : (call : Call) (reply : OfficeReply) (seated : Bool) (lines : List LineText) (replies : List OfficeReply) → is_stay call ≡ true → seated ≡ true → AreSeated (calls_in true (turns true lines replies)) → AreSeated ((call, reply) ∷ calls_in seated (turns seated lines replies))
+  one-more call reply seated lines replies stays is rest =
       ((call, reply) ∷ rest.0, (stays, rest.1), ap (λ (b : Bool). (call, reply) ∷ calls_in b (turns b lines replies)) is ∙ ap (λ (l : List (Call × OfficeReply)). (call, reply) ∷ l) rest.2)
 
   -- a line, where the same holds of those after it
-  turn_seated : (line : LineText) (lines : List LineText) (replies : List OfficeReply) (from to : OfficeOf) → EndsAtBye (line ∷ lines) →
+  turn-seated : (line : LineText) (lines : List LineText) (replies : List OfficeReply) (from to : OfficeOf) → EndsAtBye (line ∷ lines) →
       ((rs : List OfficeReply) (next : OfficeOf) → Led next (calls_in true (turns true lines rs)) to → AreSeated (calls_in true (turns true lines rs))) →
       (q : Request) → request true line ≡ q → Led from (calls_in true (next_turns q true lines replies)) to → AreSeated (calls_in true (next_turns q true lines replies))
-  turn_seated line lines replies from to last again (Fault fault) is h = again replies from h
-  turn_seated line lines replies from to last again (Makes call) is h =
+  turn-seated line lines replies from to last again (Fault fault) is h = again replies from h
+  turn-seated line lines replies from to last again (Makes call) is h =
       let reply = next_reply replies in
       let later = later_replies replies in
       let keeps : KeepsAsks (asks_of from.seat) call reply (asks_of h.0.seat) = h.1.1 in
-      let stays = seated_stays line call is in
-      let seated = stays_seated call reply stays keeps.3 in
+      let stays = seated-stays line call is in
+      let seated = stays-seated call reply stays keeps.3 in
       let P : Bool → Type 0 = λ b. Led h.0 (calls_in b (turns b lines later)) to in
-      one_more call reply (seated_after true reply) lines later stays seated (again later h.0 (subst P seated h.2))
-  turn_seated line lines replies from to last again (Tabulates job) is h = grind (arith, stays_seated, one_more)
-  turn_seated line lines replies from to last again Ends is h = ([], tt, ap (λ (ls : List LineText). (Leave, Gone) ∷ calls_in false (turns false ls replies)) (last.0 (ends_is_bye line is)))
+      one-more call reply (seated_after true reply) lines later stays seated (again later h.0 (subst P seated h.2))
+  turn-seated line lines replies from to last again (Tabulates job) is h = grind (arith, stays-seated, one-more)
+  turn-seated line lines replies from to last again Ends is h = ([], tt, ap (λ (ls : List LineText). (Leave, Gone) ∷ calls_in false (turns false ls replies)) (last.0 (ends-is_bye line is)))
 
-  while_seated : (lines : List LineText) (replies : List OfficeReply) (from to : OfficeOf) → EndsAtBye lines → Led from (calls_in true (turns true lines replies)) to → AreSeated (calls_in true (turns true lines replies))
-  while_seated [] replies from to last h = ([], tt, refl)
-  while_seated (line ∷ lines) replies from to last h = turn_seated line lines replies from to last (λ rs next more. while_seated lines rs next to last.1 more) (request true line) refl h
+  while-seated : (lines : List LineText) (replies : List OfficeReply) (from to : OfficeOf) → EndsAtBye lines → Led from (calls_in true (turns true lines replies)) to → AreSeated (calls_in true (turns true lines replies))
+  while-seated [] replies from to last h = ([], tt, refl)
+  while-seated (line ∷ lines) replies from to last h = turn-seated line lines replies from to last (λ rs next more. while-seated lines rs next to last.1 more) (request true line) refl h
 
   -- the tenant that comes by these calls, if one does
   abbrev Comes : OfficeOf → List (Call × OfficeReply) → OfficeOf → Type 0
   Comes from calls to = (NobodyCame calls × (to.knew ≡ from.knew)) ⊎ ((known : Known (StepOf LeafAnswer)) × (to.knew ≡ Some known) × IsOneTenancy begun calls known)
 
   -- a HELLO that was refused
-  one_refused : (quota : Quota) (reply : OfficeReply) (number : ℕ) (from next to : OfficeOf) (calls : List (Call × OfficeReply)) → reply ≡ Refused number → next ≡ from → Comes next calls to → Comes from ((Hello quota, reply) ∷ calls) to
-  one_refused quota reply number from next to calls said same (inl none) = inl ((ap (λ (r : OfficeReply). is_welcome r) said, none.0), none.1 ∙ ap (λ (o : OfficeOf). o.knew) same)
-  one_refused quota reply number from next to calls said same (inr came) =
+  one-refused : (quota : Quota) (reply : OfficeReply) (number : ℕ) (from next to : OfficeOf) (calls : List (Call × OfficeReply)) → reply ≡ Refused number → next ≡ from → Comes next calls to → Comes from ((Hello quota, reply) ∷ calls) to
+  one-refused quota reply number from next to calls said same (inl none) = inl ((ap (λ (r : OfficeReply). is_welcome r) said, none.0), none.1 ∙ ap (λ (o : OfficeOf). o.knew) same)
+  one-refused quota reply number from next to calls said same (inr came) =
       let t = came.2 in
       inr (
         came.0,
@@ -160,8 +160,8 @@ module _ (begun : HallOf) where
       )
 
   -- a HELLO that brought a tenant
-  one_welcome : (quota : Quota) (reply : OfficeReply) (from next to : OfficeOf) (seat : SeatOf) (calls : List (Call × OfficeReply)) → reply ≡ Welcome quota → next.seat ≡ Some seat → IsSeated quota seat → tenant_in begun.shared.tenants seat.tenant ≡ None → seat.asked ≡ [] → AreSeated calls → Led next calls to → Comes from ((Hello quota, reply) ∷ calls) to
-  one_welcome quota reply from next to seat calls said here admitted new none seated h =
+  one-welcome : (quota : Quota) (reply : OfficeReply) (from next to : OfficeOf) (seat : SeatOf) (calls : List (Call × OfficeReply)) → reply ≡ Welcome quota → next.seat ≡ Some seat → IsSeated quota seat → tenant_in begun.shared.tenants seat.tenant ≡ None → seat.asked ≡ [] → AreSeated calls → Led next calls to → Comes from ((Hello quota, reply) ∷ calls) to
+  one-welcome quota reply from next to seat calls said here admitted new none seated h =
       let t = tenancy begun quota seat seated.0 next to admitted new none here seated.1 (subst (λ (l : List (Call × OfficeReply)). Led next l to) seated.2 h) in
       inr (
         t.known,
@@ -182,12 +182,12 @@ module _ (begun : HallOf) where
       )
 
   -- a line, where the same holds of those after it
-  turn_before : (line : LineText) (lines : List LineText) (replies : List OfficeReply) (from to : OfficeOf) → EndsAtBye (line ∷ lines) → from.seat ≡ None →
+  turn-before : (line : LineText) (lines : List LineText) (replies : List OfficeReply) (from to : OfficeOf) → EndsAtBye (line ∷ lines) → from.seat ≡ None →
       ((rs : List OfficeReply) (next : OfficeOf) → next.seat ≡ None → Led next (calls_in false (turns false lines rs)) to → Comes next (calls_in false (turns false lines rs)) to) →
       (q : Request) → request false line ≡ q → Led from (calls_in false (next_turns q false lines replies)) to → Comes from (calls_in false (next_turns q false lines replies)) to
-  turn_before line lines replies from to last none again (Fault fault) is h = again replies from none h
-  turn_before line lines replies from to last none again Ends is h = again replies from none h
-  turn_before line lines replies from to last none again (Makes (Hello quota)) is h = hello (subst (λ (seat : Option SeatOf). IsTurnOf begun seat (Hello quota) reply from h.0) none h.1.0)
+  turn-before line lines replies from to last none again (Fault fault) is h = again replies from none h
+  turn-before line lines replies from to last none again Ends is h = again replies from none h
+  turn-before line lines replies from to last none again (Makes (Hello quota)) is h = hello (subst (λ (seat : Option SeatOf). IsTurnOf begun seat (Hello quota) reply from h.0) none h.1.0)
     where
       reply : OfficeReply
       reply = next_reply replies
@@ -205,16 +205,16 @@ module _ (begun : HallOf) where
       hello (inl new) =
           let seated : seated_after false reply ≡ true = ap (seated_after false) new.5 in
           let more = subst P seated h.2 in
-          subst Q (sym seated) (one_welcome quota reply from h.0 to new.0 (calls_in true (turns true lines later)) new.5 (ap (λ (o : OfficeOf). o.seat) new.1) new.2 new.3 new.4 (while_seated lines later h.0 to last.1 more) more)
+          subst Q (sym seated) (one-welcome quota reply from h.0 to new.0 (calls_in true (turns true lines later)) new.5 (ap (λ (o : OfficeOf). o.seat) new.1) new.2 new.3 new.4 (while-seated lines later h.0 to last.1 more) more)
       hello (inr refused) =
           let seated : seated_after false reply ≡ false = ap (seated_after false) refused.2 in
           let nobody : h.0.seat ≡ None = ap (λ (o : OfficeOf). o.seat) refused.0 ∙ none in
-          subst Q (sym seated) (one_refused quota reply refused.1 from h.0 to (calls_in false (turns false lines later)) refused.2 refused.0 (again later h.0 nobody (subst P seated h.2)))
-  turn_before line lines replies from to last none again _ is h = absurd (subst IsEarly is (early line))
+          subst Q (sym seated) (one-refused quota reply refused.1 from h.0 to (calls_in false (turns false lines later)) refused.2 refused.0 (again later h.0 nobody (subst P seated h.2)))
+  turn-before line lines replies from to last none again _ is h = absurd (subst IsEarly is (early line))
 
-  before_hello : (lines : List LineText) (replies : List OfficeReply) (from to : OfficeOf) → EndsAtBye lines → from.seat ≡ None → Led from (calls_in false (turns false lines replies)) to → Comes from (calls_in false (turns false lines replies)) to
-  before_hello [] replies from to last none h = inl (tt, ap (λ (o : OfficeOf). o.knew) (sym h))
-  before_hello (line ∷ lines) replies from to last none h = turn_before line lines replies from to last none (λ rs next nobody more. before_hello lines rs next to last.1 nobody more) (request false line) refl h
+  before-hello : (lines : List LineText) (replies : List OfficeReply) (from to : OfficeOf) → EndsAtBye lines → from.seat ≡ None → Led from (calls_in false (turns false lines replies)) to → Comes from (calls_in false (turns false lines replies)) to
+  before-hello [] replies from to last none h = inl (tt, ap (λ (o : OfficeOf). o.knew) (sym h))
+  before-hello (line ∷ lines) replies from to last none h = turn-before line lines replies from to last none (λ rs next nobody more. before-hello lines rs next to last.1 nobody more) (request false line) refl h
 
-  pub one_tenant : (lines : List LineText) (replies : List OfficeReply) (from to : OfficeOf) → EndsAtBye lines → from.seat ≡ None → from.knew ≡ None → Led from (calls_in false (turns false lines replies)) to → IsTenantOf begun (calls_in false (turns false lines replies)) to.knew
-  one_tenant lines replies from to last none new h = grind (arith, before_hello)
+  pub one-tenant : (lines : List LineText) (replies : List OfficeReply) (from to : OfficeOf) → EndsAtBye lines → from.seat ≡ None → from.knew ≡ None → Led from (calls_in false (turns false lines replies)) to → IsTenantOf begun (calls_in false (turns false lines replies)) to.knew
+  one-tenant lines replies from to last none new h = grind (arith, before-hello)

@@ -1,6 +1,6 @@
 -- A session over an office at a desk, seen by what contracts see of the office.
-use Rattle.desk_office.proofs.Common.{◌≡◌, List, [], ◌∷◌, Option, None, Result, refl, sym, ap, subst, concat, Leads, bytes_due, ReadAnswer, WriteAnswer, StepOf, Known, LeafAnswer, HallOf, End, SessionFault, Call, OfficeReply, KeepsAsks, Called, Session, calls_for, talk_result, each_done, all_true, asks_of, IsTenantOf, SeenSession, OfficeOf, vacant, IsTurnAt}
-use Rattle.desk_office.proofs.OneTenant.{answered_ends, one_tenant}
+use Rattle.desk_office.proofs.Common.{◌≡◌, List, [], ◌∷◌, Option, None, Result, refl, sym, ap, subst, concat, Leads, bytes_due, ReadAnswer, WriteAnswer, StepOf, Known, LeafAnswer, HallOf, End, SessionFault, Call, OfficeReply, KeepsAsks, Called, Session, calls_for, talk_result, each-done, all-true, asks_of, IsTenantOf, SeenSession, OfficeOf, vacant, IsTurnAt}
+use Rattle.desk_office.proofs.OneTenant.{answered-ends, one-tenant}
 
 -- the asks are kept by each call
 kept : (begun : HallOf) (from : OfficeOf) (made : List (Call × OfficeReply)) (to : OfficeOf) → Leads (Called (IsTurnAt begun)) from made to → Leads (Called KeepsAsks) (asks_of from.seat) made (asks_of to.seat)
@@ -12,9 +12,9 @@ module _ {O : Type 0} (seen : O → OfficeOf) (begun : HallOf) (does : O → Cal
   led from [] to h = ap seen h
   led from (made ∷ more) to h = (seen h.0, turns from made.0 made.1 h.0 h.1, led h.0 more to h.2)
 
-  pub seen_session : {S K : Type 0} (gives : S → ReadAnswer → S → Type 0) (takes : K → WriteAnswer → K → Type 0) (s s' : S) (k k' : K) (o o' : O) (r : Result End SessionFault) (known : Option (Known (StepOf LeafAnswer))) →
+  pub seen-session : {S K : Type 0} (gives : S → ReadAnswer → S → Type 0) (takes : K → WriteAnswer → K → Type 0) (s s' : S) (k k' : K) (o o' : O) (r : Result End SessionFault) (known : Option (Known (StepOf LeafAnswer))) →
       (seen o).seat ≡ None → (seen o).knew ≡ None → known ≡ (seen o').knew → Session gives takes does s k o s' k' o' r → SeenSession begun gives takes s k s' k' r known
-  seen_session gives takes s s' k k' o o' r known no_seat none_left is x =
+  seen-session gives takes s s' k k' o o' r known no_seat none_left is x =
       let new : seen o ≡ vacant = λ i. record { seat = no_seat i; knew = none_left i } in
       let calls = calls_for x.answered x.replies in
       let made = subst (λ (z : OfficeOf). Leads (Called (IsTurnAt begun)) z calls (seen o')) new (led o calls o' x.made) in
@@ -22,6 +22,6 @@ module _ {O : Type 0} (seen : O → OfficeOf) (begun : HallOf) (does : O → Cal
       record {
         asks = asks_of (seen o').seat;
         session = record { blocks = x.blocks; last = x.last; answered = x.answered; replies = x.replies; pieces = x.pieces; reads = x.reads; ends = x.ends; lines = x.lines; made = asks; writes = x.writes; written = x.written };
-        dones = each_done x.answered x.replies (all_true [] calls (asks_of (seen o').seat) asks);
-        tenant = subst (λ (k : Option (Known (StepOf LeafAnswer))). IsTenantOf begun calls k) (sym is) (one_tenant begun x.answered x.replies vacant (seen o') (answered_ends r x.answered (bytes_due (talk_result r) (concat x.blocks)) x.lines) refl refl made);
+        dones = each-done x.answered x.replies (all-true [] calls (asks_of (seen o').seat) asks);
+        tenant = subst (λ (k : Option (Known (StepOf LeafAnswer))). IsTenantOf begun calls k) (sym is) (one-tenant begun x.answered x.replies vacant (seen o') (answered-ends r x.answered (bytes_due (talk_result r) (concat x.blocks)) x.lines) refl refl made);
       }

@@ -1,13 +1,13 @@
 -- From a tenant's seat to its Leave: each call is answered at a moment of the history.
-use Rattle.desk_office.proofs.Common.{◌≡◌, ℕ, ◌+◌, ◌==◌, List, [], ◌∷◌, ◌++◌, length, map, Bool, true, false, Option, Some, None, Result, Err, refl, sym, ap, subst, ◌∙◌, inl, inr, arith, if◌then◌else◌, append_assoc, append-nil, ◌⊎◌, nat_tests, map-append, IsPrefix, Board, Cell, Side, Quota, Leads, Refusal, refusal_number, Admit, AdmitMore, Submit, Functions, only, CoreState, tenant_in, shared_run, shared_after, shared_refusal, step_result, IsAnswerTo, submits, origins_of, AreSearches, IsSearch, own, Known, Leaf, LeafAnswer, root_words, frame_size, jamboree, HallOf, SeatOf, seeing, core_at, seat_steps, steps_of, lone_tenant, AllOwn, AreTaken, IsSeated, IsTrueTo, Saw, Took, Call, Hello, Reserve, Ask, Get, Wait, Cancel, AskQuota, AskLive, Leave, OfficeReply, Told, Gone, Refused, reply_of, Called, told_answer, History, is_stay, is_taken, reply_to, step_for, Adds, AllStay, AreAnswered, IsBoardIn, IsReplyAt, OfficeOf, asked_after, taken_reply, with_seat, IsLookBy, IsStepRefused, IsRefusedAtOnce, IsLookReply, IsStepBy, IsStepTaken, IsTurnAt, IsTurnOf, prefix_self, prefix_trans}
+use Rattle.desk_office.proofs.Common.{◌≡◌, ℕ, ◌+◌, ◌==◌, List, [], ◌∷◌, ◌++◌, length, map, Bool, true, false, Option, Some, None, Result, Err, refl, sym, ap, subst, ◌∙◌, inl, inr, arith, if◌then◌else◌, append_assoc, append-nil, ◌⊎◌, nat_tests, map-append, IsPrefix, Board, Cell, Side, Quota, Leads, Refusal, refusal_number, Admit, AdmitMore, Submit, Functions, only, CoreState, tenant_in, shared_run, shared_after, shared_refusal, step_result, IsAnswerTo, submits, origins_of, AreSearches, IsSearch, own, Known, Leaf, LeafAnswer, root_words, frame_size, jamboree, HallOf, SeatOf, seeing, core_at, seat_steps, steps_of, lone_tenant, AllOwn, AreTaken, IsSeated, IsTrueTo, Saw, Took, Call, Hello, Reserve, Ask, Get, Wait, Cancel, AskQuota, AskLive, Leave, OfficeReply, Told, Gone, Refused, reply_of, Called, told_answer, History, is_stay, is_taken, reply_to, step_for, Adds, AllStay, AreAnswered, IsBoardIn, IsReplyAt, OfficeOf, asked_after, taken_reply, with_seat, IsLookBy, IsStepRefused, IsRefusedAtOnce, IsLookReply, IsStepBy, IsStepTaken, IsTurnAt, IsTurnOf, prefix-self, prefix-trans}
 use Rattle.sched_rules.specs.declared.step.StepOf.TheVariants.{Cancel as CancelStep, Leave as LeaveStep}
 use Rattle.desk_office.proofs.Histories.{adds-none, all-mine, all-own, moment, own-more, seat-more, steps-more, AllGo, Goes, IsAtMoment, Step}
 use Rattle.desk_office.proofs.Answered.{ask-at-once, ask-refused, ask-taken, cancel-at-once, cancel-refused, cancel-taken, live-at, reserve-refused, reserve-taken, rest-at, root_of, told-at}
 
 -- ---- beginnings
 
-took_more : (before now : Known Step) (step : Step) → Took before step now → IsPrefix before.seen now.seen
-took_more before now step t = (t.0 ++ (before.maker, step) ∷ [], sym (append_assoc before.seen t.0 ((before.maker, step) ∷ [])) ∙ sym t.1)
+took-more : (before now : Known Step) (step : Step) → Took before step now → IsPrefix before.seen now.seen
+took-more before now step t = (t.0 ++ (before.maker, step) ∷ [], sym (append_assoc before.seen t.0 ((before.maker, step) ∷ [])) ∙ sym t.1)
 
 own-one : (m : ℕ) (step : Step) → own m ((m, step) ∷ []) ≡ step ∷ []
 own-one m step = let same : (m == m) ≡ true = grind (arith, nat_tests) in ap (λ (b : Bool). if b then step ∷ [] else []) same
@@ -130,7 +130,7 @@ by-step begun from next first now call reply is to b takes at_once of grant refu
         by-seeing begun from next first now call reply is to (ap is_taken r.said) r.seat r.saw
         (λ m. subst (λ (x : OfficeReply). IsReplyAt begun first.tenant now.known.seen call x) (sym r.said) (refuse b.words b.step now.known.seen r.refusal b.asks m r.right))
     by (inr (inr r)) =
-        by-seeing begun from next first first call reply is (to ∙ ap (λ (s : SeatOf). with_seat s from) r.0) (at_once r.1) refl (prefix_self first.known.seen, is.whose, refl, refl) (λ m. refuse_at_once first.known.seen m r.1)
+        by-seeing begun from next first first call reply is (to ∙ ap (λ (s : SeatOf). with_seat s from) r.0) (at_once r.1) refl (prefix-self first.known.seen, is.whose, refl, refl) (λ m. refuse_at_once first.known.seen m r.1)
 
 -- a call that looks
 by-look : (begun : HallOf) (from next : OfficeOf) (first now : SeatOf) (call : Call) (reply : OfficeReply) → SeatHolds first → is_taken reply ≡ false → next ≡ with_seat now from → IsLookBy begun first call reply now →
@@ -140,8 +140,8 @@ by-look begun from next first now call reply is untaken to l answer =
     by-seeing begun from next first now call reply is to untaken l.look.kept l.look.saw (λ m. answer m (subst (λ (s : SeatOf). IsLookReply s.asked (lone_tenant begun now.known.seen s.tenant) call reply) l.look.kept l.said))
 
 -- what is told is no step
-told_is_none : {X : Type 0} (said : X → OfficeReply) (answer : Result X Refusal) → ((x : X) → is_taken (said x) ≡ false) → is_taken (reply_of said answer) ≡ false
-told_is_none said answer none = grind arith
+told-is-none : {X : Type 0} (said : X → OfficeReply) (answer : Result X Refusal) → ((x : X) → is_taken (said x) ≡ false) → is_taken (reply_of said answer) ≡ false
+told-is-none said answer none = grind arith
 
 abbrev PartOf : HallOf → Call → Type 0
 PartOf begun call = (from next : OfficeOf) (first : SeatOf) (reply : OfficeReply) → SeatHolds first → IsTurnOf begun (Some first) call reply from next → Part begun next first call reply
@@ -187,17 +187,17 @@ by-ask begun depth board side from next first reply is t =
     search words = Submit first.tenant (root_words words.own words.opp depth) frame_size
 
 part : (begun : HallOf) (from next : OfficeOf) (first : SeatOf) (call : Call) (reply : OfficeReply) → from.seat ≡ Some first → is_stay call ≡ true → SeatHolds first → IsTurnOf begun (Some first) call reply from next → Part begun next first call reply
-part begun from next first (Hello quota) reply here stays is t = grind (arith, by-seeing, prefix_self)
+part begun from next first (Hello quota) reply here stays is t = grind (arith, by-seeing, prefix-self)
 part begun from next first (Reserve quota) reply here stays is t = by-reserve begun quota from next first reply is t
 part begun from next first (Ask depth board side) reply here stays is t = by-ask begun depth board side from next first reply is t
 part begun from next first (Cancel job) reply here stays is t = by-cancel begun job from next first reply is t
 part begun from next first Leave reply here stays is t = absurd (cc stays)
 part begun from next first (Get job) reply here stays is t =
-    let said = t.2.said in by-look begun from next first t.0 (Get job) reply is (ap is_taken said.2 ∙ told_is_none (Told job) (told_answer said.0) (λ x. refl)) t.1 t.2 (λ m told. inl (told-at begun first.tenant t.0.known.seen first.asked job reply m told))
+    let said = t.2.said in by-look begun from next first t.0 (Get job) reply is (ap is_taken said.2 ∙ told-is-none (Told job) (told_answer said.0) (λ x. refl)) t.1 t.2 (λ m told. inl (told-at begun first.tenant t.0.known.seen first.asked job reply m told))
 part begun from next first (Wait job) reply here stays is t =
-    let said = t.2.said in by-look begun from next first t.0 (Wait job) reply is (ap is_taken said.2 ∙ told_is_none (Told job) (told_answer said.0) (λ x. refl)) t.1 t.2 (λ m told. inl (told-at begun first.tenant t.0.known.seen first.asked job reply m told))
-part begun from next first AskQuota reply here stays is t = grind (arith, by-look, told_is_none, rest-at)
-part begun from next first AskLive reply here stays is t = grind (arith, by-look, told_is_none, live-at)
+    let said = t.2.said in by-look begun from next first t.0 (Wait job) reply is (ap is_taken said.2 ∙ told-is-none (Told job) (told_answer said.0) (λ x. refl)) t.1 t.2 (λ m told. inl (told-at begun first.tenant t.0.known.seen first.asked job reply m told))
+part begun from next first AskQuota reply here stays is t = grind (arith, by-look, told-is-none, rest-at)
+part begun from next first AskLive reply here stays is t = grind (arith, by-look, told-is-none, live-at)
 
 -- ---- all calls
 
@@ -222,14 +222,14 @@ part-at begun from next first call reply here stays is turn = part begun from ne
 ending : (begun : HallOf) (first : SeatOf) (calls : List (Call × OfficeReply)) (from to : OfficeOf) → SeatHolds first → from.seat ≡ Some first → AllStay calls → Leads (Called (IsTurnAt begun)) from (calls ++ (Leave, Gone) ∷ []) to → Ending begun first to
 ending begun first [] from to is here stay h =
     let gone = gone-as begun first from h.0 to here h.1 h.2 in
-    record { known = gone.0; knew = gone.1; goes_on = took_more first.known gone.0 (LeaveStep first.tenant) gone.2; true_to = gone.3; maker = gone.2.4; whose = took-whose first.known gone.0 (LeaveStep first.tenant) gone.2 }
+    record { known = gone.0; knew = gone.1; goes_on = took-more first.known gone.0 (LeaveStep first.tenant) gone.2; true_to = gone.3; maker = gone.2.4; whose = took-whose first.known gone.0 (LeaveStep first.tenant) gone.2 }
 ending begun first (made ∷ more) from to is here stay h =
     let p = part-at begun from h.0 first made.0 made.1 here stay.0 is h.1 in
     let e = ending begun p.now more h.0 to p.kept p.seat stay.1 h.2 in
     record {
       known = e.known;
       knew = e.knew;
-      goes_on = prefix_trans first.known.seen p.now.known.seen e.known.seen (part-on begun h.0 first made.0 made.1 p) e.goes_on;
+      goes_on = prefix-trans first.known.seen p.now.known.seen e.known.seen (part-on begun h.0 first made.0 made.1 p) e.goes_on;
       true_to = subst (λ n. IsTrueTo begun n e.known) p.tenant e.true_to;
       maker = e.maker ∙ p.maker;
       whose = e.whose;

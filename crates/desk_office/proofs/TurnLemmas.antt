@@ -1,8 +1,8 @@
 -- What a call of the office is, by what the desk's call has done.
-use Rattle.desk_office.proofs.Common.{◌≡◌, ◌≢◌, ℕ, ◌+◌, ◌≤◌, List, [], ◌∷◌, map, length, Bool, true, false, Option, Some, None, Result, Ok, Err, refl, sym, ap, subst, ◌∙◌, inl, inr, arith, Contains, IfErr, MatchResult, nat_tests, length-append, length-map, map-append, Board, cells, Side, Quota, Left, Refusal, NoJob, NoJobsLeft, refusal_number, AdmitMore, Submit, root_words, frame_size, HallOf, Outcome, SeatAsked, found_or_no_tenant, ask_refusals, cancel_refusals, seat_asked_at, IsShown, SeatOf, reserve_refusals, seeing, stepped, IsAsked, lone_tenant, IsLook, IsShownAt, IsToldOf, Standing, Asked, KeepsAsks, Call, Reserve, Ask, Get, Wait, Cancel, AskQuota, OfficeReply, Reserved, Job, Told, Ended, Rest, Refused, reply_of, ask_of, told_answer, OfficeOf, with_seat, IsJobTold, IsStepBy, IsTurnAt, IsTurnOf}
+use Rattle.desk_office.proofs.Common.{◌≡◌, ◌≢◌, ℕ, ◌+◌, ◌≤◌, [], ◌∷◌, map, length, Bool, true, false, Option, Some, None, Result, Ok, Err, refl, sym, ap, subst, ◌∙◌, inl, inr, arith, Contains, IfErr, MatchResult, nat_tests, length-append, length-map, map-append, Board, cells, Side, Quota, Refusal, NoJob, NoJobsLeft, refusal_number, AdmitMore, Submit, root_words, frame_size, HallOf, Outcome, SeatAsked, ask_refusals, cancel_refusals, seat_asked_at, IsShown, SeatOf, reserve_refusals, seeing, stepped, IsAsked, lone_tenant, IsLook, IsShownAt, IsToldOf, Standing, KeepsAsks, Call, Reserve, Ask, Get, Wait, Cancel, OfficeReply, Reserved, Job, Told, Ended, Refused, reply_of, ask_of, told_answer, OfficeOf, with_seat, IsJobTold, IsStepBy, IsTurnAt, IsTurnOf}
 use Rattle.std.specs.Prelude.{◌==◌}
 use Rattle.sched_rules.specs.declared.step.StepOf.TheVariants.{Cancel as CancelStep}
-use Rattle.desk_office.proofs.SeatLemmas.{cancels, job_kept, refused_by, reserves}
+use Rattle.desk_office.proofs.SeatLemmas.{cancels, job-kept, refused-by, reserves}
 
 -- a call of an office whose seat is this one, and then that one
 turn : (begun : HallOf) (from : OfficeOf) (call : Call) (reply : OfficeReply) (before after : SeatOf) → from.seat ≡ Some before → IsTurnOf begun (Some before) call reply from (with_seat after from) →
@@ -14,97 +14,94 @@ no_words : Board
 no_words = record { own = 0; opp = 0; disjoint = refl }
 
 -- the seat reserves more
-reserve_step : (begun : HallOf) (before after : SeatOf) (quota : Quota) (answer : Result (Unit {0}) Refusal) → MatchResult answer (λ _. after ≡ stepped after.known before) (λ _. after ≡ seeing after.known before) →
+reserve-step : (begun : HallOf) (before after : SeatOf) (quota : Quota) (answer : Result (Unit {0}) Refusal) → MatchResult answer (λ _. after ≡ stepped after.known before) (λ _. after ≡ seeing after.known before) →
     IsToldOf begun before.known (AdmitMore before.tenant quota) answer after.known → IsStepBy begun before (Reserve quota) (reply_of (λ _. Reserved quota) answer) after
-reserve_step begun before after quota (Ok done) share told =
+reserve-step begun before after quota (Ok done) share told =
     record { words = no_words; board = tt; step = AdmitMore before.tenant quota; asks = refl; came = inl (record { took = told; seat = share; said = refl }) }
-reserve_step begun before after quota (Err refusal) share told =
+reserve-step begun before after quota (Err refusal) share told =
     record { words = no_words; board = tt; step = AdmitMore before.tenant quota; asks = refl; came = inr (inl (record { refusal = refusal; saw = told.0; right = told.1; seat = share; said = refl })) }
 
 -- the seat asks
-ask_step : (begun : HallOf) (before after : SeatOf) (words : Board) (depth : ℕ) (side : Side) (answer : Result ℕ Refusal) → depth ≤ 12 → IsAsked (record { board = words; depth = depth }) before answer after →
+ask-step : (begun : HallOf) (before after : SeatOf) (words : Board) (depth : ℕ) (side : Side) (answer : Result ℕ Refusal) → depth ≤ 12 → IsAsked (record { board = words; depth = depth }) before answer after →
     (length before.asked ≡ 256 → after ≡ before) →
     (length before.asked ≢ 256 → IsToldOf begun before.known (Submit before.tenant (root_words words.own words.opp depth) frame_size) answer after.known) →
     IsStepBy begun before (Ask depth (cells words) side) (reply_of Job answer) after
-ask_step begun before after words depth side (Ok job) shallow asked full told =
+ask-step begun before after words depth side (Ok job) shallow asked full told =
     let asking : SeatAsked = record { board = words; depth = depth } in
     let counted : job ≡ length before.asked + 1 = asked.1 ∙ ap (λ (s : SeatOf). length s.asked) asked.0 ∙ length-append before.asked (asking ∷ []) in
     record { words = words; board = (refl, shallow); step = Submit before.tenant (root_words words.own words.opp depth) frame_size; asks = refl; came = inl (record { took = told asked.2; seat = asked.0; said = ap Job counted }) }
-ask_step begun before after words depth side (Err refusal) shallow asked full told = by_test (length before.asked == 256) refl
+ask-step begun before after words depth side (Err refusal) shallow asked full told = by-test (length before.asked == 256) refl
   where
-    by_test : (b : Bool) → (length before.asked == 256) ≡ b → IsStepBy begun before (Ask depth (cells words) side) (Refused (refusal_number refusal)) after
-    by_test true e =
+    by-test : (b : Bool) → (length before.asked == 256) ≡ b → IsStepBy begun before (Ask depth (cells words) side) (Refused (refusal_number refusal)) after
+    by-test true e =
         let is : length before.asked ≡ 256 = grind (arith, nat_tests, e) in
         let why : refusal ≡ NoJobsLeft = asked.1 is in
         record { words = words; board = (refl, shallow); step = Submit before.tenant (root_words words.own words.opp depth) frame_size; asks = refl; came = inr (inr (full is, (is, ap (λ r. Refused (refusal_number r)) why))) }
-    by_test false e =
+    by-test false e =
         let other : length before.asked ≢ 256 = λ is. absurd (grind (arith, nat_tests, e, is)) in
         let kept = told other in
         record { words = words; board = (refl, shallow); step = Submit before.tenant (root_words words.own words.opp depth) frame_size; asks = refl; came = inr (inl (record { refusal = refusal; saw = kept.0; right = kept.1; seat = asked.0; said = refl })) }
 
 -- the seat cancels
-cancel_step : (begun : HallOf) (before after : SeatOf) (job : ℕ) (answer : Result (Unit {0}) Refusal) → MatchResult answer (λ _. after ≡ stepped after.known before) (λ _. after ≡ seeing after.known before) →
+cancel-step : (begun : HallOf) (before after : SeatOf) (job : ℕ) (answer : Result (Unit {0}) Refusal) → MatchResult answer (λ _. after ≡ stepped after.known before) (λ _. after ≡ seeing after.known before) →
     (seat_asked_at before.asked job ≡ None → (answer ≡ Err NoJob) × (after ≡ before)) → (seat_asked_at before.asked job ≢ None → IsToldOf begun before.known (CancelStep before.tenant job) answer after.known) →
     IsStepBy begun before (Cancel job) (reply_of (λ _. Ended job) answer) after
-cancel_step begun before after job answer share none told = by_found (seat_asked_at before.asked job) refl
+cancel-step begun before after job answer share none told = by-found (seat_asked_at before.asked job) refl
   where
-    by_answer : (a : Result (Unit {0}) Refusal) → MatchResult a (λ _. after ≡ stepped after.known before) (λ _. after ≡ seeing after.known before) → IsToldOf begun before.known (CancelStep before.tenant job) a after.known →
+    by-answer : (a : Result (Unit {0}) Refusal) → MatchResult a (λ _. after ≡ stepped after.known before) (λ _. after ≡ seeing after.known before) → IsToldOf begun before.known (CancelStep before.tenant job) a after.known →
         IsStepBy begun before (Cancel job) (reply_of (λ _. Ended job) a) after
-    by_answer (Ok done) share came = record { words = no_words; board = tt; step = CancelStep before.tenant job; asks = refl; came = inl (record { took = came; seat = share; said = refl }) }
-    by_answer (Err refusal) share came =
+    by-answer (Ok done) share came = record { words = no_words; board = tt; step = CancelStep before.tenant job; asks = refl; came = inl (record { took = came; seat = share; said = refl }) }
+    by-answer (Err refusal) share came =
         record { words = no_words; board = tt; step = CancelStep before.tenant job; asks = refl; came = inr (inl (record { refusal = refusal; saw = came.0; right = came.1; seat = share; said = refl })) }
 
-    by_found : (o : Option SeatAsked) → seat_asked_at before.asked job ≡ o → IsStepBy begun before (Cancel job) (reply_of (λ _. Ended job) answer) after
-    by_found None is =
+    by-found : (o : Option SeatAsked) → seat_asked_at before.asked job ≡ o → IsStepBy begun before (Cancel job) (reply_of (λ _. Ended job) answer) after
+    by-found None is =
         let nothing = none is in
         record { words = no_words; board = tt; step = CancelStep before.tenant job; asks = refl; came = inr (inr (nothing.1, (is, ap (reply_of (λ _. Ended job)) nothing.0))) }
-    by_found (Some asked) is = by_answer answer share (told (λ nothing. absurd (cc (sym is ∙ nothing))))
+    by-found (Some asked) is = by-answer answer share (told (λ nothing. absurd (cc (sym is ∙ nothing))))
 
 -- how a job is told
-job_look : (begun : HallOf) (before now : SeatOf) (job : ℕ) (answer : Result Outcome Refusal) → IsLook begun before now → IsShown (seat_asked_at now.asked job) answer → IsShownAt begun now job answer →
+job-look : (begun : HallOf) (before now : SeatOf) (job : ℕ) (answer : Result Outcome Refusal) → IsLook begun before now → IsShown (seat_asked_at now.asked job) answer → IsShownAt begun now job answer →
     IsJobTold now.asked (lone_tenant begun now.known.seen now.tenant) job (reply_of (Told job) (told_answer answer))
-job_look begun before now job answer look shown at = grind arith
+job-look begun before now job answer look shown at = grind arith
 
 -- the refusals of an ask, and what it does to what was asked
-asks_kept : (before after : SeatOf) (words : Board) (depth : ℕ) (side : Side) (answer : Result ℕ Refusal) → IsAsked (record { board = words; depth = depth }) before answer after → IfErr answer (Contains ask_refusals) →
+asks-kept : (before after : SeatOf) (words : Board) (depth : ℕ) (side : Side) (answer : Result ℕ Refusal) → IsAsked (record { board = words; depth = depth }) before answer after → IfErr answer (Contains ask_refusals) →
     KeepsAsks (map ask_of before.asked) (Ask depth (cells words) side) (reply_of Job answer) (map ask_of after.asked)
-asks_kept before after words depth side (Ok job) asked refused = grind (arith, length-map, length-append, map-append)
-asks_kept before after words depth side (Err refusal) asked refused = grind (arith, length-map, refused_by)
-
-rest_kept : (asks : List Asked) (found : Option Left) → KeepsAsks asks AskQuota (reply_of Rest (found_or_no_tenant found)) asks
-rest_kept asks found = grind arith
+asks-kept before after words depth side (Ok job) asked refused = grind (arith, length-map, length-append, map-append)
+asks-kept before after words depth side (Err refusal) asked refused = grind (arith, length-map, refused-by)
 
 -- the calls of an office whose seat is there
-pub reserve_turn : (begun : HallOf) (from : OfficeOf) (before after : SeatOf) (quota : Quota) (answer : Result (Unit {0}) Refusal) → from.seat ≡ Some before →
+pub reserve-turn : (begun : HallOf) (from : OfficeOf) (before after : SeatOf) (quota : Quota) (answer : Result (Unit {0}) Refusal) → from.seat ≡ Some before →
     MatchResult answer (λ _. after ≡ stepped after.known before) (λ _. after ≡ seeing after.known before) → IsToldOf begun before.known (AdmitMore before.tenant quota) answer after.known → IfErr answer (Contains reserve_refusals) →
     IsTurnAt begun from (Reserve quota) (reply_of (λ _. Reserved quota) answer) (with_seat after from)
-reserve_turn begun from before after quota answer is share told refused =
-    turn begun from (Reserve quota) (reply_of (λ _. Reserved quota) answer) before after is (after, refl, reserve_step begun before after quota answer share told) (reserves before after quota answer share refused)
+reserve-turn begun from before after quota answer is share told refused =
+    turn begun from (Reserve quota) (reply_of (λ _. Reserved quota) answer) before after is (after, refl, reserve-step begun before after quota answer share told) (reserves before after quota answer share refused)
 
-pub ask_turn : (begun : HallOf) (from : OfficeOf) (before after : SeatOf) (words : Board) (depth : ℕ) (side : Side) (answer : Result ℕ Refusal) → from.seat ≡ Some before → depth ≤ 12 → IsAsked (record { board = words; depth = depth }) before answer after →
+pub ask-turn : (begun : HallOf) (from : OfficeOf) (before after : SeatOf) (words : Board) (depth : ℕ) (side : Side) (answer : Result ℕ Refusal) → from.seat ≡ Some before → depth ≤ 12 → IsAsked (record { board = words; depth = depth }) before answer after →
     (length before.asked ≡ 256 → after ≡ before) →
     (length before.asked ≢ 256 → IsToldOf begun before.known (Submit before.tenant (root_words words.own words.opp depth) frame_size) answer after.known) → IfErr answer (Contains ask_refusals) →
     IsTurnAt begun from (Ask depth (cells words) side) (reply_of Job answer) (with_seat after from)
-ask_turn begun from before after words depth side answer is shallow asked full told refused =
-    turn begun from (Ask depth (cells words) side) (reply_of Job answer) before after is (after, refl, ask_step begun before after words depth side answer shallow asked full told) (asks_kept before after words depth side answer asked refused)
+ask-turn begun from before after words depth side answer is shallow asked full told refused =
+    turn begun from (Ask depth (cells words) side) (reply_of Job answer) before after is (after, refl, ask-step begun before after words depth side answer shallow asked full told) (asks-kept before after words depth side answer asked refused)
 
-pub cancel_turn : (begun : HallOf) (from : OfficeOf) (before after : SeatOf) (job : ℕ) (answer : Result (Unit {0}) Refusal) → from.seat ≡ Some before →
+pub cancel-turn : (begun : HallOf) (from : OfficeOf) (before after : SeatOf) (job : ℕ) (answer : Result (Unit {0}) Refusal) → from.seat ≡ Some before →
     MatchResult answer (λ _. after ≡ stepped after.known before) (λ _. after ≡ seeing after.known before) → (seat_asked_at before.asked job ≡ None → (answer ≡ Err NoJob) × (after ≡ before)) →
     (seat_asked_at before.asked job ≢ None → IsToldOf begun before.known (CancelStep before.tenant job) answer after.known) → IfErr answer (Contains cancel_refusals) →
     IsTurnAt begun from (Cancel job) (reply_of (λ _. Ended job) answer) (with_seat after from)
-cancel_turn begun from before after job answer is share none told refused =
-    turn begun from (Cancel job) (reply_of (λ _. Ended job) answer) before after is (after, refl, cancel_step begun before after job answer share none told) (cancels before after job answer share none refused)
+cancel-turn begun from before after job answer is share none told refused =
+    turn begun from (Cancel job) (reply_of (λ _. Ended job) answer) before after is (after, refl, cancel-step begun before after job answer share none told) (cancels before after job answer share none refused)
 
-pub get_turn : (begun : HallOf) (from : OfficeOf) (before after : SeatOf) (job : ℕ) (answer : Result Outcome Refusal) (said : Result Standing Refusal) → from.seat ≡ Some before → IsLook begun before after →
+pub get-turn : (begun : HallOf) (from : OfficeOf) (before after : SeatOf) (job : ℕ) (answer : Result Outcome Refusal) (said : Result Standing Refusal) → from.seat ≡ Some before → IsLook begun before after →
     IsShown (seat_asked_at after.asked job) answer → IsShownAt begun after job answer → said ≡ told_answer answer → IsTurnAt begun from (Get job) (reply_of (Told job) said) (with_seat after from)
-get_turn begun from before after job answer said is look shown at says =
-    let kept = job_kept (Get job) before after job answer look.kept shown (inl refl) in
+get-turn begun from before after job answer said is look shown at says =
+    let kept = job-kept (Get job) before after job answer look.kept shown (inl refl) in
     subst (λ (r : Result Standing Refusal). IsTurnAt begun from (Get job) (reply_of (Told job) r) (with_seat after from)) (sym says)
-    (turn begun from (Get job) (reply_of (Told job) (told_answer answer)) before after is (after, refl, record { look = look; said = job_look begun before after job answer look shown at }) (kept.0, kept.1, kept.2, kept.3))
+    (turn begun from (Get job) (reply_of (Told job) (told_answer answer)) before after is (after, refl, record { look = look; said = job-look begun before after job answer look shown at }) (kept.0, kept.1, kept.2, kept.3))
 
-pub wait_turn : (begun : HallOf) (from : OfficeOf) (before after : SeatOf) (job : ℕ) (answer : Result Outcome Refusal) (said : Result Standing Refusal) → from.seat ≡ Some before → IsLook begun before after →
+pub wait-turn : (begun : HallOf) (from : OfficeOf) (before after : SeatOf) (job : ℕ) (answer : Result Outcome Refusal) (said : Result Standing Refusal) → from.seat ≡ Some before → IsLook begun before after →
     IsShown (seat_asked_at after.asked job) answer → IsShownAt begun after job answer → said ≡ told_answer answer → IsTurnAt begun from (Wait job) (reply_of (Told job) said) (with_seat after from)
-wait_turn begun from before after job answer said is look shown at says =
-    let kept = job_kept (Wait job) before after job answer look.kept shown (inr refl) in
+wait-turn begun from before after job answer said is look shown at says =
+    let kept = job-kept (Wait job) before after job answer look.kept shown (inr refl) in
     subst (λ (r : Result Standing Refusal). IsTurnAt begun from (Wait job) (reply_of (Told job) r) (with_seat after from)) (sym says)
-    (turn begun from (Wait job) (reply_of (Told job) (told_answer answer)) before after is (after, refl, record { look = look; said = job_look begun before after job answer look shown at }) (kept.0, kept.1, kept.2, kept.3))
+    (turn begun from (Wait job) (reply_of (Told job) (told_answer answer)) before after is (after, refl, record { look = look; said = job-look begun before after job answer look shown at }) (kept.0, kept.1, kept.2, kept.3))

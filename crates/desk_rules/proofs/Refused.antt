@@ -24,22 +24,22 @@ within P (Ok outcome) answer refused taken h = subst (λ a. IfErr a P) (sym (tak
 within P (Err refusal) answer refused taken h = subst (λ a. IfErr a P) (sym (refused refusal refl)) h
 
 -- of the four tests of a Submit the first can't apply, since a root has the size of a frame
-submit_tested : {X : Type 0} (effect : X) (frame jobs nodes segments : Bool) → frame ≡ false
+submit-tested : {X : Type 0} (effect : X) (frame jobs nodes segments : Bool) → frame ≡ false
     → IfErr (if frame then Err BadAct else (if jobs then Err NoJobsLeft else (if nodes then Err NoNodes else (if segments then Err NoSegments else Ok effect)))) (Contains ask_refusals)
-submit_tested effect true jobs nodes segments h = absurd (cc h)
-submit_tested effect false true nodes segments h = (1, lit< tt, refl)
-submit_tested effect false false true segments h = (2, lit< tt, refl)
-submit_tested effect false false false true h = (3, lit< tt, refl)
-submit_tested effect false false false false h = tt
+submit-tested effect true jobs nodes segments h = absurd (cc h)
+submit-tested effect false true nodes segments h = (1, lit< tt, refl)
+submit-tested effect false false true segments h = (2, lit< tt, refl)
+submit-tested effect false false false true h = (3, lit< tt, refl)
+submit-tested effect false false false false h = tt
 
-submit_within : {I A : Type 0} (functions : Functions I A) (tenant : Option Tenant) (number own opp depth : ℕ) → IfErr (lone functions tenant (Submit number (root_words own opp depth) frame_size)) (Contains ask_refusals)
-submit_within functions None number own opp depth = (0, lit< tt, refl)
-submit_within {I} functions (Some tenant) number own opp depth =
-    submit_tested {X = Outcome I} (submitted tenant number (root_words own opp depth) frame_size) (not (is_frame_size (root_words own opp depth) frame_size)) (nat_le 256 (length tenant.jobs)) ((left tenant).nodes == 0) (nat_lt (left tenant).segments (charge frame_size)) refl
+submit-within : {I A : Type 0} (functions : Functions I A) (tenant : Option Tenant) (number own opp depth : ℕ) → IfErr (lone functions tenant (Submit number (root_words own opp depth) frame_size)) (Contains ask_refusals)
+submit-within functions None number own opp depth = (0, lit< tt, refl)
+submit-within {I} functions (Some tenant) number own opp depth =
+    submit-tested {X = Outcome I} (submitted tenant number (root_words own opp depth) frame_size) (not (is_frame_size (root_words own opp depth) frame_size)) (nat_le 256 (length tenant.jobs)) ((left tenant).nodes == 0) (nat_lt (left tenant).segments (charge frame_size)) refl
 
-pub ask_refused : (before after : HallOf) (number own opp depth : ℕ) (answer : Result (DidOf Leaf) Refusal) → IsOneStep (jamboree before.grain) before.shared (Submit number (root_words own opp depth) frame_size) answer after.shared → IfErr answer (Contains ask_refusals)
-ask_refused before after number own opp depth answer one =
+pub ask-refused : (before after : HallOf) (number own opp depth : ℕ) (answer : Result (DidOf Leaf) Refusal) → IsOneStep (jamboree before.grain) before.shared (Submit number (root_words own opp depth) frame_size) answer after.shared → IfErr answer (Contains ask_refusals)
+ask-refused before after number own opp depth answer one =
     let right = one.answered.1 refl in
     let functions = jamboree before.grain in
     let tenant = tenant_in before.shared.tenants number in
-    within (Contains ask_refusals) (lone functions tenant (Submit number (root_words own opp depth) frame_size)) answer right.own_state (λ none. right.else_taken none refl) (submit_within functions tenant number own opp depth)
+    within (Contains ask_refusals) (lone functions tenant (Submit number (root_words own opp depth) frame_size)) answer right.own_state (λ none. right.else_taken none refl) (submit-within functions tenant number own opp depth)

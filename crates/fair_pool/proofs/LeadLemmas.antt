@@ -6,9 +6,6 @@ use Rattle.fair_pool.proofs.WaitLemmas.{one, line_woken, sum-set, sum-one, other
 abbrev weight : ℕ → ℕ → Account → Account → ℕ
 weight group low account y = cond (is_member group y) ((account.served + 1) - cond (nat_lt y.served low) low y.served) 0
 
-weight-none : (group low : ℕ) (account : Account) → weight group low account free_account ≡ 0
-weight-none group low account = refl
-
 weight-rested : (group low : ℕ) (account y : Account) → weight group low account (rested y) ≡ weight group low account y
 weight-rested group low account y = refl
 

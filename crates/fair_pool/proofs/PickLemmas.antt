@@ -5,12 +5,12 @@ pub seen_none : (core : CoreState) (shares : SharesOf) → seen_up_to core 0 sha
 unfolding seen_up_to
 seen_none core shares = refl
 
-seen_next : (core : CoreState) (place : ℕ) (shares : SharesOf) → seen_up_to core (suc place) shares ≡ tenant_seen place (is_some (newest_ready_in core (tenant_in_place (seen_up_to core place shares) place).name)) (seen_up_to core place shares)
+seen-next : (core : CoreState) (place : ℕ) (shares : SharesOf) → seen_up_to core (suc place) shares ≡ tenant_seen place (is_some (newest_ready_in core (tenant_in_place (seen_up_to core place shares) place).name)) (seen_up_to core place shares)
 unfolding seen_up_to
-seen_next core place shares = refl
+seen-next core place shares = refl
 
 pub seen_more : (core : CoreState) (place : ℕ) (shares : SharesOf) → seen_up_to core (place + 1) shares ≡ tenant_seen place (is_some (newest_ready_in core (tenant_in_place (seen_up_to core place shares) place).name)) (seen_up_to core place shares)
-seen_more core place shares = ap (λ (n : ℕ). seen_up_to core n shares) (add-one place) ∙ seen_next core place shares
+seen_more core place shares = ap (λ (n : ℕ). seen_up_to core n shares) (add-one place) ∙ seen-next core place shares
 
 -- nothing is seen of a free place, whatever the hall has
 pub seen_nobody : (place : ℕ) (ready : Bool) (shares : SharesOf) → (tenant_in_place shares place).name ≡ 0 → tenant_seen place ready shares ≡ shares

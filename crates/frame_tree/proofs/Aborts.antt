@@ -5,14 +5,14 @@ use Rattle.frame_tree.proofs.Common.{ReadyFrame, has_number, filter-append, Slot
 use Rattle.frame_tree.proofs.Common.{aborted, frames_under, values_of, slots_in, AllHere, is_marked, marked_in, Marks, NoneMarked, frames_from, IsLinked}
 use Rattle.frame_tree.proofs.Common.{child_slots, kept_slots, AreSoundSlots, Rises, serials_of, cases_Bool, IsSeenAt}
 use Rattle.std.proofs.Common.{take-append-drop, take_at, drop_at, length-take-le as length-front, length-take}
-use Rattle.frame_tree.proofs.Forest.{next_to, stays_in, has_frame-append, FollowsBy, kept_slots-frames, gone_values-frames, linked_rises, above_at}
-use Rattle.frame_tree.proofs.Forest.{path_in-right, abort_follows}
-use Rattle.frame_tree.proofs.Finds.{none_of_length, count_in, IsTree-linked}
-use Rattle.frame_tree.proofs.Cutting.{head_key, tail_key}
-use Rattle.frame_tree.proofs.Changes.{childless, cut_linked, cut_length, cleared}
-use Rattle.frame_tree.proofs.SlotStores.{here_found, slots_in-length}
+use Rattle.frame_tree.proofs.Forest.{next_to, stays_in, has_frame-append, FollowsBy, kept_slots-frames, gone_values-frames, linked_rises, above-at}
+use Rattle.frame_tree.proofs.Forest.{path_in-right, abort-follows}
+use Rattle.frame_tree.proofs.Finds.{none-of-length, count_in, IsTree-linked}
+use Rattle.frame_tree.proofs.Cutting.{head-key, tail-key}
+use Rattle.frame_tree.proofs.Changes.{childless, cut-linked, cut-length, cleared}
+use Rattle.frame_tree.proofs.SlotStores.{here-found, slots_in-length}
 use Rattle.std.proofs.lemmas.List.{take-map}
-use Rattle.frame_tree.proofs.Readies.{ready_in-append, ready_in-take, few_ready_in}
+use Rattle.frame_tree.proofs.Readies.{ready_in-append, ready_in-take, few-ready_in}
 use Rattle.frame_tree.proofs.TreeLaws.{found-serial, found-path, there-found, goes-through}
 
 -- each slot stays
@@ -21,43 +21,43 @@ AllStay keep [] = Unit {0}
 AllStay keep (x ∷ xs) = (keep x.serial ≡ true) × AllStay keep xs
 
 module _ {T : Type 0} (keep : ℕ → Bool) where
-  all_stay : (n : ℕ) (frames : List (Frame T)) (xs : List (Slot T)) → FollowsBy keep n xs → child_slots n xs ≡ [] → IsLinked frames xs →
+  all-stay : (n : ℕ) (frames : List (Frame T)) (xs : List (Slot T)) → FollowsBy keep n xs → child_slots n xs ≡ [] → IsLinked frames xs →
       ((p : ℕ) → has_frame frames p ≡ true → keep p ≡ true) → AllStay keep xs
-  all_stay n frames [] f none l kept = tt
-  all_stay n frames (x ∷ xs) f none l kept = grind (arith, all_stay n (next_to frames x) xs, has_frame-append, ne_eqb, eqb-true)
+  all-stay n frames [] f none l kept = tt
+  all-stay n frames (x ∷ xs) f none l kept = grind (arith, all-stay n (next_to frames x) xs, has_frame-append, ne_eqb, eqb-true)
 
   -- those before a place stay, where each lower serial does
-  early_stay : (xs : List (Slot T)) (i n : ℕ) → Rises xs → i < length xs → slice_index (serials_of xs) i ≡ n → ((s : ℕ) → s < n → keep s ≡ true) →
+  early-stay : (xs : List (Slot T)) (i n : ℕ) → Rises xs → i < length xs → slice_index (serials_of xs) i ≡ n → ((s : ℕ) → s < n → keep s ≡ true) →
       AllStay keep (take i xs)
-  early_stay [] i n rise lt at low = absurd (omega arith)
-  early_stay (x ∷ xs) zero n rise lt at low = tt
-  early_stay (x ∷ xs) (suc i) n rise lt at low =
-      let above = above_at xs x.serial i rise.0 (omega arith) in
-      (low x.serial (omega (arith, above, at)), early_stay xs i n rise.1 (omega arith) at low)
+  early-stay [] i n rise lt at low = absurd (omega arith)
+  early-stay (x ∷ xs) zero n rise lt at low = tt
+  early-stay (x ∷ xs) (suc i) n rise lt at low =
+      let above = above-at xs x.serial i rise.0 (omega arith) in
+      (low x.serial (omega (arith, above, at)), early-stay xs i n rise.1 (omega arith) at low)
 
-  filter_all : (xs : List (Slot T)) → AllStay keep xs → filter (λ x. keep x.serial) xs ≡ xs
-  filter_all [] s = refl
-  filter_all (x ∷ xs) s = rw s.0 (ap (λ ys. x ∷ ys) (filter_all xs s.1))
+  filter-all : (xs : List (Slot T)) → AllStay keep xs → filter (λ x. keep x.serial) xs ≡ xs
+  filter-all [] s = refl
+  filter-all (x ∷ xs) s = rw s.0 (ap (λ ys. x ∷ ys) (filter-all xs s.1))
 
-  filter_none : (xs : List (Slot T)) → AllStay keep xs → filter (λ x. not (keep x.serial)) xs ≡ []
-  filter_none [] s = refl
-  filter_none (x ∷ xs) s = rw s.0 (filter_none xs s.1)
+  filter-none : (xs : List (Slot T)) → AllStay keep xs → filter (λ x. not (keep x.serial)) xs ≡ []
+  filter-none [] s = refl
+  filter-none (x ∷ xs) s = rw s.0 (filter-none xs s.1)
 
 module _ {T : Type 0} (n : ℕ) (xs : List (Slot T)) (l : IsLinked [] xs) (none : count_in xs n ≡ 0) where
   stay : AllStay (stays_in n xs) xs
-  stay = all_stay (stays_in n xs) n [] xs (abort_follows n xs l) (none_of_length (child_slots n xs) none) l (λ p has. absurd (false≢true has))
+  stay = all-stay (stays_in n xs) n [] xs (abort-follows n xs l) (none-of-length (child_slots n xs) none) l (λ p has. absurd (false≢true has))
 
-  pub leaf_aborted : aborted n (frames_from [] xs) ≡ frames_from [] xs
-  leaf_aborted = sym (kept_slots-frames n xs l) ∙ ap (frames_from []) (filter_all (stays_in n xs) xs stay)
+  pub leaf-aborted : aborted n (frames_from [] xs) ≡ frames_from [] xs
+  leaf-aborted = sym (kept_slots-frames n xs l) ∙ ap (frames_from []) (filter-all (stays_in n xs) xs stay)
 
-  pub leaf_under : values_of (frames_under n (frames_from [] xs)) ≡ []
-  leaf_under = sym (gone_values-frames n xs l) ∙ ap (map (λ x. x.value)) (filter_none (stays_in n xs) xs stay)
+  pub leaf-under : values_of (frames_under n (frames_from [] xs)) ≡ []
+  leaf-under = sym (gone_values-frames n xs l) ∙ ap (map (λ x. x.value)) (filter-none (stays_in n xs) xs stay)
 
 -- What stands up to an aborted frame stays.
 
 -- no frame of a lower serial is under it
-kept_low : {T : Type 0} (n s : ℕ) (xs : List (Slot T)) → IsLinked [] xs → s < n → stays_in n xs s ≡ true
-kept_low n s xs l low =
+kept-low : {T : Type 0} (n s : ℕ) (xs : List (Slot T)) → IsLinked [] xs → s < n → stays_in n xs s ≡ true
+kept-low n s xs l low =
     let frames = frames_from [] xs in
     elim (cases_Bool (has_frame frames s)) [
       | inl there ↦ (let f = there-found frames s there in
@@ -69,38 +69,38 @@ kept_low n s xs l low =
     ]
 
 -- what stands under the keys before a place is unmarked, and has a lower serial than what stands there
-early_slot : {T : Type 0} (slab : Slab (StoredSlot T)) (before keys : List ℕ) (i n k : ℕ) (x : StoredSlot T) → AllHere slab before keys →
+early-slot : {T : Type 0} (slab : Slab (StoredSlot T)) (before keys : List ℕ) (i n k : ℕ) (x : StoredSlot T) → AllHere slab before keys →
     Rises (slots_in slab keys) → i < length keys →
     slice_index (serials_of (slots_in slab keys)) i ≡ n → has_number (take i keys) k ≡ true → get slab k ≡ Some x → (x.marked ≡ false) × (x.slot.serial < n)
-early_slot slab before [] i n k x h rise lt at has is = absurd (omega arith)
-early_slot slab before (j ∷ keys) zero n k x h rise lt at has is = absurd (false≢true has)
-early_slot slab before (j ∷ keys) (suc i) n k x h rise lt at has is =
-    let found = here_found slab before (get slab j) h.0 in
+early-slot slab before [] i n k x h rise lt at has is = absurd (omega arith)
+early-slot slab before (j ∷ keys) zero n k x h rise lt at has is = absurd (false≢true has)
+early-slot slab before (j ∷ keys) (suc i) n k x h rise lt at has is =
+    let found = here-found slab before (get slab j) h.0 in
     let long = slots_in-length slab (before ++ j ∷ []) keys h.1 in
-    grind (arith, found.1, long, above_at (slots_in slab keys) found.0.slot.serial i, early_slot slab (before ++ j ∷ []) keys i n k x)
+    grind (arith, found.1, long, above-at (slots_in slab keys) found.0.slot.serial i, early-slot slab (before ++ j ∷ []) keys i n k x)
 
 module _ {T : Type 0} (n : ℕ) (slab : Slab (StoredSlot T)) (keys : List ℕ) (i : ℕ) (h : AllHere slab [] keys) (l : IsLinked [] (slots_in slab keys))
     (lt : i < length (slots_in slab keys)) (at : slice_index (serials_of (slots_in slab keys)) i ≡ n) where
-  early_staying : (k : ℕ) (x : StoredSlot T) → has_number (take i keys) k ≡ true → get slab k ≡ Some x →
+  early-staying : (k : ℕ) (x : StoredSlot T) → has_number (take i keys) k ≡ true → get slab k ≡ Some x →
       (x.marked ≡ false) × (stays_in n (slots_in slab keys) x.slot.serial ≡ true)
-  early_staying k x has is =
-      let early = early_slot slab [] keys i n k x h (linked_rises [] (slots_in slab keys) l) (rw (slots_in-length slab [] keys h) at lt) at has is in
-      (early.0, kept_low n x.slot.serial (slots_in slab keys) l early.1)
+  early-staying k x has is =
+      let early = early-slot slab [] keys i n k x h (linked_rises [] (slots_in slab keys) l) (rw (slots_in-length slab [] keys h) at lt) at has is in
+      (early.0, kept-low n x.slot.serial (slots_in slab keys) l early.1)
 
   -- so marking may begin behind it
-  pub marks_early : Marks n (slots_in slab keys) (take i keys) slab slab
-  marks_early k = grind (arith, early_staying)
+  pub marks-early : Marks n (slots_in slab keys) (take i keys) slab slab
+  marks-early k = grind (arith, early-staying)
 
   -- and so may the removal of the marked
-  unmarked_early : (k : ℕ) → has_number (take i keys) k ≡ true → is_marked (marked_in n (slots_in slab keys) keys k (get slab k)) ≡ false
-  unmarked_early k has = grind (arith, early_staying)
+  unmarked-early : (k : ℕ) → has_number (take i keys) k ≡ true → is_marked (marked_in n (slots_in slab keys) keys k (get slab k)) ≡ false
+  unmarked-early k has = grind (arith, early-staying)
 
-  pub none_marked_early : (marked : Slab (StoredSlot T)) → Marks n (slots_in slab keys) keys slab marked → NoneMarked marked (take i keys)
-  none_marked_early marked m = none (take i keys) (λ k has. ap is_marked (m k) ∙ unmarked_early k has)
+  pub none-marked-early : (marked : Slab (StoredSlot T)) → Marks n (slots_in slab keys) keys slab marked → NoneMarked marked (take i keys)
+  none-marked-early marked m = none (take i keys) (λ k has. ap is_marked (m k) ∙ unmarked-early k has)
     where
       none : (some : List ℕ) → ((k : ℕ) → has_number some k ≡ true → is_marked (get marked k) ≡ false) → NoneMarked marked some
       none [] all = tt
-      none (k ∷ some) all = (all k (head_key k some), none some (λ j has. all j (tail_key k j some has)))
+      none (k ∷ some) all = (all k (head-key k some), none some (λ j has. all j (tail-key k j some has)))
 
 -- the ready frames after an abort: those below the aborted frame, and those among the slots from its place on
 pub record CutsReady {T : Type 0} (xs zs : List (TenantSlot T)) (i n places : ℕ) (frames : List ReadyFrame) : Type 0 where
@@ -111,27 +111,27 @@ pub record CutsReady {T : Type 0} (xs zs : List (TenantSlot T)) (i n places : �
 
 -- the slot that was read with no child counted, and what is ready after an abort at it
 module _ {T : Type 0} {xs : List (TenantSlot T)} {count i n : ℕ} {slot : TenantSlot T} (s : AreSoundSlots xs count) (seen : IsSeenAt xs n i slot) where
-  pub childless_at : slice_index (serials_of (set xs i (childless slot))) i ≡ n
-  childless_at = ap (λ ns. slice_index ns i) (cleared s seen).serials ∙ seen.named
+  pub childless-at : slice_index (serials_of (set xs i (childless slot))) i ≡ n
+  childless-at = ap (λ ns. slice_index ns i) (cleared s seen).serials ∙ seen.named
 
-  pub cut_ready : {frames : List ReadyFrame} {places : ℕ} → frames ≡ ready_in xs → length xs ≤ places →
+  pub cut-ready : {frames : List ReadyFrame} {places : ℕ} → frames ≡ ready_in xs → length xs ≤ places →
       CutsReady xs (kept_slots n (set xs i (childless slot))) i n places frames
-  cut_ready {frames} {places} ready within =
+  cut-ready {frames} {places} ready within =
       let ys : List (TenantSlot T) = set xs i (childless slot) in
       let zs : List (TenantSlot T) = kept_slots n ys in
       let lt : i < length ys = omega (arith, (cleared s seen).long, seen.within) in
       let front : length (take i ys) ≡ i = length-front i ys (omega arith) in
-      let linked = cut_linked s seen in
-      let stay = early_stay (stays_in n ys) ys i n (linked_rises [] ys linked) lt childless_at (λ s low. kept_low n s ys linked low) in
+      let linked = cut-linked s seen in
+      let stay = early-stay (stays_in n ys) ys i n (linked_rises [] ys linked) lt childless-at (λ s low. kept-low n s ys linked low) in
       let stays : TenantSlot T → Bool = λ x. stays_in n ys x.serial in
       let rest : List (TenantSlot T) = filter stays (drop i ys) in
       let parts : zs ≡ take i ys ++ rest = ap (filter stays) (sym (take-append-drop i ys)) ∙ filter-append stays (take i ys) (drop i ys)
-      ∙ ap (λ ws. ws ++ rest) (filter_all (stays_in n ys) (take i ys) stay) in
+      ∙ ap (λ ws. ws ++ rest) (filter-all (stays_in n ys) (take i ys) stay) in
       let below : List ReadyFrame = filter (λ frame. nat_lt frame.serial n) frames in
       let early : below ≡ ready_in (take i ys) =
       rw (ready, ready_in-take xs i n (linked_rises [] xs s.linked) seen.within seen.named) (ap ready_in (sym (take-set xs i (childless slot)))) in
-      let few = few_ready_in (take i ys) in
-      let fewer = cut_length s seen in
+      let few = few-ready_in (take i ys) in
+      let fewer = cut-length s seen in
       let same : take i zs ≡ take i xs = rw parts (take_at (take i ys) rest i front ∙ take-set xs i (childless slot)) in
       record {
         within = rw parts (omega (arith, length-append (take i ys) rest, front));

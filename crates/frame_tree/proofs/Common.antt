@@ -11,7 +11,7 @@ pub use Rattle.std.proofs.lemmas.List.Edits.{length-remove}
 pub use Rattle.std.proofs.lemmas.List.Elements.{filter-append, filter_more}
 pub use Rattle.std.proofs.lemmas.Option.{none-some}
 pub use Rattle.std.specs.List.{copy_within, filter, insert, remove}
-pub use Rattle.number_index.proofs.Edits.{all-at, all-map, has-found, length-inserted, length-with, length-without, said-without_own}
+pub use Rattle.number_index.proofs.Edits.{all-at, all-map, has-found, length-inserted, length-with, length-without, said-without-own}
 pub use Rattle.number_index.specs.Places.{AreAbove, AreRising, change_by_number, find_by_number, inserted, read_by_number, remove_by_number}
 pub use Rattle.slab.specs.Slab.{ContainsKey, Slab, Updates, get, slab_len}
 pub use Rattle.frame_tree.specs.Frames.{AllBelow, Frame, IsNextFrame, IsTree, IsTreeAfter, TenantTree, aborted, children_of, frame_at, frames_under}

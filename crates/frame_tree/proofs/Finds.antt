@@ -7,7 +7,7 @@ use Rattle.frame_tree.proofs.Common.{without_child, IsSeenAt, is_child_of}
 use Rattle.frame_tree.specs.Frames.{root_of, names_of, ready_frames, newest_ready_of, first_of_two, ready_name, IsReadyAt}
 use Rattle.frame_tree.specs.Slots.{is_serial, names_in, has_parent_slot, root_at, root_under, CountsAre}
 use Rattle.frame_tree.proofs.Forest.{next_to, EndsIn-path_in, parent_of-append, AllEnd, AllEnd-next, AllEnd-frames_from, has_frame-frames_from, linked_rises}
-use Rattle.frame_tree.proofs.Forest.{above_at, has_frame-above, FollowsBy, slot_values-frames, seen_next, root_of-append}
+use Rattle.frame_tree.proofs.Forest.{above-at, has_frame-above, FollowsBy, slot_values-frames, seen-next, root_of-append}
 use Rattle.frame_tree.proofs.TreeLaws.{children-by-paths, missing}
 
 -- a slot's frame is found, with this path
@@ -29,16 +29,16 @@ module _ {T : Type 0} where
   found frames [] i serial slot l ends seen = absurd (omega (arith, seen.within))
   found frames (x ∷ xs) zero serial slot l ends seen = grind (arith, parent_of-path_under)
   found frames (x ∷ xs) (suc i) serial slot l ends seen =
-      let next = seen_next seen in
-      let above = above_at xs x.serial i (linked_rises frames (x ∷ xs) l).0 next.within in
+      let next = seen-next seen in
+      let above = above-at xs x.serial i (linked_rises frames (x ∷ xs) l).0 next.within in
       let differs : eqb x.serial serial ≡ false = ne_eqb x.serial serial (λ e. omega (arith, above, next.named, e)) in
       let rest = found (next_to frames x) xs i serial slot l.1 (AllEnd-next frames x ends) next in
       (rest.0, record { at = rw differs rest.1.at; parent = rest.1.parent; root = rest.1.root; same = rw differs rest.1.same })
 
   -- so is that of a slot that was read
-  pub seen_frame : {xs : List (Slot T)} {i serial : ℕ} {slot : Slot T} → IsLinked [] xs → IsSeenAt xs serial i slot →
+  pub seen-frame : {xs : List (Slot T)} {i serial : ℕ} {slot : Slot T} → IsLinked [] xs → IsSeenAt xs serial i slot →
       (path : List ℕ) × IsFound (frames_from [] xs) slot serial path
-  seen_frame {xs = xs} {i} {serial} {slot} l seen = found [] xs i serial slot l tt seen
+  seen-frame {xs = xs} {i} {serial} {slot} l seen = found [] xs i serial slot l tt seen
 
 -- linked slots stand for a tree
 module _ {T : Type 0} where
@@ -47,18 +47,18 @@ module _ {T : Type 0} where
   IsTree-linked frames (x ∷ xs) ends l = grind (arith, IsTree-linked (next_to frames x) xs (AllEnd-next frames x ends), parent_of-path_under, AllEnd-next)
 
   -- the names of the children of a frame are those of its child slots
-  child_names : (tenant serial : ℕ) (frames : List (Frame T)) (xs : List (Slot T)) → IsLinked frames xs → AllEnd frames →
+  child-names : (tenant serial : ℕ) (frames : List (Frame T)) (xs : List (Slot T)) → IsLinked frames xs → AllEnd frames →
       names_of tenant (filter (λ frame. is_child_of serial frame.path) (frames_from frames xs)) ≡ names_in tenant (child_slots serial xs)
-  child_names tenant serial frames [] l ends = refl
-  child_names tenant serial frames (x ∷ xs) l ends =
+  child-names tenant serial frames [] l ends = refl
+  child-names tenant serial frames (x ∷ xs) l ends =
       let parent = parent_of-path_under frames x.parent x.serial ends l.0.parent in
-      let rest = child_names tenant serial (next_to frames x) xs l.1 (AllEnd-next frames x ends) in
+      let rest = child-names tenant serial (next_to frames x) xs l.1 (AllEnd-next frames x ends) in
       grind (arith, parent, rest)
 
   pub children_of-names : (tenant : ℕ) (xs : List (Slot T)) (serial : ℕ) → IsLinked [] xs →
       names_of tenant (children_of (frames_from [] xs) serial) ≡ names_in tenant (child_slots serial xs)
   children_of-names tenant xs serial l =
-      ap (λ fs. names_of tenant fs) (children-by-paths (frames_from [] xs) serial (IsTree-linked [] xs tt l)) ∙ child_names tenant serial [] xs l tt
+      ap (λ fs. names_of tenant fs) (children-by-paths (frames_from [] xs) serial (IsTree-linked [] xs tt l)) ∙ child-names tenant serial [] xs l tt
 
 -- as many frames are ready as slots
 module _ {T : Type 0} where
@@ -80,8 +80,8 @@ module _ {T : Type 0} where
       sym (length-map (children_of (frames_from [] xs) serial) _) ∙ ap length (children_of-names 0 xs serial l) ∙ length-map (child_slots serial xs) _
 
 -- a list with no element
-pub none_of_length : {X : Type 0} (xs : List X) → length xs ≡ 0 → xs ≡ []
-none_of_length xs h1 = grind (arith, common_steps)
+pub none-of-length : {X : Type 0} (xs : List X) → length xs ≡ 0 → xs ≡ []
+none-of-length xs h1 = grind (arith, common_steps)
 
 -- a parent is among the frames where it is among the slots
 module _ {T : Type 0} where
@@ -105,23 +105,23 @@ IsNewest tenant frames ready = (ready.0.tenant ≡ tenant) × IsReadyAt (frame_a
 
 -- what is above all serials is not the newest ready
 module _ {T : Type 0} (tenant : ℕ) where
-  pub newest_above : (serial : ℕ) (xs : List (Slot T)) (ready : FrameId × ℕ) → AllAbove serial xs → newest_in tenant xs ≡ Some ready → serial < ready.0.serial
-  newest_above serial [] ready above is = absurd (none-some ready is)
-  newest_above serial (x ∷ xs) ready above is = grind (arith, newest_above serial xs ready)
+  pub newest-above : (serial : ℕ) (xs : List (Slot T)) (ready : FrameId × ℕ) → AllAbove serial xs → newest_in tenant xs ≡ Some ready → serial < ready.0.serial
+  newest-above serial [] ready above is = absurd (none-some ready is)
+  newest-above serial (x ∷ xs) ready above is = grind (arith, newest-above serial xs ready)
 
   -- the newest ready frame is there, ready at its home
-  pub newest_is_ready : (frames : List (Frame T)) (xs : List (Slot T)) (ready : FrameId × ℕ) → IsLinked frames xs → newest_in tenant xs ≡ Some ready →
+  pub newest-is_ready : (frames : List (Frame T)) (xs : List (Slot T)) (ready : FrameId × ℕ) → IsLinked frames xs → newest_in tenant xs ≡ Some ready →
       IsNewest tenant (frames_from frames xs) ready
-  newest_is_ready frames [] ready l is = absurd (none-some ready is)
-  newest_is_ready frames (x ∷ xs) ready l is =
-      let rest = newest_is_ready (next_to frames x) xs ready l.1 in
-      let above = newest_above x.serial xs ready (linked_rises frames (x ∷ xs) l).0 in
+  newest-is_ready frames [] ready l is = absurd (none-some ready is)
+  newest-is_ready frames (x ∷ xs) ready l is =
+      let rest = newest-is_ready (next_to frames x) xs ready l.1 in
+      let above = newest-above x.serial xs ready (linked_rises frames (x ∷ xs) l).0 in
       grind (arith, rest, above)
 
   -- so is the one that was found
-  pub newest_found_ready : (xs : List (Slot T)) (result : Option (FrameId × ℕ)) → IsLinked [] xs → result ≡ newest_in tenant xs →
+  pub newest-found-ready : (xs : List (Slot T)) (result : Option (FrameId × ℕ)) → IsLinked [] xs → result ≡ newest_in tenant xs →
       IfSome result (λ ready. IsNewest tenant (frames_from [] xs) ready)
-  newest_found_ready xs result l is = grind (arith, newest_is_ready)
+  newest-found-ready xs result l is = grind (arith, newest-is_ready)
 
 -- what is counted of slots and frames
 module _ {T : Type 0} where
@@ -139,15 +139,15 @@ module _ {T : Type 0} where
 
 -- the count in the slot that was read
 module _ {T : Type 0} (count : ℕ → ℕ) where
-  pub counted_at : (xs : List (Slot T)) (i serial : ℕ) (slot : Slot T) → CountsAre count xs → IsSeenAt xs serial i slot → slot.children ≡ count serial
-  counted_at [] i serial slot c seen = absurd (omega (arith, seen.within))
-  counted_at (x ∷ xs) zero serial slot c seen = ap (λ s. s.children) seen.read ∙ (c.0 ∙ ap count seen.named)
-  counted_at (x ∷ xs) (suc i) serial slot c seen = counted_at xs i serial slot c.1 (seen_next seen)
+  pub counted-at : (xs : List (Slot T)) (i serial : ℕ) (slot : Slot T) → CountsAre count xs → IsSeenAt xs serial i slot → slot.children ≡ count serial
+  counted-at [] i serial slot c seen = absurd (omega (arith, seen.within))
+  counted-at (x ∷ xs) zero serial slot c seen = ap (λ s. s.children) seen.read ∙ (c.0 ∙ ap count seen.named)
+  counted-at (x ∷ xs) (suc i) serial slot c seen = counted-at xs i serial slot c.1 (seen-next seen)
 
   -- no count is beyond all slots
-  pub counts_below : (limit : ℕ) (xs : List (Slot T)) → CountsAre count xs → ((n : ℕ) → count n < limit) → AllCountsBelow limit xs
-  counts_below limit [] c few = tt
-  counts_below limit (x ∷ xs) c few = (let h = few x.serial in omega (arith, c.0), counts_below limit xs c.1 few)
+  pub counts-below : (limit : ℕ) (xs : List (Slot T)) → CountsAre count xs → ((n : ℕ) → count n < limit) → AllCountsBelow limit xs
+  counts-below limit [] c few = tt
+  counts-below limit (x ∷ xs) c few = (let h = few x.serial in omega (arith, c.0), counts-below limit xs c.1 few)
 
 -- the same counts by another name
 module _ {T : Type 0} (f : ℕ → ℕ) where
@@ -174,25 +174,25 @@ module _ {T : Type 0} (f g : ℕ → ℕ) where
   CountsAre-filter keep (x ∷ xs) e c = grind (arith, CountsAre-filter keep xs e)
 
 -- a change that keeps what a test sees
-pub length-filter_with_slot : {T : Type 0} (test : Slot T → Bool) (p : ℕ) (change : Slot T → Slot T) (xs : List (Slot T)) →
+pub length-filter-with_slot : {T : Type 0} (test : Slot T → Bool) (p : ℕ) (change : Slot T → Slot T) (xs : List (Slot T)) →
     ((x : Slot T) → test (change x) ≡ test x) → length (filter test (with_slot p change xs)) ≡ length (filter test xs)
-length-filter_with_slot test p change [] e = refl
-length-filter_with_slot test p change (x ∷ xs) e = grind (arith, length-filter_with_slot test p change xs e)
+length-filter-with_slot test p change [] e = refl
+length-filter-with_slot test p change (x ∷ xs) e = grind (arith, length-filter-with_slot test p change xs e)
 
 -- a write changes a count of those that pass by the old one and the new one
 module _ {X : Type 0} (test : X → Bool) where
-  pub length-filter_set : (xs : List X) (i : ℕ) (old new : X) → i < length xs → old ≡ get_or xs i old →
+  pub length-filter-set : (xs : List X) (i : ℕ) (old new : X) → i < length xs → old ≡ get_or xs i old →
       length (filter test (set xs i new)) + cond (test old) 1 0 ≡ length (filter test xs) + cond (test new) 1 0
-  length-filter_set [] i old new lt is = absurd (omega arith)
-  length-filter_set (x ∷ xs) zero old new lt is = grind arith
-  length-filter_set (x ∷ xs) (suc i) old new lt is = grind (arith, length-filter_set xs i old new)
+  length-filter-set [] i old new lt is = absurd (omega arith)
+  length-filter-set (x ∷ xs) zero old new lt is = grind arith
+  length-filter-set (x ∷ xs) (suc i) old new lt is = grind (arith, length-filter-set xs i old new)
 
   -- and a removal by the old one
-  pub length-filter_remove : (xs : List X) (i : ℕ) (old : X) → i < length xs → old ≡ get_or xs i old →
+  pub length-filter-remove : (xs : List X) (i : ℕ) (old : X) → i < length xs → old ≡ get_or xs i old →
       length (filter test (remove xs i)) + cond (test old) 1 0 ≡ length (filter test xs)
-  length-filter_remove [] i old lt is = absurd (omega arith)
-  length-filter_remove (x ∷ xs) zero old lt is = grind arith
-  length-filter_remove (x ∷ xs) (suc i) old lt is = grind (arith, length-filter_remove xs i old)
+  length-filter-remove [] i old lt is = absurd (omega arith)
+  length-filter-remove (x ∷ xs) zero old lt is = grind arith
+  length-filter-remove (x ∷ xs) (suc i) old lt is = grind (arith, length-filter-remove xs i old)
 
 -- one more child of a parent
 module _ {T : Type 0} (f : ℕ → ℕ) where
@@ -214,9 +214,9 @@ module _ {T : Type 0} (f : ℕ → ℕ) where
       (λ n ne. let h = rw (ne_eqb p n (λ q. ne (sym q))) at (e n) in omega (arith, h)) c
 
 -- a new slot has no child
-pub no_child_of_new : {T : Type 0} (xs : List (Slot T)) (serial : ℕ) (parent : Option ℕ) → IsLinked [] xs → AllBelow serial (frames_from [] xs) →
+pub no-child-of-new : {T : Type 0} (xs : List (Slot T)) (serial : ℕ) (parent : Option ℕ) → IsLinked [] xs → AllBelow serial (frames_from [] xs) →
     has_parent (frames_from [] xs) parent ≡ true → count_in xs serial + cond (is_serial serial parent) 1 0 ≡ 0
-no_child_of_new xs serial parent l below there =
+no-child-of-new xs serial parent l below there =
     let absent = has_frame-above (frames_from [] xs) serial below in
     let gone : children_of (frames_from [] xs) serial ≡ [] = rw (missing (frames_from [] xs) serial absent) refl in
     let other : is_serial serial parent ≡ false = grind arith in
@@ -224,15 +224,15 @@ no_child_of_new xs serial parent l below there =
 
 -- no child of the aborted frame stays
 module _ {T : Type 0} (keep : ℕ → Bool) (under : ℕ) where
-  pub no_child_stays : (xs : List (Slot T)) → FollowsBy keep under xs → count_in (filter (λ x. keep x.serial) xs) under ≡ 0
-  no_child_stays [] f = refl
-  no_child_stays (x ∷ xs) f = grind (arith, no_child_stays xs)
+  pub no-child-stays : (xs : List (Slot T)) → FollowsBy keep under xs → count_in (filter (λ x. keep x.serial) xs) under ≡ 0
+  no-child-stays [] f = refl
+  no-child-stays (x ∷ xs) f = grind (arith, no-child-stays xs)
 
   -- each child of another frame that stays does
-  pub children_stay : (serial : ℕ) (xs : List (Slot T)) → FollowsBy keep under xs → serial ≢ under → keep serial ≡ true →
+  pub children-stay : (serial : ℕ) (xs : List (Slot T)) → FollowsBy keep under xs → serial ≢ under → keep serial ≡ true →
       count_in (filter (λ x. keep x.serial) xs) serial ≡ count_in xs serial
-  children_stay serial [] f ne kept = refl
-  children_stay serial (x ∷ xs) f ne kept = grind (arith, children_stay serial xs, eqb-true, ne_eqb)
+  children-stay serial [] f ne kept = refl
+  children-stay serial (x ∷ xs) f ne kept = grind (arith, children-stay serial xs, eqb-true, ne_eqb)
 
 -- what of slots is what of their frames
 pub ruleset of_frames = (frames_from-length, ready_frames-length, has_frame-frames_from, slot_values-frames, IsTree-linked, names_of-slots, children_of-names)

@@ -71,17 +71,17 @@ module _ {T : Type 0} where
   has_frame-frames_from frames (x ∷ xs) serial = ap (λ b. eqb x.serial serial || b) (has_frame-frames_from (next_to frames x) xs serial)
 
   -- slots that are linked after frames above which a serial cannot be are above it
-  pub linked_above : (frames : List (Frame T)) (xs : List (Slot T)) (serial : ℕ) → ((m : ℕ) → AllBelow m frames → serial < m) → IsLinked frames xs →
+  pub linked-above : (frames : List (Frame T)) (xs : List (Slot T)) (serial : ℕ) → ((m : ℕ) → AllBelow m frames → serial < m) → IsLinked frames xs →
       AllAbove serial xs
-  linked_above frames [] serial p l = tt
-  linked_above frames (x ∷ xs) serial p l =
-      (p x.serial l.0.above, linked_above (next_to frames x) xs serial (λ m b. p m (AllBelow-left m frames _ b)) l.1)
+  linked-above frames [] serial p l = tt
+  linked-above frames (x ∷ xs) serial p l =
+      (p x.serial l.0.above, linked-above (next_to frames x) xs serial (λ m b. p m (AllBelow-left m frames _ b)) l.1)
 
   -- linked slots rise
   pub linked_rises : (frames : List (Frame T)) (xs : List (Slot T)) → IsLinked frames xs → Rises xs
   linked_rises frames [] l = tt
   linked_rises frames (x ∷ xs) l =
-      (linked_above (next_to frames x) xs x.serial (λ m b. (AllBelow-right m frames (frame_of_slot frames x ∷ []) b).0) l.1, linked_rises (next_to frames x) xs l.1)
+      (linked-above (next_to frames x) xs x.serial (λ m b. (AllBelow-right m frames (frame_of_slot frames x ∷ []) b).0) l.1, linked_rises (next_to frames x) xs l.1)
 
 -- a path ends in this serial
 abbrev pub EndsIn : List ℕ → ℕ → Type 0
@@ -140,11 +140,11 @@ module _ {T : Type 0} where
   -- Looking a slot up by its serial.
 
   -- the serial of the slot that was read
-  pub serial_read : (slots : List (Slot T)) (i : ℕ) (slot : Slot T) → i < length slots → slot ≡ get_or slots i slot →
+  pub serial-read : (slots : List (Slot T)) (i : ℕ) (slot : Slot T) → i < length slots → slot ≡ get_or slots i slot →
       slice_index (serials_of slots) i ≡ slot.serial
-  serial_read [] i slot lt is = absurd (omega arith)
-  serial_read (s ∷ slots) zero slot lt is = ap (λ s. s.serial) (sym is)
-  serial_read (s ∷ slots) (suc i) slot lt is = serial_read slots i slot (omega arith) is
+  serial-read [] i slot lt is = absurd (omega arith)
+  serial-read (s ∷ slots) zero slot lt is = ap (λ s. s.serial) (sym is)
+  serial-read (s ∷ slots) (suc i) slot lt is = serial-read slots i slot (omega arith) is
 
   -- a slot that stands somewhere is there
   pub has_slot-found : (slots : List (Slot T)) (i serial : ℕ) → i < length slots → slice_index (serials_of slots) i ≡ serial → has_slot slots serial ≡ true
@@ -153,10 +153,10 @@ module _ {T : Type 0} where
   has_slot-found (s ∷ slots) (suc i) serial lt is = grind (arith, has_slot-found slots i serial)
 
   -- a serial above another, at a place
-  pub above_at : (slots : List (Slot T)) (serial k : ℕ) → AllAbove serial slots → k < length slots → serial < slice_index (serials_of slots) k
-  above_at [] serial k above lt = absurd (omega arith)
-  above_at (s ∷ slots) serial zero above lt = above.0
-  above_at (s ∷ slots) serial (suc k) above lt = above_at slots serial k above.1 (omega arith)
+  pub above-at : (slots : List (Slot T)) (serial k : ℕ) → AllAbove serial slots → k < length slots → serial < slice_index (serials_of slots) k
+  above-at [] serial k above lt = absurd (omega arith)
+  above-at (s ∷ slots) serial zero above lt = above.0
+  above-at (s ∷ slots) serial (suc k) above lt = above-at slots serial k above.1 (omega arith)
 
   -- nothing below all serials is there
   pub has_slot-below : (slots : List (Slot T)) (serial : ℕ) → AllAbove serial slots → has_slot slots serial ≡ false
@@ -169,8 +169,8 @@ module _ {T : Type 0} where
   with_slot-absent (s ∷ slots) serial change none = grind (arith, with_slot-absent slots serial change)
 
   -- a slot that was seen, behind the first one
-  pub seen_next : {s : Slot T} {slots : List (Slot T)} {i serial : ℕ} {slot : Slot T} → IsSeenAt (s ∷ slots) serial (suc i) slot → IsSeenAt slots serial i slot
-  seen_next seen = record { within = omega (arith, seen.within); named = seen.named; read = seen.read }
+  pub seen-next : {s : Slot T} {slots : List (Slot T)} {i serial : ℕ} {slot : Slot T} → IsSeenAt (s ∷ slots) serial (suc i) slot → IsSeenAt slots serial i slot
+  seen-next seen = record { within = omega (arith, seen.within); named = seen.named; read = seen.read }
 
   -- a write at the place of a serial
   pub with_slot-set : (slots : List (Slot T)) (i serial : ℕ) (change : Slot T → Slot T) (slot : Slot T) → Rises slots → IsSeenAt slots serial i slot →
@@ -178,28 +178,28 @@ module _ {T : Type 0} where
   with_slot-set [] i serial change slot rise seen = absurd (omega (arith, seen.within))
   with_slot-set (s ∷ slots) zero serial change slot rise seen = grind (arith, has_slot-below, with_slot-absent)
   with_slot-set (s ∷ slots) (suc i) serial change slot rise seen =
-      let next = seen_next seen in grind (arith, with_slot-set slots i serial change slot rise.1 next, above_at slots s.serial i)
+      let next = seen-next seen in grind (arith, with_slot-set slots i serial change slot rise.1 next, above-at slots s.serial i)
 
   -- what a slot that was found says of the root, and of the count of children
   pub root_at-found : (slots : List (Slot T)) (i serial : ℕ) (slot : Slot T) → Rises slots → IsSeenAt slots serial i slot → root_at slots serial ≡ slot.root
   root_at-found [] i serial slot rise seen = absurd (omega (arith, seen.within))
   root_at-found (s ∷ slots) zero serial slot rise seen = grind arith
   root_at-found (s ∷ slots) (suc i) serial slot rise seen =
-      let next = seen_next seen in grind (arith, root_at-found slots i serial slot rise.1 next, above_at slots s.serial i)
+      let next = seen-next seen in grind (arith, root_at-found slots i serial slot rise.1 next, above-at slots s.serial i)
 
   pub children_at-found : (slots : List (Slot T)) (i serial : ℕ) (slot : Slot T) → Rises slots → IsSeenAt slots serial i slot →
       children_at slots serial ≡ slot.children
   children_at-found [] i serial slot rise seen = absurd (omega (arith, seen.within))
   children_at-found (s ∷ slots) zero serial slot rise seen = grind arith
   children_at-found (s ∷ slots) (suc i) serial slot rise seen =
-      let next = seen_next seen in grind (arith, children_at-found slots i serial slot rise.1 next, above_at slots s.serial i)
+      let next = seen-next seen in grind (arith, children_at-found slots i serial slot rise.1 next, above-at slots s.serial i)
 
   -- a bound on all counts, at a place
-  pub count_at : (slots : List (Slot T)) (limit i : ℕ) (slot : Slot T) → AllCountsBelow limit slots → i < length slots → slot ≡ get_or slots i slot →
+  pub count-at : (slots : List (Slot T)) (limit i : ℕ) (slot : Slot T) → AllCountsBelow limit slots → i < length slots → slot ≡ get_or slots i slot →
       slot.children < limit
-  count_at [] limit i slot few lt is = absurd (omega arith)
-  count_at (s ∷ slots) limit zero slot few lt is = let e = ap (λ (s : Slot T). s.children) is in omega (arith, few.0, e)
-  count_at (s ∷ slots) limit (suc i) slot few lt is = count_at slots limit i slot few.1 (omega arith) is
+  count-at [] limit i slot few lt is = absurd (omega arith)
+  count-at (s ∷ slots) limit zero slot few lt is = let e = ap (λ (s : Slot T). s.children) is in omega (arith, few.0, e)
+  count-at (s ∷ slots) limit (suc i) slot few lt is = count-at slots limit i slot few.1 (omega arith) is
 
 -- Slots of which some go: those that stay are linked as before, and stand for the frames that stay.
 
@@ -226,11 +226,11 @@ module _ {T : Type 0} (keep : ℕ → Bool) (frames left : List (Frame T)) (x : 
 
   -- one more frame that goes
   pub Keeps-gone : keep x.serial ≡ false → Keeps keep frames left → Keeps keep (frames ++ x ∷ []) left
-  Keeps-gone goes k = grind (arith, path_gone, has_frame-append, AllBelow-left, eqb-true)
+  Keeps-gone goes k = grind (arith, path-gone, has_frame-append, AllBelow-left, eqb-true)
     where
-      path_gone : (frames : List (Frame T)) (x : Frame T) (p : ℕ) → eqb x.serial p ≡ false → path_in frames p ≡ path_in (frames ++ x ∷ []) p
-      path_gone [] x p e = rw e refl
-      path_gone (y ∷ ys) x p e = ap (λ q. cond (eqb y.serial p) y.path q) (path_gone ys x p e)
+      path-gone : (frames : List (Frame T)) (x : Frame T) (p : ℕ) → eqb x.serial p ≡ false → path_in frames p ≡ path_in (frames ++ x ∷ []) p
+      path-gone [] x p e = rw e refl
+      path-gone (y ∷ ys) x p e = ap (λ q. cond (eqb y.serial p) y.path q) (path-gone ys x p e)
 
 -- the path under a parent that stays
 module _ {T : Type 0} (keep : ℕ → Bool) (frames left : List (Frame T)) (parent : Option ℕ) where
@@ -269,9 +269,9 @@ abbrev pub FollowsBy : {T : Type 0} → (ℕ → Bool) → ℕ → List (Slot T)
 FollowsBy keep under [] = Unit {0}
 FollowsBy keep under (x ∷ xs) = (keep x.serial ≡ stays_by keep under x.parent) × FollowsBy keep under xs
 
-pub IsClosed-from_follows : {T : Type 0} (keep : ℕ → Bool) (under : ℕ) (xs : List (Slot T)) → FollowsBy keep under xs → IsClosed keep xs
-IsClosed-from_follows keep under [] f = tt
-IsClosed-from_follows keep under (x ∷ xs) f = grind (arith, IsClosed-from_follows keep under xs)
+pub IsClosed-from-follows : {T : Type 0} (keep : ℕ → Bool) (under : ℕ) (xs : List (Slot T)) → FollowsBy keep under xs → IsClosed keep xs
+IsClosed-from-follows keep under [] f = tt
+IsClosed-from-follows keep under (x ∷ xs) f = grind (arith, IsClosed-from-follows keep under xs)
 
 -- the path of the frame that comes next
 module _ {T : Type 0} (all frames : List (Frame T)) where
@@ -279,34 +279,34 @@ module _ {T : Type 0} (all frames : List (Frame T)) where
   path_in-next rest x is below = grind (arith, path_in-right, has_frame-above)
 
   -- frames that come next, and the rest after them
-  pub all_next : (x : Slot T) (xs : List (Slot T)) → all ≡ frames ++ frames_from frames (x ∷ xs) → all ≡ (next_to frames x) ++ frames_from (next_to frames x) xs
-  all_next x xs is = is ∙ sym (append_assoc frames (frame_of_slot frames x ∷ []) (frames_from (next_to frames x) xs))
+  pub all-next : (x : Slot T) (xs : List (Slot T)) → all ≡ frames ++ frames_from frames (x ∷ xs) → all ≡ (next_to frames x) ++ frames_from (next_to frames x) xs
+  all-next x xs is = is ∙ sym (append_assoc frames (frame_of_slot frames x ∷ []) (frames_from (next_to frames x) xs))
 
 -- whether a slot stays, by its parent
 module _ {T : Type 0} (under : ℕ) (all : List (Frame T)) where
-  pub kept_next : (frames : List (Frame T)) (parent : Option ℕ) (serial : ℕ) → path_in all serial ≡ path_under frames parent serial →
+  pub kept-next : (frames : List (Frame T)) (parent : Option ℕ) (serial : ℕ) → path_in all serial ≡ path_under frames parent serial →
       has_parent frames parent ≡ true → AllEnd frames → ArePathsOf all frames → is_kept under all serial ≡ stays_by (is_kept under all) under parent
-  kept_next frames None serial is there ends same = rw is refl
-  kept_next frames (Some p) serial is there ends same = grind (arith, goes_under-append under (path_in frames p) p serial, EndsIn-path_in)
+  kept-next frames None serial is there ends same = rw is refl
+  kept-next frames (Some p) serial is there ends same = grind (arith, goes_under-append under (path_in frames p) p serial, EndsIn-path_in)
 
-  pub kept_follows : (frames : List (Frame T)) (xs : List (Slot T)) → all ≡ frames ++ frames_from frames xs → IsLinked frames xs → AllEnd frames →
+  pub kept-follows : (frames : List (Frame T)) (xs : List (Slot T)) → all ≡ frames ++ frames_from frames xs → IsLinked frames xs → AllEnd frames →
       FollowsBy (is_kept under all) under xs
-  kept_follows frames [] is l ends = tt
-  kept_follows frames (x ∷ xs) is l ends =
+  kept-follows frames [] is l ends = tt
+  kept-follows frames (x ∷ xs) is l ends =
       let next = frame_of_slot frames x in
       let rest = frames_from (frames ++ next ∷ []) xs in (
-        kept_next frames x.parent x.serial (path_in-next all frames rest next is l.0.above) l.0.parent ends (λ p h. rw is (path_in-left frames (next ∷ rest) p h)),
-        kept_follows (frames ++ next ∷ []) xs (all_next all frames x xs is) l.1 (AllEnd-next frames x ends),
+        kept-next frames x.parent x.serial (path_in-next all frames rest next is l.0.above) l.0.parent ends (λ p h. rw is (path_in-left frames (next ∷ rest) p h)),
+        kept-follows (frames ++ next ∷ []) xs (all-next all frames x xs is) l.1 (AllEnd-next frames x ends),
       )
 
 -- which frames a test chooses by the paths that they are found with, it chooses by their own
 module _ {T : Type 0} (p q : List ℕ → Bool) (same : (path : List ℕ) → p path ≡ q path) (all : List (Frame T)) where
-  chosen_by_paths : (frames : List (Frame T)) (xs : List (Slot T)) → all ≡ frames ++ frames_from frames xs → IsLinked frames xs →
+  chosen-by-paths : (frames : List (Frame T)) (xs : List (Slot T)) → all ≡ frames ++ frames_from frames xs → IsLinked frames xs →
       filter (λ x. p (path_in all x.serial)) (frames_from frames xs) ≡ filter (λ x. q x.path) (frames_from frames xs)
-  chosen_by_paths frames [] is l = refl
-  chosen_by_paths frames (x ∷ xs) is l =
+  chosen-by-paths frames [] is l = refl
+  chosen-by-paths frames (x ∷ xs) is l =
       let here = path_in-next all frames (frames_from (next_to frames x) xs) (frame_of_slot frames x) is l.0.above in
-      let rest = chosen_by_paths (next_to frames x) xs (all_next all frames x xs is) l.1 in
+      let rest = chosen-by-paths (next_to frames x) xs (all-next all frames x xs is) l.1 in
       grind (arith, here, rest, same)
 
 -- the values of slots are those of the frames
@@ -322,39 +322,39 @@ values-frames_from choose frames (x ∷ xs) = grind (arith, values-frames_from c
 
 -- what an abort leaves of linked slots
 module _ {T : Type 0} (under : ℕ) (xs : List (Slot T)) (l : IsLinked [] xs) where
-  pub abort_follows : FollowsBy (stays_in under xs) under xs
-  abort_follows = kept_follows under (frames_from [] xs) [] xs refl l tt
+  pub abort-follows : FollowsBy (stays_in under xs) under xs
+  abort-follows = kept-follows under (frames_from [] xs) [] xs refl l tt
 
-  pub abort_closed : IsClosed (stays_in under xs) xs
-  abort_closed = IsClosed-from_follows (stays_in under xs) under xs abort_follows
+  pub abort-closed : IsClosed (stays_in under xs) xs
+  abort-closed = IsClosed-from-follows (stays_in under xs) under xs abort-follows
 
   pub kept_slots-frames : frames_from [] (kept_slots under xs) ≡ aborted under (frames_from [] xs)
   kept_slots-frames =
       let stays : List ℕ → Bool = λ path. not (goes_under under path) in
-      frames_from-kept (stays_in under xs) [] [] xs (Keeps-none (stays_in under xs)) abort_closed ∙ chosen_by_paths stays stays (λ path. refl) (frames_from [] xs) [] xs refl l
+      frames_from-kept (stays_in under xs) [] [] xs (Keeps-none (stays_in under xs)) abort-closed ∙ chosen-by-paths stays stays (λ path. refl) (frames_from [] xs) [] xs refl l
 
   pub kept_slots-linked : IsLinked [] (kept_slots under xs)
-  kept_slots-linked = IsLinked-kept (stays_in under xs) [] [] xs (Keeps-none (stays_in under xs)) abort_closed l
+  kept_slots-linked = IsLinked-kept (stays_in under xs) [] [] xs (Keeps-none (stays_in under xs)) abort-closed l
 
   pub gone_values-frames : gone_values under xs ≡ values_of (frames_under under (frames_from [] xs))
   gone_values-frames =
       let goes : List ℕ → Bool = goes_under under in
       values-frames_from (λ s. not (stays_in under xs s)) [] xs
-      ∙ ap values_of (chosen_by_paths (λ path. not (not (goes path))) goes (λ path. not-not (goes path)) (frames_from [] xs) [] xs refl l)
+      ∙ ap values_of (chosen-by-paths (λ path. not (not (goes path))) goes (λ path. not-not (goes path)) (frames_from [] xs) [] xs refl l)
 
 -- a slot that was read stays as its parent lets it
 module _ {T : Type 0} (keep : ℕ → Bool) where
-  pub follows_at : (under : ℕ) (xs : List (Slot T)) (i : ℕ) (slot : Slot T) → FollowsBy keep under xs → i < length xs → slot ≡ get_or xs i slot →
+  pub follows-at : (under : ℕ) (xs : List (Slot T)) (i : ℕ) (slot : Slot T) → FollowsBy keep under xs → i < length xs → slot ≡ get_or xs i slot →
       keep slot.serial ≡ stays_by keep under slot.parent
-  follows_at under [] i slot f lt is = absurd (omega arith)
-  follows_at under (x ∷ xs) zero slot f lt is = rw is f.0
-  follows_at under (x ∷ xs) (suc i) slot f lt is = follows_at under xs i slot f.1 (omega arith) is
+  follows-at under [] i slot f lt is = absurd (omega arith)
+  follows-at under (x ∷ xs) zero slot f lt is = rw is f.0
+  follows-at under (x ∷ xs) (suc i) slot f lt is = follows-at under xs i slot f.1 (omega arith) is
 
   -- what is there after some have gone
-  no_slot-filter : (xs : List (Slot T)) (p : ℕ) → keep p ≡ false → has_slot (filter (λ x. keep x.serial) xs) p ≡ false
-  no_slot-filter [] p goes = refl
-  no_slot-filter (x ∷ xs) p goes = grind (arith, no_slot-filter xs p, eqb-true)
+  no-slot-filter : (xs : List (Slot T)) (p : ℕ) → keep p ≡ false → has_slot (filter (λ x. keep x.serial) xs) p ≡ false
+  no-slot-filter [] p goes = refl
+  no-slot-filter (x ∷ xs) p goes = grind (arith, no-slot-filter xs p, eqb-true)
 
   pub has_slot-filter : (xs : List (Slot T)) (p : ℕ) → has_slot xs p ≡ true → has_slot (filter (λ x. keep x.serial) xs) p ≡ keep p
   has_slot-filter [] p h = absurd (false≢true h)
-  has_slot-filter (x ∷ xs) p h = grind (arith, has_slot-filter xs p, no_slot-filter, eqb-true)
+  has_slot-filter (x ∷ xs) p h = grind (arith, has_slot-filter xs p, no-slot-filter, eqb-true)

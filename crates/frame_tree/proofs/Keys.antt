@@ -5,12 +5,12 @@ use Rattle.frame_tree.proofs.Common.{State, remove, has_number, StoredSlot, comm
 use Rattle.frame_tree.proofs.Common.{length-map, map-append, Slab, get, slab_len, ContainsKey, Updates, cases_eq, false≢true, eq-eqb, ne_eqb, AllAbove, Rises}
 use Rattle.frame_tree.proofs.Common.{serials_of, has_slot, IsLinked, with_child, slots_in, AllHere, AreApartKeys, KnowsParent, IsSlotStore, AreKeys, IsKeyAt}
 use Rattle.frame_tree.proofs.Common.{IsSeenAt, ChangesSlot}
-use Rattle.frame_tree.proofs.Forest.{has_frame-frames_from, linked_rises, serial_read, has_slot-found}
+use Rattle.frame_tree.proofs.Forest.{has_frame-frames_from, linked_rises, serial-read, has_slot-found}
 use Rattle.std.proofs.lemmas.List.Sums.{sum_by-set}
 use Rattle.std.proofs.Math.Seq.{map-set_same}
 use Rattle.std.proofs.lemmas.List.{take-map, drop-map}
-use Rattle.frame_tree.proofs.SlotStores.{here_contains, AreLike, all_here_like, slots_in-put, slots_in-length, slot_read, knows_read, kept_read}
-use Rattle.frame_tree.proofs.Changes.{recount_more}
+use Rattle.frame_tree.proofs.SlotStores.{here-contains, AreLike, all-here-like, slots_in-put, slots_in-length, slot-read, knows-read, kept-read}
+use Rattle.frame_tree.proofs.Changes.{recount-more}
 
 pub has_number-serials_of : {T : Type 0} (xs : List (Slot T)) (n : ℕ) → has_number (serials_of xs) n ≡ has_slot xs n
 has_number-serials_of [] n = refl
@@ -31,62 +31,62 @@ pub record IsFoundAt {T : Type 0} (xs : List (Slot T)) (at n : ℕ) : Type 0 whe
 
 -- the index: what a search of it says of the slots, and what each change leaves of it
 module _ {T : Type 0} (xs : List (Slot T)) (serials : List ℕ) (is : serials ≡ serials_of xs) where
-  pub found_at : (at n : ℕ) → at < length serials → slice_index serials at ≡ n → IsFoundAt xs at n
-  found_at at n within found = record { within = omega (arith, within, ap length is, length-map xs (λ s. s.serial)); found = rw is at found }
+  pub found-at : (at n : ℕ) → at < length serials → slice_index serials at ≡ n → IsFoundAt xs at n
+  found-at at n within found = record { within = omega (arith, within, ap length is, length-map xs (λ s. s.serial)); found = rw is at found }
 
   -- the slot at the place of a serial that is known to be there
-  pub seen_by : {at n : ℕ} {slot : Slot T} → at < length serials → slice_index serials at ≡ n → slot ≡ get_or xs at slot → IsSeenAt xs n at slot
-  seen_by {at} {n} within found read = let place = found_at at n within found in record { within = place.within; named = place.found; read = read }
+  pub seen-by : {at n : ℕ} {slot : Slot T} → at < length serials → slice_index serials at ≡ n → slot ≡ get_or xs at slot → IsSeenAt xs n at slot
+  seen-by {at} {n} within found read = let place = found-at at n within found in record { within = place.within; named = place.found; read = read }
 
-  pub none_at : (n : ℕ) → has_number serials n ≡ false → has_slot xs n ≡ false
-  none_at n none = sym (has_number-serials_of xs n) ∙ (rw is at none)
+  pub none-at : (n : ℕ) → has_number serials n ≡ false → has_slot xs n ≡ false
+  none-at n none = sym (has_number-serials_of xs n) ∙ (rw is at none)
 
-  pub there_at : (n : ℕ) → has_slot xs n ≡ true → has_number serials n ≡ true
-  there_at n there = rw is (has_number-serials_of xs n ∙ there)
+  pub there-at : (n : ℕ) → has_slot xs n ≡ true → has_number serials n ≡ true
+  there-at n there = rw is (has_number-serials_of xs n ∙ there)
 
-  pub index_rises : IsLinked [] xs → AreRising (λ n. n) serials
-  index_rises l = rw is (serials_of-rises xs (linked_rises [] xs l))
+  pub index-rises : IsLinked [] xs → AreRising (λ n. n) serials
+  index-rises l = rw is (serials_of-rises xs (linked_rises [] xs l))
 
   -- whether a search has found a slot
-  pub found_there : (n : ℕ) (place : Option ℕ) → IfSome place (λ at. (at < length serials) × (slice_index serials at ≡ n)) →
+  pub found-there : (n : ℕ) (place : Option ℕ) → IfSome place (λ at. (at < length serials) × (slice_index serials at ≡ n)) →
       IfNone place (has_number serials n ≡ false) → is_some place ≡ has_slot xs n
-  found_there n place h6 h7 = grind (arith, none_at, found_at, has_slot-found)
+  found-there n place h6 h7 = grind (arith, none-at, found-at, has_slot-found)
 
-  pub added_index : (parent : Option ℕ) (slot : Slot T) → serials ++ slot.serial ∷ [] ≡ serials_of (with_child parent xs ++ slot ∷ [])
-  added_index parent slot = let same = (recount_more parent xs).serials in grind (arith, map-append, same)
+  pub added-index : (parent : Option ℕ) (slot : Slot T) → serials ++ slot.serial ∷ [] ≡ serials_of (with_child parent xs ++ slot ∷ [])
+  added-index parent slot = let same = (recount-more parent xs).serials in grind (arith, map-append, same)
 
-  pub index_set : (i : ℕ) (slot new : Slot T) → slot ≡ get_or xs i slot → new.serial ≡ slot.serial → serials ≡ serials_of (set xs i new)
-  index_set i slot new read same = is ∙ sym (map-set_same (λ s. s.serial) xs i new slot (same ∙ ap (λ s. s.serial) read))
+  pub index-set : (i : ℕ) (slot new : Slot T) → slot ≡ get_or xs i slot → new.serial ≡ slot.serial → serials ≡ serials_of (set xs i new)
+  index-set i slot new read same = is ∙ sym (map-set_same (λ s. s.serial) xs i new slot (same ∙ ap (λ s. s.serial) read))
 
-  pub removed_index : (i : ℕ) → remove serials i ≡ serials_of (remove xs i)
-  removed_index i = rw is (simp (map-append, take-map, drop-map))
+  pub removed-index : (i : ℕ) → remove serials i ≡ serials_of (remove xs i)
+  removed-index i = rw is (simp (map-append, take-map, drop-map))
 
-  pub cut_index : (zs : List (Slot T)) (i : ℕ) → take i (serials_of zs) ≡ take i (serials_of xs) → take i serials ++ serials_of (drop i zs) ≡ serials_of zs
-  cut_index zs i front = rw (is, ← front) (rw (← drop-map (λ s. s.serial) i zs) (take-append-drop i (serials_of zs)))
+  pub cut-index : (zs : List (Slot T)) (i : ℕ) → take i (serials_of zs) ≡ take i (serials_of xs) → take i serials ++ serials_of (drop i zs) ≡ serials_of zs
+  cut-index zs i front = rw (is, ← front) (rw (← drop-map (λ s. s.serial) i zs) (take-append-drop i (serials_of zs)))
 
 -- a slot that is filled is within, and counted
 module _ {X : Type 0} (slots : List (Option X)) (key : ℕ) (h1 : is_some (get_or slots key None) ≡ true) where
-  filled_within : key < length slots
-  filled_within = grind (arith, common_steps)
+  filled-within : key < length slots
+  filled-within = grind (arith, common_steps)
 
-  filled_counts : 1 ≤ count_by is_some slots
-  filled_counts = grind (arith, common_steps)
+  filled-counts : 1 ≤ count_by is_some slots
+  filled-counts = grind (arith, common_steps)
 
 -- keys that are apart, each of a filled slot, and as many as the filled slots: each filled slot's is among them
-all_among : {X : Type 0} (slots : List (Option X)) (keys : List ℕ) (key : ℕ) → AreApartKeys keys →
+all-among : {X : Type 0} (slots : List (Option X)) (keys : List ℕ) (key : ℕ) → AreApartKeys keys →
     ((k : ℕ) → has_number keys k ≡ true → is_some (get_or slots k None) ≡ true) → count_by is_some slots ≡ length keys →
     is_some (get_or slots key None) ≡ true → has_number keys key ≡ true
-all_among slots [] key apart filled counted some = absurd (let one = filled_counts slots key some in omega (arith, one, counted))
-all_among {X} slots (k ∷ keys) key apart filled counted some =
+all-among slots [] key apart filled counted some = absurd (let one = filled-counts slots key some in omega (arith, one, counted))
+all-among {X} slots (k ∷ keys) key apart filled counted some =
     let here : is_some (get_or slots k None) ≡ true = filled k (rw (eq-eqb k k refl) refl) in
     let rest : List (Option X) = set slots k None in
     let fewer : count_by is_some rest ≡ length keys =
-    (let e = sum_by-set (λ o. cond (is_some o) 1 0) slots k None None (filled_within slots k here) in
+    (let e = sum_by-set (λ o. cond (is_some o) 1 0) slots k None None (filled-within slots k here) in
     let one : cond (is_some (get_or slots k None)) (suc zero) zero ≡ suc zero = rw here refl in
     omega (arith, e, one, counted)) in
     let still : (j : ℕ) → has_number keys j ≡ true → is_some (get_or rest j None) ≡ true =
     λ j has. (let there = filled j in let other = get_or-set_other slots k j None None in grind (arith, there, other)) in
-    grind (arith, all_among rest keys key apart.1 still fewer, get_or-set_other slots k key None None)
+    grind (arith, all-among rest keys key apart.1 still fewer, get_or-set_other slots k key None None)
 
 -- a key that is there stands somewhere
 stands : (keys : List ℕ) (key : ℕ) → has_number keys key ≡ true → (at : ℕ) × (at < length keys) × (key ≡ get_or keys at key)
@@ -99,60 +99,60 @@ stands (k ∷ keys) key has =
           (suc rest.0, (let h = rest.1 in omega (arith, h)), rest.2))
     ]
 
-all_filled : {T : Type 0} (slab : Slab (StoredSlot T)) (before keys : List ℕ) → AllHere slab before keys → (k : ℕ) → has_number keys k ≡ true →
+all-filled : {T : Type 0} (slab : Slab (StoredSlot T)) (before keys : List ℕ) → AllHere slab before keys → (k : ℕ) → has_number keys k ≡ true →
     ContainsKey slab k
-all_filled slab before [] h k has = absurd (false≢true has)
-all_filled slab before (j ∷ keys) h k has = grind (arith, all_filled slab (before ++ j ∷ []) keys, here_contains)
+all-filled slab before [] h k has = absurd (false≢true has)
+all-filled slab before (j ∷ keys) h k has = grind (arith, all-filled slab (before ++ j ∷ []) keys, here-contains)
 
 -- the key of a slot that was found by its serial, and the slot under the key that a serial has
 module _ {T : Type 0} {slab : Slab (StoredSlot T)} {keys : List ℕ} {serial key : ℕ} {kept : StoredSlot T} (are : AreKeys slab keys) where
-  pub key_found : get slab key ≡ Some kept → kept.slot.serial ≡ serial → (at : ℕ) × IsKeyAt slab keys serial at key
-  key_found found named =
-      let place = stands keys key (all_among slab.slots keys key are.apart (all_filled slab [] keys are.here) are.counted (ap is_some found)) in
+  pub key-found : get slab key ≡ Some kept → kept.slot.serial ≡ serial → (at : ℕ) × IsKeyAt slab keys serial at key
+  key-found found named =
+      let place = stands keys key (all-among slab.slots keys key are.apart (all-filled slab [] keys are.here) are.counted (ap is_some found)) in
       let lt : place.0 < length (slots_in slab keys) = rw (slots_in-length slab [] keys are.here) place.1 in
-      let read = slot_read slab keys place.0 key kept kept.slot are.here place.1 place.2 found in
-      (place.0, record { within = place.1; read = place.2; named = serial_read (slots_in slab keys) place.0 kept.slot lt (sym read) ∙ named })
+      let read = slot-read slab keys place.0 key kept kept.slot are.here place.1 place.2 found in
+      (place.0, record { within = place.1; read = place.2; named = serial-read (slots_in slab keys) place.0 kept.slot lt (sym read) ∙ named })
 
-  pub seen_at : {at : ℕ} → IsKeyAt slab keys serial at key → get slab key ≡ Some kept → IsSeenAt (slots_in slab keys) serial at kept.slot
-  seen_at k found = grind (arith, slots_in-length, slot_read)
+  pub seen-at : {at : ℕ} → IsKeyAt slab keys serial at key → get slab key ≡ Some kept → IsSeenAt (slots_in slab keys) serial at kept.slot
+  seen-at k found = grind (arith, slots_in-length, slot-read)
 
 -- the same where the serials were searched
-pub key_searched : {T : Type 0} {slab : Slab (StoredSlot T)} {keys serials : List ℕ} {serial at key : ℕ} → serials ≡ serials_of (slots_in slab keys) →
+pub key-searched : {T : Type 0} {slab : Slab (StoredSlot T)} {keys serials : List ℕ} {serial at key : ℕ} → serials ≡ serials_of (slots_in slab keys) →
     at < length keys → key ≡ get_or keys at key → slice_index serials at ≡ serial → IsKeyAt slab keys serial at key
-key_searched is within read found = record { within = within; read = read; named = rw is at found }
+key-searched is within read found = record { within = within; read = read; named = rw is at found }
 
 module _ {T : Type 0} (slab : Slab (StoredSlot T)) (keys : List ℕ) where
   -- as many serials as keys
-  pub index_long : (serials : List ℕ) → serials ≡ serials_of (slots_in slab keys) → AreKeys slab keys → length serials ≡ length keys
-  index_long serials is are = ap length is ∙ (length-map (slots_in slab keys) _ ∙ slots_in-length slab [] keys are.here)
+  pub index-long : (serials : List ℕ) → serials ≡ serials_of (slots_in slab keys) → AreKeys slab keys → length serials ≡ length keys
+  index-long serials is are = ap length is ∙ (length-map (slots_in slab keys) _ ∙ slots_in-length slab [] keys are.here)
 
-  pub are_keys : (room places : ℕ) → IsSlotStore slab keys room places → AreKeys slab keys
-  are_keys room places s = record { here = s.here; apart = s.apart; counted = s.counted }
+  pub are-keys : (room places : ℕ) → IsSlotStore slab keys room places → AreKeys slab keys
+  are-keys room places s = record { here = s.here; apart = s.apart; counted = s.counted }
 
 -- a slot was written under a key, in the place of this one
 module _ {T : Type 0} {old new : Slab (StoredSlot T)} {key : ℕ} {kept : StoredSlot T} {after : TenantSlot T} (found : get old key ≡ Some kept)
     (put : Updates old new key (Some (record kept { slot = after }))) where
-  pub put_slots : (keys : List ℕ) (at : ℕ) → AreKeys old keys → at < length keys → key ≡ get_or keys at key →
+  pub put-slots : (keys : List ℕ) (at : ℕ) → AreKeys old keys → at < length keys → key ≡ get_or keys at key →
       slots_in new keys ≡ set (slots_in old keys) at after
-  put_slots keys at are within read =
+  put-slots keys at are within read =
       slots_in-put old new [] keys at key (record kept { slot = after }) are.here are.apart within (subst (λ n. Updates old new n (Some (record kept { slot = after }))) read put)
 
   -- one of its name and parent
   module _ (serial : after.serial ≡ kept.slot.serial) (parent : after.parent ≡ kept.slot.parent) where
-    pub put_like : AreLike old new
-    put_like k x is = grind arith
+    pub put-like : AreLike old new
+    put-like k x is = grind arith
 
-    pub put_keys : (keys : List ℕ) → AreKeys old keys → slab_len new ≡ slab_len old → AreKeys new keys
-    put_keys keys are len = record { here = all_here_like old new [] keys put_like are.here; apart = are.apart; counted = len ∙ are.counted }
+    pub put-keys : (keys : List ℕ) → AreKeys old keys → slab_len new ≡ slab_len old → AreKeys new keys
+    put-keys keys are len = record { here = all-here-like old new [] keys put-like are.here; apart = are.apart; counted = len ∙ are.counted }
 
-    pub put_store : (keys : List ℕ) (room places : ℕ) → IsSlotStore old keys room places → slab_len new ≡ slab_len old → new.capacity ≡ old.capacity →
+    pub put-store : (keys : List ℕ) (room places : ℕ) → IsSlotStore old keys room places → slab_len new ≡ slab_len old → new.capacity ≡ old.capacity →
         IsSlotStore new keys room places
-    put_store keys room places s len capacity = let are = put_keys keys (are_keys old keys room places s) len in grind arith
+    put-store keys room places s len capacity = let are = put-keys keys (are-keys old keys room places s) len in grind arith
 
 -- a parent's key
-pub knows_key : {T : Type 0} (slab : Slab (StoredSlot T)) (keys : List ℕ) (parent : Option ℕ) (name at key : ℕ) → parent ≡ Some name → AreKeys slab keys →
+pub knows-key : {T : Type 0} (slab : Slab (StoredSlot T)) (keys : List ℕ) (parent : Option ℕ) (name at key : ℕ) → parent ≡ Some name → AreKeys slab keys →
     IsKeyAt slab keys name at key → KnowsParent slab keys parent (Some key)
-knows_key slab keys parent name at key is are k = grind (arith, slots_in-length, knows_read)
+knows-key slab keys parent name at key is are k = grind (arith, slots_in-length, knows-read)
 
 -- the slot with a serial in another state, told the one that it was in
 module _ {T : Type 0} (old new : Slab (StoredSlot T)) {keys : List ℕ} {room places serial at : ℕ} (key : ℕ) (was state : State)
@@ -160,24 +160,24 @@ module _ {T : Type 0} (old new : Slab (StoredSlot T)) {keys : List ℕ} {room pl
     (k : IsKeyAt old keys serial at key) (len : slab_len new ≡ slab_len old)
     (put : (kept : StoredSlot T) → get old key ≡ Some kept → Updates old new key (Some (record kept { slot = record kept.slot { state = state } }))) where
   kept : (kept : StoredSlot T) × (get old key ≡ Some kept)
-  kept = kept_read old keys at key s.here k.within k.read
+  kept = kept-read old keys at key s.here k.within k.read
 
-  pub state_store : new.capacity ≡ old.capacity → IsSlotStore new keys room places
-  state_store capacity = put_store kept.1 (put kept.0 kept.1) refl refl keys room places s len capacity
+  pub state-store : new.capacity ≡ old.capacity → IsSlotStore new keys room places
+  state-store capacity = put-store kept.1 (put kept.0 kept.1) refl refl keys room places s len capacity
 
-  pub state_changes : ((kept : StoredSlot T) → get old key ≡ Some kept → was ≡ kept.slot.state) →
+  pub state-changes : ((kept : StoredSlot T) → get old key ≡ Some kept → was ≡ kept.slot.state) →
       ChangesSlot (record { places = places; slots = slots_in old keys }) (record { places = places; slots = slots_in new keys }) serial (λ slot. record slot { state = state }) (λ slot. was ≡ slot.state)
-  state_changes told =
-      let are = are_keys old keys room places s in
+  state-changes told =
+      let are = are-keys old keys room places s in
       record {
         at = at;
         slot = kept.0.slot;
-        seen = seen_at are k kept.1;
-        changed = ap (λ xs. record { places = places; slots = xs }) (put_slots kept.1 (put kept.0 kept.1) keys at are k.within k.read);
+        seen = seen-at are k kept.1;
+        changed = ap (λ xs. record { places = places; slots = xs }) (put-slots kept.1 (put kept.0 kept.1) keys at are k.within k.read);
         told = told kept.0 kept.1;
       }
 
 -- a search of the index, and a key that stands in the order
-pub ruleset index_laws = (index_rises, there_at, found_there, has_frame-frames_from)
+pub ruleset index_laws = (index-rises, there-at, found-there, has_frame-frames_from)
 
-pub ruleset key_laws = (serials_of-rises, there_at, none_at, index_long, are_keys)
+pub ruleset key_laws = (serials_of-rises, there-at, none-at, index-long, are-keys)

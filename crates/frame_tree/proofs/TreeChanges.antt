@@ -3,7 +3,7 @@ use Rattle.frame_tree.proofs.Common.{◌≡◌, ◌≢◌, ℕ, ◌<◌, inl, in
 use Rattle.frame_tree.proofs.Common.{append_assoc, filter, false≢true, true≢false, eq-eqb, eqb-true, or_parts, not_from_true, not_from_false, not-true, Frame}
 use Rattle.frame_tree.proofs.Common.{frame_at, AllBelow, goes_under, children_of, aborted, frames_without, IsNextFrame, IsTree, IsTreeAfter, is_child_of}
 use Rattle.frame_tree.proofs.Common.{AllAboveSerial, AreSerialsRising, Each, if_kept}
-use Rattle.frame_tree.proofs.Places.{above_by-filter, rises_by-filter}
+use Rattle.frame_tree.proofs.Places.{above-by-filter, rises-by-filter}
 use Rattle.frame_tree.proofs.TreeLaws.{found-there, found-serial, found-path, missing, frame_at-left, frame_at-right, tree-rising, above-missing, each-found}
 use Rattle.frame_tree.proofs.TreeLaws.{found-each, IsUnder, IsPlaced, placed, under-through, not-under-itself, children-by-paths}
 
@@ -37,7 +37,7 @@ tree-after {T} before (x ∷ xs) rising each = grind (arith, tree-after (before 
 -- the frames that pass a test
 module _ {T : Type 0} (keep : Frame T → Bool) where
   pub rising-filter : (xs : List (Frame T)) → AreSerialsRising xs → AreSerialsRising (filter keep xs)
-  rising-filter xs rising = rises_by-filter (λ frame. frame.serial) keep xs rising
+  rising-filter xs rising = rises-by-filter (λ frame. frame.serial) keep xs rising
 
   pub AllBelow-filter : (s : ℕ) (xs : List (Frame T)) → AllBelow s xs → AllBelow s (filter keep xs)
   AllBelow-filter s [] below = tt
@@ -45,7 +45,7 @@ module _ {T : Type 0} (keep : Frame T → Bool) where
 
   pub frame_at-filter : (xs : List (Frame T)) (s : ℕ) → AreSerialsRising xs → frame_at (filter keep xs) s ≡ if_kept keep (frame_at xs s)
   frame_at-filter [] s rising = refl
-  frame_at-filter (x ∷ xs) s rising = grind (arith, frame_at-filter xs s, missing, above-missing, above_by-filter)
+  frame_at-filter (x ∷ xs) s rising = grind (arith, frame_at-filter xs s, missing, above-missing, above-by-filter)
 
   -- a frame that stays is found as before, and what is found was there and stays
   pub frame_at-stays : (xs : List (Frame T)) (s : ℕ) (f : Frame T) → AreSerialsRising xs → frame_at xs s ≡ Some f → keep f ≡ true →
@@ -123,9 +123,9 @@ module _ {T : Type 0} (p : ℕ) where
   frame_at-without [] = refl
   frame_at-without (x ∷ xs) = grind (arith, frame_at-without xs)
 
-  pub frame_at_other-without : (xs : List (Frame T)) (s : ℕ) → p ≢ s → frame_at (frames_without p xs) s ≡ frame_at xs s
-  frame_at_other-without [] s other = refl
-  frame_at_other-without (x ∷ xs) s other = grind (arith, frame_at_other-without xs s other)
+  pub frame_at-other-without : (xs : List (Frame T)) (s : ℕ) → p ≢ s → frame_at (frames_without p xs) s ≡ frame_at xs s
+  frame_at-other-without [] s other = refl
+  frame_at-other-without (x ∷ xs) s other = grind (arith, frame_at-other-without xs s other)
 
   -- a root with all that is below it is removed
   pub tree-without_job : (xs : List (Frame T)) → IsTree xs → IsTree (frames_without p (aborted p xs))
@@ -136,4 +136,4 @@ pub ruleset under_laws = (not-under-itself, child-under-parent, child-further-un
 
 pub ruleset abort_laws = (tree-aborted, frame_at-aborted, aborted-itself, aborted-leaf)
 
-pub ruleset removal_laws = (tree-without, tree-without_job, frame_at-without, frame_at_other-without)
+pub ruleset removal_laws = (tree-without, tree-without_job, frame_at-without, frame_at-other-without)

@@ -38,9 +38,9 @@ module _ {T : Type 0} where
   frame_at-right (x ∷ xs) ys serial lacks = grind (arith, frame_at-right xs ys serial)
 
   -- one frame more: another serial is found as before, and its own where it is above all
-  pub frame_at_other-push : (xs : List (Frame T)) (y : Frame T) (serial : ℕ) → y.serial ≢ serial → frame_at (xs ++ y ∷ []) serial ≡ frame_at xs serial
-  frame_at_other-push [] y serial other = rw (ne_eqb y.serial serial other) refl
-  frame_at_other-push (x ∷ xs) y serial other = grind (arith, frame_at_other-push xs y serial other)
+  pub frame_at-other-push : (xs : List (Frame T)) (y : Frame T) (serial : ℕ) → y.serial ≢ serial → frame_at (xs ++ y ∷ []) serial ≡ frame_at xs serial
+  frame_at-other-push [] y serial other = rw (ne_eqb y.serial serial other) refl
+  frame_at-other-push (x ∷ xs) y serial other = grind (arith, frame_at-other-push xs y serial other)
 
   pub frame_at-push : (xs : List (Frame T)) (y : Frame T) → AllBelow y.serial xs → frame_at (xs ++ y ∷ []) y.serial ≡ Some y
   frame_at-push xs y below = frame_at-right xs (y ∷ []) y.serial (has_frame-above xs y.serial below) ∙ (rw (eq-eqb y.serial y.serial refl) refl)
@@ -92,17 +92,17 @@ EndsIn-unique (x ∷ []) a b p q = sym p ∙ q
 EndsIn-unique (x ∷ y ∷ path) a b p q = EndsIn-unique (y ∷ path) a b p q
 
 -- a path with one more is that of one path alone
-one_more_same : (path : List ℕ) (serial : ℕ) → is_one_more path (path ++ serial ∷ []) ≡ true
-one_more_same [] serial = refl
-one_more_same (x ∷ path) serial = rw (eq-eqb x x refl) (one_more_same path serial)
+one_more-same : (path : List ℕ) (serial : ℕ) → is_one_more path (path ++ serial ∷ []) ≡ true
+one_more-same [] serial = refl
+one_more-same (x ∷ path) serial = rw (eq-eqb x x refl) (one_more-same path serial)
 
-one_more_is : (above path : List ℕ) (serial : ℕ) → is_one_more above (path ++ serial ∷ []) ≡ true → above ≡ path
-one_more_is [] [] serial e = refl
-one_more_is [] (y ∷ []) serial e = absurd (false≢true e)
-one_more_is [] (y ∷ z ∷ path) serial e = absurd (false≢true e)
-one_more_is (x ∷ []) [] serial e = absurd (false≢true (and_parts (eqb x serial) false e).1)
-one_more_is (x ∷ y ∷ above) [] serial e = absurd (false≢true (and_parts (eqb x serial) false e).1)
-one_more_is (x ∷ above) (y ∷ path) serial e = grind (arith, one_more_is above path serial)
+one_more-is : (above path : List ℕ) (serial : ℕ) → is_one_more above (path ++ serial ∷ []) ≡ true → above ≡ path
+one_more-is [] [] serial e = refl
+one_more-is [] (y ∷ []) serial e = absurd (false≢true e)
+one_more-is [] (y ∷ z ∷ path) serial e = absurd (false≢true e)
+one_more-is (x ∷ []) [] serial e = absurd (false≢true (and_parts (eqb x serial) false e).1)
+one_more-is (x ∷ y ∷ above) [] serial e = absurd (false≢true (and_parts (eqb x serial) false e).1)
+one_more-is (x ∷ above) (y ∷ path) serial e = grind (arith, one_more-is above path serial)
 
 -- a frame in its place among others: a root, whose path is its serial alone, or one step further than its parent, which is there and has a lower serial
 pub record IsUnder {T : Type 0} (frames : List (Frame T)) (frame : Frame T) : Type 0 where
@@ -200,9 +200,9 @@ child-under : {T : Type 0} (frames : List (Frame T)) (s : ℕ) (f x : Frame T) �
     is_one_more f.path x.path ≡ is_child_of s x.path
 child-under {T} frames s f x t at u =
     elim (cases_eq u.parent s) [
-      | inl same ↦ grind (arith, one_more_same, eq-eqb)
+      | inl same ↦ grind (arith, one_more-same, eq-eqb)
       | inr other ↦ elim (cases_Bool (is_one_more f.path x.path)) [
-        | inl one ↦ (let e = one_more_is f.path u.above.path x.serial (rw u.path at one) in
+        | inl one ↦ (let e = one_more-is f.path u.above.path x.serial (rw u.path at one) in
             let ends : EndsIn u.above.path s = rw e at (found-ends frames s f t at) in
             absurd (other (EndsIn-unique u.above.path u.parent s (found-ends frames u.parent u.above t u.there) ends)))
         | inr none ↦ none ∙ sym (ap (is_that s) u.named ∙ ne_eqb u.parent s other)

@@ -6,7 +6,7 @@ use Rattle.frame_tree.proofs.Common.{with_state, values_of, IsNextFrame, IsTree,
 use Rattle.std.specs.Prelude.{option_map}
 use Rattle.frame_tree.specs.Frames.{root_of, children_under}
 use Rattle.frame_tree.proofs.Forest.{parent_of-append, root_of-append}
-use Rattle.frame_tree.proofs.TreeLaws.{there-found, found-serial, found-path, IsUnder, found-ends, children-by-paths, frame_at-push, frame_at_other-push}
+use Rattle.frame_tree.proofs.TreeLaws.{there-found, found-serial, found-path, IsUnder, found-ends, children-by-paths, frame_at-push, frame_at-other-push}
 use Rattle.frame_tree.proofs.TreeLaws.{tree-induction}
 
 -- one frame more
@@ -109,9 +109,9 @@ module _ {T : Type 0} (n : ℕ) (state : State) where
   frame_at-with_state [] f at = absurd cc
   frame_at-with_state (x ∷ xs) f at = grind (arith, frame_at-with_state xs f)
 
-  pub frame_at_other-with_state : (xs : List (Frame T)) (s : ℕ) → n ≢ s → frame_at (with_state n state xs) s ≡ frame_at xs s
-  frame_at_other-with_state [] s other = refl
-  frame_at_other-with_state (x ∷ xs) s other = grind (arith, frame_at_other-with_state xs s other)
+  pub frame_at-other-with_state : (xs : List (Frame T)) (s : ℕ) → n ≢ s → frame_at (with_state n state xs) s ≡ frame_at xs s
+  frame_at-other-with_state [] s other = refl
+  frame_at-other-with_state (x ∷ xs) s other = grind (arith, frame_at-other-with_state xs s other)
 
   -- the frames that pass a test on paths
   paths-with_state : (p : List ℕ → Bool) (xs : List (Frame T)) → filter (λ x. p x.path) (with_state n state xs) ≡ with_state n state (filter (λ x. p x.path) xs)
@@ -194,8 +194,8 @@ values_of-map_values {T} {U} change (x ∷ xs) = ap (λ (vs : List U). change x.
 -- what a frame more, another state and other values leave
 pub ruleset root_laws = (root-there, under-root)
 
-pub ruleset push_laws = (frame_at-push, frame_at_other-push, tree-new_frame, new-frame-next, parent_of-path_under, children_of-push)
+pub ruleset push_laws = (frame_at-push, frame_at-other-push, tree-new_frame, new-frame-next, parent_of-path_under, children_of-push)
 
-pub ruleset state_laws = (tree-with_state, frame_at-with_state, frame_at_other-with_state, children_of-with_state, values_of-with_state)
+pub ruleset state_laws = (tree-with_state, frame_at-with_state, frame_at-other-with_state, children_of-with_state, values_of-with_state)
 
 pub ruleset value_laws = (tree-map_values, tree-from-map_values, frame_at-map_values, has_frame-map_values, path_in-map_values, children_of-map_values, frames_under-map_values, aborted-map_values, frames_without-map_values, with_state-map_values, append-map_values, new_frame-map_values, values_of-map_values)

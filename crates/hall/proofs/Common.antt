@@ -24,8 +24,8 @@ pub use Rattle.jamboree_core.specs.sched_laws.Ended.{HasEnded}
 pub use Rattle.jamboree_core.specs.sched_laws.Fitted.{origins_of, submits}
 pub use Rattle.jamboree_core.specs.sched_laws.Shapes.{AreRootsLive, IsShaped, live_count}
 pub use Rattle.number_index.proofs.Edits.{all-map, all-of, all-push, all-with, all-without, at-own, at-removed, at-said, at-set, at-within, length-with}
-pub use Rattle.number_index.proofs.Edits.{length-without, place-found, rising-push, rising-with, rising-without, said-found, said-lacks, said-with_other}
-pub use Rattle.number_index.proofs.Edits.{said-with_own, said-without_other, said-without_own, thing-there, thing-with}
+pub use Rattle.number_index.proofs.Edits.{length-without, place-found, rising-push, rising-with, rising-without, said-found, said-lacks, said-with-other}
+pub use Rattle.number_index.proofs.Edits.{said-with-own, said-without-other, said-without-own, thing-there, thing-with}
 pub use Rattle.number_index.specs.Places.{AreRising, IsAt, count_below, find_by_number}
 pub use Rattle.sched_rules.proofs.Isolation.{IsTaken, more-there, shared-after-taken, step-taken, there}
 pub use Rattle.sched_rules.proofs.Tenants.{tenant_in-with_outcome}

@@ -1,5 +1,5 @@
 -- What a hall keeps, over an admission, a Leave, and any other step that was taken.
-use Rattle.hall.proofs.Common.{◌≡◌, ◌≢◌, ℕ, ◌+◌, ◌*◌, ◌^◌, ◌<◌, ◌≤◌, Bool, true, false, ◌||◌, eqb, List, [], ◌∷◌, ◌++◌, length, Option, Some, None, Result, Ok, Err, refl, ap, sym, ◌∙◌, subst, arith, inl, inr, length-append, ◌==◌, nat_le, nat_lt, OnOk, cases_Bool, eqb-true, eqb-false, eq-eqb, true≢false, nat_tests, Quota, IsWithinLimits, Refusal, NoTenant, OldTenant, BadAct, Full, OutOfMemory, Lower, StepOf, Admit, AdmitMore, Leave, DidOf, Left, Functions, Job, Tenant, admitted_with, job_at, step-ended, IsOfSearches, tenant-none-bad, Outcome, unless, refusal_in, lone, lone_step, is_lower, tenant_of, CoreState, tenant_in, step_result, unless_beyond, shared_by_nobody, shared_refusal, shared_with, newest_after, IsOneStep, AreNumbersGiven, IsAnswerTo, is_admission, IsTaken, step-taken, shared-after-taken, there, more-there, tenant_in-with_outcome, one-step, one-admission, Leaf, LeafAnswer, jamboree, IsSearch, AreSearches, job_of, origins_of, submits, TenantSearches, ServesSearches, origin_at, IsOutcomeIn, AnswersTo, IsJournalOf, journal-searches, journal-goes-on, journal-begins, others-stay, serial_in, is_long_step, long_steps, AreRising, all-push, all-with, all-without, said-lacks, said-with_other, said-without_own, said-without_other, rising-with, rising-without, length-with, length-without, JournalOf, journal_in, places_in, longs_in, owner_of_journal, has_journal, with_step, without_journal, total_length, places_for, places_with, longs_for, longs_with, raise_in, raise_count, reserved_in, admitted_journal, journals_after, gone_by, is_appended, longer, AreUpTo, IsBegun, AreBegun, HallOf, empty_hall, hall_after, Explains, IsExplained, IsHall, lets_go, KeepsEndedJobs}
+use Rattle.hall.proofs.Common.{◌≡◌, ◌≢◌, ℕ, ◌+◌, ◌*◌, ◌^◌, ◌<◌, ◌≤◌, Bool, true, false, ◌||◌, eqb, List, [], ◌∷◌, ◌++◌, length, Option, Some, None, Result, Ok, Err, refl, ap, sym, ◌∙◌, subst, arith, inl, inr, length-append, ◌==◌, nat_le, nat_lt, OnOk, cases_Bool, eqb-true, eqb-false, eq-eqb, true≢false, nat_tests, Quota, IsWithinLimits, Refusal, NoTenant, OldTenant, BadAct, Full, OutOfMemory, Lower, StepOf, Admit, AdmitMore, Leave, DidOf, Left, Functions, Job, Tenant, admitted_with, job_at, step-ended, IsOfSearches, tenant-none-bad, Outcome, unless, refusal_in, lone, lone_step, is_lower, tenant_of, CoreState, tenant_in, step_result, unless_beyond, shared_by_nobody, shared_refusal, newest_after, IsOneStep, AreNumbersGiven, IsAnswerTo, is_admission, step-taken, shared-after-taken, there, more-there, tenant_in-with_outcome, one-step, one-admission, Leaf, LeafAnswer, jamboree, IsSearch, AreSearches, job_of, origins_of, submits, TenantSearches, ServesSearches, origin_at, IsOutcomeIn, AnswersTo, IsJournalOf, journal-searches, journal-goes-on, journal-begins, others-stay, serial_in, is_long_step, long_steps, AreRising, all-push, all-with, all-without, said-lacks, said-with-other, said-without-own, said-without-other, rising-with, rising-without, length-with, length-without, JournalOf, journal_in, places_in, longs_in, owner_of_journal, has_journal, with_step, without_journal, total_length, places_for, places_with, longs_for, longs_with, raise_in, raise_count, reserved_in, admitted_journal, journals_after, gone_by, is_appended, longer, AreUpTo, IsBegun, AreBegun, HallOf, empty_hall, hall_after, Explains, IsExplained, IsHall, lets_go, KeepsEndedJobs}
 use Rattle.jamboree_core.specs.declared.outcomes.Outcome.{Outcome as Outcomes}
 use Rattle.hall.proofs.Lists.{IsAllowed, Brings, steps_of, longer-places, longer-longs, step-own, step-total, step-begun, without-total, push-own, push-other, push-total, push-rising, push-upto, total-within, IsAt, found-at}
 use Rattle.hall.proofs.Using.{IsToldBy, step-used, step-brings, serial-given, told-by}
@@ -270,7 +270,7 @@ module _ (hall : HallOf) (latest count : ℕ) (keeps : IsHall hall latest count)
         keeps = changed latest step did after (with_step n step hall.journals) hall.gone one known (record {
           own = some-explained hall.grain _ went.next _ went.is (rw more on);
           searches = rw more searches;
-          others = λ m ne. said-with_other owner_of_journal steps_of [] m n (longer step) hall.journals ne (λ j mine. mine);
+          others = λ m ne. said-with-other owner_of_journal steps_of [] m n (longer step) hall.journals ne (λ j mine. mine);
           rising = rising-with owner_of_journal n (longer step) hall.journals (λ j mine. mine) keeps.rising;
           upto = all-with (λ (j : JournalOf). j.tenant ≤ latest) owner_of_journal n (longer step) hall.journals keeps.upto (λ j le found. le);
           begun = step-begun n step hall.journals goes allowed brings place keeps.begun;
@@ -313,14 +313,14 @@ module _ (hall : HallOf) (latest count : ℕ) (keeps : IsHall hall latest count)
       let at = found-at n hall.journals has keeps.begun in
       let b = at.begun in
       let steps = ap (λ (js : List Step). length js) at.steps in
-      let none = said-without_own owner_of_journal steps_of [] n hall.journals keeps.rising in
+      let none = said-without-own owner_of_journal steps_of [] n hall.journals keeps.rising in
       let Q : Option Tenant → Type 0 = λ o. Explains (jamboree hall.grain) o (journal_in (without_journal n hall.journals) n) in
       record {
         has = has;
         keeps = changed latest (Leave n) did after (without_journal n hall.journals) (hall.gone + (length (journal_in hall.journals n) + 1)) one known (record {
           own = subst Q (sym gone_is.1) none;
           searches = rw none tt;
-          others = λ m ne. said-without_other owner_of_journal steps_of [] m n hall.journals ne;
+          others = λ m ne. said-without-other owner_of_journal steps_of [] m n hall.journals ne;
           rising = rising-without owner_of_journal n hall.journals keeps.rising;
           upto = all-without (λ (j : JournalOf). j.tenant ≤ latest) owner_of_journal n hall.journals keeps.upto;
           begun = all-without IsBegun owner_of_journal n hall.journals keeps.begun;
@@ -382,12 +382,12 @@ module _ (hall : HallOf) (explained : IsExplained hall) (step : Step) where
 
   -- a step that submits nothing isn't refused by BadAct: by its journal, the jobs of its tenant are searches
   pub none-bad : (answer : Result (DidOf Leaf) Refusal) (after : CoreState) → submits step ≡ [] → IsStepOf hall step answer after → answer ≢ Err BadAct
-  none-bad answer after none one = tenant-none-bad hall.grain (origins_of journal) hall.shared step answer of_searches none one.answered
+  none-bad answer after none one = tenant-none-bad hall.grain (origins_of journal) hall.shared step answer of-searches none one.answered
     where
       journal : List Step
       journal = journal_in hall.journals (tenant_of step)
 
-      of_searches : IsOfSearches (origins_of journal) hall.shared step
-      of_searches tenant at =
+      of-searches : IsOfSearches (origins_of journal) hall.shared step
+      of-searches tenant at =
           let own = explained-some hall.grain _ tenant _ at (explained.tenants (tenant_of step)) in
           ((told-by (jamboree hall.grain) journal tenant own).shape, (journal-searches hall.grain journal tenant own (explained.searches (tenant_of step))).fits)

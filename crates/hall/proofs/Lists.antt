@@ -1,5 +1,5 @@
 -- Journals by their tenants' numbers: one more step in one of them, one fewer of them, one more.
-use Rattle.hall.proofs.Common.{◌≡◌, ◌≢◌, ℕ, ◌+◌, ◌<◌, ◌≤◌, true, eqb, List, [], ◌∷◌, ◌++◌, Option, Some, None, length, get_or, refl, ap, sym, ◌∙◌, arith, inl, inr, length-append, ◌*◌, remove, cases_Bool, false≢true, ne_eqb, eq-eqb, StepOf, LeafAnswer, Quota, IsWithinLimits, count_below, find_by_number, AreRising, IsAt as IsPlace, all-map, all-of, all-push, all-with, thing-there, thing-with, said-found, said-with_own, rising-push, place-found, at-said, at-removed, reserve_in, raise_in, newer, reserved_after, reserved_in, one_for, raise_count, places_for, places_with, longs_for, longs_with, longs_in, longer, is_appended, JournalOf, journal_in, places_in, owner_of_journal, has_journal, with_step, without_journal, total_length, AreUpTo, IsBegun, AreBegun}
+use Rattle.hall.proofs.Common.{◌≡◌, ◌≢◌, ℕ, ◌+◌, ◌<◌, ◌≤◌, true, List, [], ◌∷◌, ◌++◌, Option, Some, None, length, get_or, refl, ap, sym, ◌∙◌, arith, length-append, ◌*◌, remove, false≢true, ne_eqb, eq-eqb, StepOf, LeafAnswer, Quota, IsWithinLimits, count_below, find_by_number, AreRising, IsAt as IsPlace, all-map, all-of, all-push, all-with, thing-there, thing-with, said-found, said-with-own, rising-push, place-found, at-said, at-removed, reserve_in, raise_in, newer, reserved_after, reserved_in, one_for, raise_count, places_for, places_with, longs_for, longs_with, longs_in, longer, is_appended, JournalOf, journal_in, places_in, owner_of_journal, has_journal, with_step, without_journal, total_length, AreUpTo, IsBegun, AreBegun}
 
 abbrev Js : Type 0
 Js = List JournalOf
@@ -50,7 +50,7 @@ longs_of journal = journal.longs
 -- one more step
 module _ (n : ℕ) (step : Step) where
   pub step-own : (js : Js) → has_journal n js ≡ true → journal_in (with_step n step js) n ≡ journal_in js n ++ step ∷ []
-  step-own js has = said-with_own owner_of_journal steps_of [] (λ steps. steps ++ step ∷ []) n (longer step) js (λ j own. own) (λ j. refl) (λ lacks. absurd (false≢true (sym lacks ∙ has)))
+  step-own js has = said-with-own owner_of_journal steps_of [] (λ steps. steps ++ step ∷ []) n (longer step) js (λ j own. own) (λ j. refl) (λ lacks. absurd (false≢true (sym lacks ∙ has)))
 
   pub step-total : (js : Js) → has_journal n js ≡ true → total_length (with_step n step js) ≡ total_length js + 1
   step-total [] has = absurd (false≢true has)

@@ -1,5 +1,5 @@
 -- A journal stays within its places for long entries: each frame is given at most one Answer, and a job at most one Submit and one Cancel.
-use Rattle.hall.proofs.Common.{◌≡◌, ℕ, ◌+◌, ◌≤◌, List, [], ◌∷◌, length, Option, Some, None, Result, Ok, Err, refl, ap, arith, if◌then◌else◌, root_of, Done, Spent as SpentJob, Cancelled as CancelledJob, Refusal, OldTenant, StepOf, Admit, AdmitMore, Submit, Answer, Cancel, Functions, Tenant, admitted_with, Outcome, lone_step, ended, state_after, alone_from, LeafAnswer, jamboree, IsShaped, AreSearches, StaysTaken, AreTakenFrom, IsJournalOf, unless-passed, came, by-kinds, step-shaped, admitted-shaped, length-with_ended, live-root, root-above, one_if_answer, answer_count, journal-answers, is_long_step, long_steps, raise_in, one_for, raise_count, ended_count}
+use Rattle.hall.proofs.Common.{◌≡◌, ℕ, ◌+◌, ◌≤◌, List, [], ◌∷◌, length, Option, Some, None, Result, Ok, Err, ap, arith, if◌then◌else◌, root_of, Done, Spent as SpentJob, Cancelled as CancelledJob, Refusal, OldTenant, StepOf, Admit, AdmitMore, Submit, Answer, Cancel, Functions, Tenant, admitted_with, Outcome, lone_step, ended, alone_from, LeafAnswer, jamboree, IsShaped, AreSearches, AreTakenFrom, IsJournalOf, unless-passed, came, by-kinds, admitted-shaped, length-with_ended, live-root, root-above, one_if_answer, answer_count, journal-answers, is_long_step, long_steps, raise_in, one_for, raise_count, ended_count}
 use Rattle.hall.proofs.Using.{followed, job-ended, submit-used, ended-more, ended-few, told-by}
 
 -- how often a tenant has asked: one Submit a job, and at most one Cancel for each that has ended

@@ -1,6 +1,6 @@
 -- Acts and their windows.
 use Rattle.jamboree.proofs.Common.{◌≡◌, ℕ, ◌+◌, ◌<◌, ◌^◌, ◌==◌, ◌&&◌, nat_lt, nat_le, Bool, true, false, ℤ, pos, negsuc, neg_ℤ, ◌+ℤ◌, ◌-ℤ◌, ◌≤ℤ◌, List, [], ◌∷◌, length, slice_index, slice_index_or, slice_get, unwrap_or, Option, Some, bit_and, refl, to_z, of_z, w32, sym, ◌∙◌, ap, arith, ints, eq-eqb, unwrap_or-slice_get, Cell, cells_of, Choice, Pass, choices, after, Act, Continuation, Frame, board, choice_at, own_word, opp_word, Spawned, Status, pairs_of, spawns, opening_on, first_search, tests, tests_from, act_by, act_of, own-is, opp-is, View, Role, Test, role_number, map, cond_both, Square, plies, Low, changes_by, changes_of, frame_in, int_le, int_lt, kind_by, kind_of, floor, seen}
-use Rattle.std.proofs.Common.{zero, suc}
+use Rattle.std.proofs.Common.{suc}
 
 -- what a call says of a score: whose it is, and its range
 abbrev pub IsScore : (most r s : ℤ) → Type 0
@@ -128,10 +128,10 @@ kind-other lower upper s high above is = ap (λ (b : Bool). kind_by b high) abov
 
 -- The plies of the choice with a number.
 
-one_ply : (squares : List ℕ) (i : ℕ) → i < length (map Square squares) → plies (slice_index_or (map Square squares) i Pass) ≡ 1
-one_ply (s ∷ squares) (suc i) inside = one_ply squares i (omega arith)
-one_ply squares i inside = grind arith
+one-ply : (squares : List ℕ) (i : ℕ) → i < length (map Square squares) → plies (slice_index_or (map Square squares) i Pass) ≡ 1
+one-ply (s ∷ squares) (suc i) inside = one-ply squares i (omega arith)
+one-ply squares i inside = grind arith
 
 -- a pass is the one choice of its board, so where there are more each is a square
 pub square_of_more : (b : List Cell) (i : ℕ) → 1 < length (choices b) → i < length (choices b) → plies (slice_index_or (choices b) i Pass) ≡ 1
-square_of_more b i more inside = grind (arith, cond_both, one_ply)
+square_of_more b i more inside = grind (arith, cond_both, one-ply)

@@ -45,7 +45,7 @@ pub use Rattle.sched_laws.proofs.Common.{is_spendable, is_that, job_at, kept_wor
 pub use Rattle.sched_laws.proofs.Common.{new_frame, not, not-false, only, origins_after, origins_of, padded, parent_of, raised, refl, refusal_in, replicate}
 pub use Rattle.sched_laws.proofs.Common.{reservations_in, reserved_by, rising-filter, root_of, shared-after-taken, shared_by_nobody, shared_with, sight}
 pub use Rattle.sched_laws.proofs.Common.{state_after, staying, steal_tests, step-taken, step_result, stored, submits, subst, sym, take_tests, taken_in}
-pub use Rattle.sched_laws.proofs.Common.{taken_steps, tenant_in, tenant_in-with_outcome, tenant_in_other-with_outcome, tenant_of, then_done, there-found}
+pub use Rattle.sched_laws.proofs.Common.{taken_steps, tenant_in, tenant_in-with_outcome, tenant_in-other-with_outcome, tenant_of, then_done, there-found}
 pub use Rattle.sched_laws.proofs.Common.{tree-rising, true, under-there, unless, unless_beyond, values_of, values_of-with_state, with_frame_words, with_state}
 pub use Rattle.sched_laws.proofs.Common.{words_in, ℕ, ◌++◌, ◌+◌, ◌<◌, ◌==◌, ◌||◌, ◌∙◌, ◌∷◌, ◌≡◌, ◌≢◌, ◌≤◌, ◌⊎◌}
 pub use Rattle.sched_laws.proofs.Consequences.{lone-shaped}

@@ -1,5 +1,5 @@
 -- Journals: what a tenant of searches comes to by its own taken steps, and how a journal grows.
-use Rattle.jamboree_core.proofs.Common.{◌≡◌, ◌≢◌, ℕ, List, [], ◌∷◌, ◌++◌, Option, Some, None, Result, Ok, Err, refl, ap, sym, ◌∙◌, subst, append_assoc, append-nil, arith, Quota, Refusal, NoTenant, OldTenant, StepOf, DidOf, Admitted, Admit, Functions, Tenant, admitted_with, Outcome, lone, tenant_of, state_after, alone_from, CoreState, tenant_in, shared_with, AreNumbersGiven, IsOneStep, tenant_in-with_outcome, tenant_in_other-with_outcome, step-taken, shared-after-taken, submits, origins_of, LeftShaped, lone-shaped, LeftFits, step-fits, Leaf, LeafAnswer, AreFitting, IsRoot, jamboree, IsSearch, AreSearches, TenantSearches, StaysTaken, AreTakenFrom, IsJournalOf}
+use Rattle.jamboree_core.proofs.Common.{◌≡◌, ◌≢◌, ℕ, List, [], ◌∷◌, ◌++◌, Option, Some, None, Result, Ok, Err, refl, ap, sym, ◌∙◌, subst, append_assoc, append-nil, arith, Quota, Refusal, NoTenant, OldTenant, StepOf, DidOf, Admitted, Admit, Functions, Tenant, admitted_with, Outcome, lone, tenant_of, state_after, alone_from, CoreState, tenant_in, shared_with, AreNumbersGiven, IsOneStep, tenant_in-with_outcome, tenant_in-other-with_outcome, step-taken, shared-after-taken, submits, origins_of, LeftShaped, lone-shaped, LeftFits, step-fits, Leaf, LeafAnswer, AreFitting, IsRoot, jamboree, IsSearch, AreSearches, TenantSearches, StaysTaken, AreTakenFrom, IsJournalOf}
 use Rattle.jamboree_core.proofs.Replying.{search-fits, lawful}
 use Rattle.jamboree_core.proofs.Serving.{searches-asked}
 
@@ -94,4 +94,4 @@ module _ {I A : Type 0} (functions : Functions I A) where
   pub others-stay : (before : CoreState) (step : StepOf A) (answer : Result (DidOf I) Refusal) (after : CoreState) (number : ℕ) → AreNumbersGiven before →
       IsOneStep functions before step answer after → tenant_of step ≢ number → tenant_in after.tenants number ≡ tenant_in before.tenants number
   others-stay before step (Err refusal) after number known one other = ap (λ (s : CoreState). tenant_in s.tenants number) one.left
-  others-stay before step (Ok did) after number known one other = grind (arith, step-taken, shared-after-taken, tenant_in_other-with_outcome)
+  others-stay before step (Ok did) after number known one other = grind (arith, step-taken, shared-after-taken, tenant_in-other-with_outcome)

@@ -21,7 +21,7 @@ pub use Rattle.std.specs.Ordering.{int_eq}
 pub use Rattle.std.specs.Prelude.{All, Bool, Contains, IfSome, List, None, Option, Some, [], bit_and, cond, drop, false, filter, find, if◌then◌else◌, int_le}
 pub use Rattle.std.specs.Prelude.{int_lt, length, map, nat_le, nat_lt, neg_ℤ, negsuc, not, pos, refl, replicate, slice_index, slice_index_or, slice_set, suc}
 pub use Rattle.std.specs.Prelude.{true, zero, ℕ, ℤ, ◌%◌, ◌&&◌, ◌*◌, ◌++◌, ◌+ℤ◌, ◌+◌, ◌-◌, ◌/◌, ◌<ℤ◌, ◌<◌, ◌==◌, ◌^◌, ◌||◌, ◌∷◌, ◌≡◌, ◌≢◌, ◌≤ℤ◌, ◌≤◌, ◌⊎◌}
-pub use Rattle.leaf_search.proofs.EvalLemmas.MinimaxLemmas.{best_choice-deeper, int_equal-below, int_equal-same, minimax-deeper, minimax_within}
+pub use Rattle.leaf_search.proofs.EvalLemmas.MinimaxLemmas.{best_choice-deeper, int_equal-below, int_equal-same, minimax-deeper, minimax-within}
 pub use Rattle.leaf_search.specs.Bounds.{IsBound}
 pub use Rattle.leaf_search.specs.othello_eval.Minimax.{best_choice, choice_value, greatest_or, minimax}
 pub use Rattle.leaf_search.specs.othello_eval.Tables.{IsExactIfBest, IsTable, IsTrueBound, Says, entered}
@@ -29,14 +29,14 @@ pub use Rattle.leaf_search.specs.othello_eval.Values.{IsWithin, final_value}
 pub use Rattle.leaf_search.specs.othello_eval.declared.bound.Bound.{Bound}
 pub use Rattle.leaf_search.specs.othello_eval.declared.bound.BoundKind.{BoundKind}
 pub use Rattle.leaf_search.specs.othello_eval.declared.bound.BoundKind.TheVariants.{Exact}
-pub use Rattle.othello_board.proofs.CellLemmas.{apart, bit_at-bits_of, bit_cases, cell_at-cells_of, map-squares_same}
+pub use Rattle.othello_board.proofs.CellLemmas.{apart, bit_at-bits_of, bit-cases, cell_at-cells_of, map-squares-same}
 pub use Rattle.othello_board.specs.Rules.{cell_at, exchanged, is_among, is_legal, is_nil, is_opp_cell, is_own_cell}
 unfoldable pub use Rattle.othello_board.specs.Rules.{squares}
 pub use Rattle.othello_board.specs.Words.{bits_of, cell_of, cells_of}
 pub use Rattle.othello_board.specs.declared.cells.Cell.{Cell}
 pub use Rattle.othello_board.specs.declared.cells.Cell.TheVariants.{Empty, Opp, Own}
-pub use Rattle.othello_moves.proofs.AllowedLemmas.{choices_allowed, choices_fit, contained_allowed, length-after}
-pub use Rattle.othello_moves.proofs.BitLemmas.{is_among-filter, is_square}
+pub use Rattle.othello_moves.proofs.AllowedLemmas.{choices_allowed, choices_fit, contained-allowed, length-after}
+pub use Rattle.othello_moves.proofs.BitLemmas.{is_among-filter, is-square}
 pub use Rattle.othello_moves.specs.Choices.{IsAllowed, after, choices, choices_without_move, legal_squares, plies}
 unfoldable pub use Rattle.othello_moves.specs.Choices.{in_order}
 pub use Rattle.othello_moves.specs.declared.choices.Choice.{Choice}

@@ -1,5 +1,5 @@
 -- What is packed into an entry is read again.
-use Rattle.jamboree_rules.proofs.Common.{◌≡◌, ◌≢◌, ℕ, zero, suc, ◌+◌, ◌<◌, ◌≤◌, ◌==◌, true, ℤ, ◌≤ℤ◌, if◌then◌else◌, List, [], ◌∷◌, map, refl, slice_index, ◌++◌, drop, replicate, length, slice_set, ◌⊎◌, ◌&&◌, nat_le, nat_lt, Bool, Option, Some, None, IfSome, Contains, ◌∙◌, ap, arith, sym, subst, and_parts, le-leb, and_from, eqb-true, eq-eqb, leb-true, nat_tests, ints, BoundKind, least, greatest, is_score, Frame, board, unscored, is_leaf, is_searching, counts_choices, is_frame, may_be_child, code_of, code_at, coded, score_of, word_of, status_of, entry_rest, entry_of, kind_number, kind_in, score_in, rest_with, is_rest, is_entry, are_entries, frame_of, Change, Best, Status, pair_of, pairs_of, changed, is_formed, common_steps, get_or-set_other, get_or-set_same, map-set, drop-set-lt, drop-set-add, get_or_past, and_set, length-set, drop-append_seam, stored, int_eq, choices, IsAllowed, IsLeaf, leaf-told, All-get_or, Cell, Choice, choices_allowed, contained_allowed, choices_fit}
+use Rattle.jamboree_rules.proofs.Common.{◌≡◌, ◌≢◌, ℕ, zero, suc, ◌+◌, ◌<◌, ◌≤◌, ◌==◌, true, ℤ, ◌≤ℤ◌, if◌then◌else◌, List, [], ◌∷◌, map, refl, slice_index, ◌++◌, drop, replicate, length, slice_set, ◌⊎◌, ◌&&◌, nat_le, nat_lt, Bool, Option, Some, None, IfSome, Contains, ◌∙◌, ap, arith, sym, subst, and_parts, le-leb, and_from, eqb-true, eq-eqb, leb-true, nat_tests, ints, BoundKind, least, greatest, is_score, Frame, board, unscored, is_leaf, is_searching, counts_choices, is_frame, may_be_child, code_of, code_at, coded, score_of, word_of, status_of, entry_rest, entry_of, kind_number, kind_in, score_in, rest_with, is_rest, is_entry, are_entries, frame_of, Change, Best, Status, pair_of, pairs_of, changed, is_formed, common_steps, get_or-set_other, get_or-set_same, map-set, drop-set-lt, drop-set-add, get_or_past, and_set, length-set, drop-append_seam, stored, int_eq, choices, IsAllowed, IsLeaf, leaf-told, All-get_or, Cell, Choice, choices_allowed, contained-allowed, choices_fit}
 
 -- the word of a score holds it
 pub held : (s : ℤ) → least ≤ℤ s → score_of (word_of s) ≡ s
@@ -284,7 +284,7 @@ code-small f i = grind (arith, allowed-code, All-get_or, choices_allowed, get_or
 -- the code of a choice of a board, or of none, is at most 65
 pub coded-small : (b : List Cell) (c : Option Choice) → IfSome c (Contains (choices b)) → coded c ≤ 65
 coded-small b None h = omega arith
-coded-small b (Some c) h = let small : code_of c ≤ 64 = allowed-code b c (contained_allowed b c h) in omega arith
+coded-small b (Some c) h = let small : code_of c ≤ 64 = allowed-code b c (contained-allowed b c h) in omega arith
 
 pub few-choices : (b : List Cell) → length (choices b) ≤ 64
 few-choices b = choices_fit b

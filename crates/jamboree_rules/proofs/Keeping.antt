@@ -104,14 +104,14 @@ inlet-good own c form child kin done =
 
 -- a child that has returned is taken in
 module _ (f c : Frame) (before behind : List Frame) (fits : Fits f (before ++ c ∷ behind) Neither) (returned : Fits c [] HasReturned) (form : IsFrame c) where
-  own_child : IsChildOf f c
-  own_child = child-of f c before behind fits.kin
+  own-child : IsChildOf f c
+  own-child = child-of f c before behind fits.kin
 
   searching : IsSearchingFrame f
-  searching = fits.searching (in-search f c own_child.in_role)
+  searching = fits.searching (in-search f c own-child.in_role)
 
   worth : (value_at f c.number ≡ neg_ℤ (value c)) × IsBound c.alpha c.beta c.best (value c)
-  worth = scored f c own_child returned
+  worth = scored f c own-child returned
 
   -- what it says of the child's choice is true
   holds : IsTrueRest (found_rest c) (value_at f c.number)
@@ -125,32 +125,32 @@ module _ (f c : Frame) (before behind : List Frame) (fits : Fits f (before ++ c 
       higher ≡ int_lt (floor f) (seen c) → Fits (frame_by cuts test low higher f c) (frames_left cuts (before ++ behind)) Neither
   fits-by true test low higher ec et el eh =
       let over : f.beta ≤ℤ seen c = le-told f.beta (seen c) ec in
-      inlet-cut f c before behind fits holds over (over-beta f c worth.0 worth.1 fits.window searching.search.below own_child.in_role over)
+      inlet-cut f c before behind fits holds over (over-beta f c worth.0 worth.1 fits.window searching.search.below own-child.in_role over)
   fits-by false true true higher ec et el eh =
-      let r : IsTest f c = test-told f c et own_child.in_role in
+      let r : IsTest f c = test-told f c et own-child.in_role in
       let under : seen c ≤ℤ neg_ℤ c.beta = le-told (seen c) (neg_ℤ c.beta) el in
       let most : neg_ℤ c.beta ≤ℤ floor f = r.most in
       subst (λ (p : ℕ). Fits (taken_in f c p (best_with f c) f.choice 2) (before ++ behind) Neither) (sym r.phase)
       (inlet-low f c before behind fits holds (omega (arith, ints)) (test-low f c worth.0 worth.1 under) r.phase)
-  fits-by false true false higher ec et el eh = inlet-failed f c before behind fits holds (test-told f c et own_child.in_role)
+  fits-by false true false higher ec et el eh = inlet-failed f c before behind fits holds (test-told f c et own-child.in_role)
   fits-by false false low true ec et el eh =
       let under : seen c <ℤ f.beta = not-le-told f.beta (seen c) ec in
       let over : floor f <ℤ seen c = lt-told (floor f) (seen c) eh in
       ⊎_elim
       (λ (r : IsFirst f c). inlet-first f c before behind fits holds (code_at f c.number) r
-      (IsSearching-higher (found_rest c) own_child.inside fits.table.places (first-kind f c r under over) over under
+      (IsSearching-higher (found_rest c) own-child.inside fits.table.places (first-kind f c r under over) over under
       (first-exact f c worth.0 worth.1 r under over) (λ k below. absurd (omega (arith, r.number, below))) searching.search))
       (λ (r : IsAgain f c). inlet-higher f c before behind fits holds r over under (again-exact f c worth.0 worth.1 r under over) (again-kind f c r under over))
-      (other-told f c et own_child.in_role)
+      (other-told f c et own-child.in_role)
   fits-by false false low false ec et el eh =
       let under : seen c <ℤ f.beta = not-le-told f.beta (seen c) ec in
       let small : seen c ≤ℤ floor f = not-lt-told (floor f) (seen c) eh in
-      let open_ : slice_index f.statuses c.number ≢ 2 = unsettled f c own_child.in_role in
+      let open_ : slice_index f.statuses c.number ≢ 2 = unsettled f c own-child.in_role in
       ⊎_elim
       (λ (r : IsFirst f c). inlet-first f c before behind fits holds f.choice r
-      (IsSearching-low (found_rest c) own_child.inside fits.window open_ small (first-low f c worth.0 worth.1 r under) searching.search))
+      (IsSearching-low (found_rest c) own-child.inside fits.window open_ small (first-low f c worth.0 worth.1 r under) searching.search))
       (λ (r : IsAgain f c). inlet-low f c before behind fits holds small (again-low f c worth.0 worth.1 r small) r.phase)
-      (other-told f c et own_child.in_role)
+      (other-told f c et own-child.in_role)
 
   -- and it leaves the frame fitting
   pub inlet-fits : Fits (frame_after f c) (frames_left (int_le f.beta (seen c)) (before ++ behind)) Neither

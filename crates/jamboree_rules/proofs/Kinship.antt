@@ -1,6 +1,6 @@
 -- The inlets keep that a frame fits.
 use Rattle.jamboree_rules.proofs.Common.{◌≡◌, ◌≢◌, ℕ, ◌+◌, ◌<◌, ◌≤◌, ◌⊎◌, ℤ, neg_ℤ, ◌<ℤ◌, ◌≤ℤ◌, List, [], ◌∷◌, ◌++◌, length, refl, slice_index, slice_set, int_max, sym, ◌∙◌, arith, inr, ⊎_elim, common_steps, ints, clamps, after, IsBound, Neither, HasReturned, best_choice, Exact, entered, IsSearching, IsTabled, IsOfKind, IsTrueRest, found_rest, Frame, coded, board, choice_at, code_at, rest_at, value_at, value, floor, IsFirst, IsTest, IsAgain, IsInRole, First, Test, Again, IsChildOf, AreChildren, how_many, IsSearchingFrame, Fits, Status, changed, seen, ap, by_lt_z}
-use Rattle.jamboree_rules.proofs.Searching.{IsSearching-mark, IsSearching-low, IsSearching-higher, set_there, set_beside, set_length, worth_of, role-kept-mark, found-said, tabled-set, AreAllSettled, all-bound, greatest-of, named-best}
+use Rattle.jamboree_rules.proofs.Searching.{IsSearching-mark, IsSearching-low, IsSearching-higher, set-there, set-beside, set-length, worth-of, role-kept-mark, found-said, tabled-set, AreAllSettled, all-bound, greatest-of, named-best}
 use Rattle.jamboree_rules.proofs.Forms.{IsInSearch}
 
 -- a frame of the same depth, window, role and number
@@ -15,7 +15,7 @@ pub record HasSameGoal (f g : Frame) : Type 0 where
 pub role-kept-settle : (f c : Frame) (i choice rest : ℕ) (best : ℤ) → i < length f.statuses → c.number ≢ i → f.phase ≡ 3 →
     floor f ≤ℤ int_max f.alpha best → (IsAgain f c → int_max f.alpha best ≡ floor f) →
     IsInRole f c → IsInRole (record (changed (Status i 2 rest) f) { phase = 3; best = best; choice = choice }) c
-role-kept-settle f c i choice rest best inside other phase more same role = grind (arith, ints, clamps, set_there, set_beside)
+role-kept-settle f c i choice rest best inside other phase more same role = grind (arith, ints, clamps, set-there, set-beside)
 
 none-of : (c : Frame) (cs : List Frame) (i : ℕ) → how_many i (c ∷ cs) ≡ 0 → (c.number ≢ i) × (how_many i cs ≡ 0)
 none-of c cs i none = (λ e. absurd (grind (arith, common_steps, none, e)), grind (arith, common_steps))
@@ -95,16 +95,16 @@ first-alone f c d h4 h5 h6 = grind arith
 
 -- what a returned child's score says, of any role
 pub scored : (f c : Frame) → IsChildOf f c → Fits c [] HasReturned → (value_at f c.number ≡ neg_ℤ (value c)) × IsBound c.alpha c.beta c.best (value c)
-scored f c kin returned = grind (arith, worth_of, kin)
+scored f c kin returned = grind (arith, worth-of, kin)
 
 -- what the inlet of a child leaves, whose score says what is true
 module _ (f c : Frame) (before behind : List Frame) (fits : Fits f (before ++ c ∷ behind) Neither)
     (holds : IsTrueRest (found_rest c) (value_at f c.number)) where
-  own_kin : IsChildOf f c
-  own_kin = child-of f c before behind fits.kin
+  own-kin : IsChildOf f c
+  own-kin = child-of f c before behind fits.kin
 
   state : IsSearchingFrame f
-  state = fits.searching (in-search f c own_kin.in_role)
+  state = fits.searching (in-search f c own-kin.in_role)
 
   -- no other child is for its choice, and for each choice there is at most one still
   alone : (how_many c.number before ≡ 0) × (how_many c.number behind ≡ 0)
@@ -120,10 +120,10 @@ module _ (f c : Frame) (before behind : List Frame) (fits : Fits f (before ++ c 
 
   -- a root that has begun keeps its places
   whole-set : (x : ℕ) → f.role ≡ 0 → length (slice_set f.statuses c.number x) ≡ length (entered f.depth (board f))
-  whole-set x root = set_length f.statuses c.number x ∙ fits.whole root (has-begun f c own_kin.in_role)
+  whole-set x root = set-length f.statuses c.number x ∙ fits.whole root (has-begun f c own-kin.in_role)
 
   table-set : (x : ℕ) → IsTabled (value_at f) (slice_set f.statuses c.number x) (slice_set f.rests c.number (found_rest c))
-  table-set x = tabled-set c.number x (found_rest c) own_kin.inside fits.table holds (λ _. found-said c)
+  table-set x = tabled-set c.number x (found_rest c) own-kin.inside fits.table holds (λ _. found-said c)
 
   -- it fits where its choices are still searched and the other children keep their roles
   Fits-searched : (phase : ℕ) (best : ℤ) (choice status : ℕ) → phase ≡ 3 → StillSearches f c best choice status →
@@ -131,7 +131,7 @@ module _ (f c : Frame) (before behind : List Frame) (fits : Fits f (before ++ c 
       Fits (taken_in f c phase best choice status) (before ++ behind) Neither
   Fits-searched phase best choice status late searching roles =
       let g : Frame = taken_in f c phase best choice status in
-      let len = set_length f.statuses c.number status in
+      let len = set-length f.statuses c.number status in
       let step : (d : Frame) → d.number ≢ c.number → IsChildOf f d → IsChildOf g d =
       λ d other dkin. record { inside = rw len dkin.inside; shallower = dkin.shallower; known = dkin.known; in_role = roles d other dkin.in_role } in
       record {
@@ -143,7 +143,7 @@ module _ (f c : Frame) (before behind : List Frame) (fits : Fits f (before ++ c 
           some = rw len state.some;
           deep = state.deep;
           spawned_in = rw len state.spawned_in;
-          unspawned = unspawned-set f.statuses c.number status f.spawned (begun f c own_kin.in_role) state.unspawned;
+          unspawned = unspawned-set f.statuses c.number status f.spawned (begun f c own-kin.in_role) state.unspawned;
           search = searching;
         };
         done = λ (e : phase ≡ 4). absurd (omega arith);
@@ -157,27 +157,27 @@ module _ (f c : Frame) (before behind : List Frame) (fits : Fits f (before ++ c 
   -- inlet case 4: a test above its window's lower end, below beta
   pub inlet-failed : IsTest f c → Fits (taken_in f c f.phase f.best f.choice 3) (before ++ behind) Neither
   inlet-failed test =
-      let open_ : slice_index f.statuses c.number ≢ 2 = unsettled f c own_kin.in_role in
-      Fits-searched f.phase f.best f.choice 3 test.phase (IsSearching-mark (found_rest c) own_kin.inside open_ (λ e. absurd (omega (arith, e))) state.search)
+      let open_ : slice_index f.statuses c.number ≢ 2 = unsettled f c own-kin.in_role in
+      Fits-searched f.phase f.best f.choice 3 test.phase (IsSearching-mark (found_rest c) own-kin.inside open_ (λ e. absurd (omega (arith, e))) state.search)
       (λ d other. role-kept-mark f d c.number 3 (found_rest c) f.spawned other open_)
 
   -- inlet cases 2 and 3 with a score that is at most the greater of alpha and best, and an upper bound of the choice's value
   pub inlet-low : seen c ≤ℤ floor f → value_at f c.number ≤ℤ seen c → f.phase ≡ 3 → Fits (taken_in f c 3 (best_with f c) f.choice 2) (before ++ behind) Neither
   inlet-low low worth phase =
-      Fits-searched 3 _ _ 2 refl (IsSearching-low (found_rest c) own_kin.inside fits.window (unsettled f c own_kin.in_role) low worth state.search)
-      (λ d other. role-kept-settle f d _ _ _ _ own_kin.inside other phase (omega (arith, ints, clamps)) (λ _. omega (arith, ints, clamps)))
+      Fits-searched 3 _ _ 2 refl (IsSearching-low (found_rest c) own-kin.inside fits.window (unsettled f c own-kin.in_role) low worth state.search)
+      (λ d other. role-kept-settle f d _ _ _ _ own-kin.inside other phase (omega (arith, ints, clamps)) (λ _. omega (arith, ints, clamps)))
 
   -- inlet case 2 of a search again, with a better score
   pub inlet-higher : IsAgain f c → floor f <ℤ seen c → seen c <ℤ f.beta → value_at f c.number ≡ seen c → IsOfKind (found_rest c) Exact →
       Fits (taken_in f c 3 (best_with f c) (code_at f c.number) 2) (before ++ behind) Neither
   inlet-higher again high under worth exact =
-      Fits-searched 3 _ _ 2 refl (IsSearching-higher (found_rest c) own_kin.inside fits.table.places exact high under worth again.earlier state.search)
-      (λ d other. role-kept-settle f d _ _ _ _ own_kin.inside other again.phase (omega (arith, ints, clamps)) (λ r. absurd (one-again f c d again r other)))
+      Fits-searched 3 _ _ 2 refl (IsSearching-higher (found_rest c) own-kin.inside fits.table.places exact high under worth again.earlier state.search)
+      (λ d other. role-kept-settle f d _ _ _ _ own-kin.inside other again.phase (omega (arith, ints, clamps)) (λ r. absurd (one-again f c d again r other)))
 
   -- inlet case 1: the frame is done, and has no child
   pub inlet-cut : f.beta ≤ℤ seen c → seen c ≤ℤ value_at f c.number → Fits (taken_in f c 4 (seen c) (code_at f c.number) 2) [] Neither
   inlet-cut high under =
-      let most : value_at f c.number ≤ℤ value f = (greatest-of f state).above c.number own_kin.inside in
+      let most : value_at f c.number ≤ℤ value f = (greatest-of f state).above c.number own-kin.inside in
       let window : f.alpha <ℤ f.beta = fits.window in
       record {
         window = fits.window;
@@ -258,7 +258,7 @@ spawned-child f c children i x spawned fits phase inside free opened more few be
     let not2 : slice_index f.statuses i ≢ 2 = grind arith in
     let x2 : x ≢ 2 = grind arith in
     let none : how_many i children ≡ 0 = none-for f i (grind arith) (grind arith) children fits.kin in
-    let len = set_length f.statuses i x in
+    let len = set-length f.statuses i x in
     record {
       window = fits.window;
       marked = fits.marked;
@@ -268,7 +268,7 @@ spawned-child f c children i x spawned fits phase inside free opened more few be
         some = rw len s.some;
         deep = s.deep;
         spawned_in = rw len (omega arith);
-        unspawned = λ k low high. set_beside f.statuses i x k (λ (e : k ≡ i). omega arith) ∙ s.unspawned k (omega arith) (omega (arith, len));
+        unspawned = λ k low high. set-beside f.statuses i x k (λ (e : k ≡ i). omega arith) ∙ s.unspawned k (omega arith) (omega (arith, len));
         search = IsSearching-mark (rest_at f i) inside not2 x2 s.search;
       };
       done = λ (e : f.phase ≡ 4). ⊎_elim (λ (p : f.phase ≡ 2). absurd (omega arith)) (λ (p : f.phase ≡ 3). absurd (omega arith)) phase;

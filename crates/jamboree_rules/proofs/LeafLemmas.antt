@@ -1,5 +1,5 @@
 -- The two words of a list of cells.
-use Rattle.jamboree_rules.proofs.Common.{◌≡◌, ℕ, ◌+◌, ◌<◌, ◌≤◌, ◌^◌, ◌==◌, zero, suc, Bool, true, false, cond, if◌then◌else◌, bit_and, List, map, filter, length, refl, ℤ, ◌<ℤ◌, bit_at, range_with_len, sym, ◌∙◌, ap, arith, inl, inr, min, eqb, cases_lt, ne_eqb, ext_get_or, length-map, get_or-map-range_with_len, bit_at_and, bit_at-zero, bit_at-lt, bit_at_above, same_from_bits, Cell, Empty, Own, Opp, squares, cell_at, is_among, is_own_cell, is_opp_cell, cell_of, cells_of, bits_of, apart, cell_at-cells_of, map-squares_same, bit_cases, bit_at-bits_of, is_among-filter, is_square, own_word, opp_word, is_leaf, coded, ints, props, ∥∥₁_elim, minimax, best_choice, IsBound, Leaf, LeafAnswer, IsLeaf, leaf-told, leaf_with, leaf_by, leaf_from, same_leaf}
+use Rattle.jamboree_rules.proofs.Common.{◌≡◌, ℕ, ◌+◌, ◌<◌, ◌≤◌, ◌^◌, ◌==◌, zero, suc, Bool, true, false, cond, if◌then◌else◌, bit_and, List, map, filter, length, refl, ℤ, ◌<ℤ◌, bit_at, range_with_len, sym, ◌∙◌, ap, arith, inl, inr, min, eqb, cases_lt, ne_eqb, ext_get_or, length-map, get_or-map-range_with_len, bit_at_and, bit_at-zero, bit_at-lt, bit_at_above, same_from_bits, Cell, Empty, Own, Opp, squares, cell_at, is_among, is_own_cell, is_opp_cell, cell_of, cells_of, bits_of, apart, cell_at-cells_of, map-squares-same, bit-cases, bit_at-bits_of, is_among-filter, is-square, own_word, opp_word, is_leaf, coded, ints, props, ∥∥₁_elim, minimax, best_choice, IsBound, Leaf, LeafAnswer, IsLeaf, leaf-told, leaf_with, leaf_by, leaf_from, same_leaf}
 use Rattle.jamboree_rules.proofs.Forms.{leaf-passes, coded-small}
 
 squares-length : length squares ≡ 64
@@ -14,7 +14,7 @@ by-cells b len = ext_get_or Empty (map (λ s. cell_at b s) squares) b (length-ma
 
 -- the bits of the squares that pass a test
 bit-passing : (p : ℕ → Bool) (s : ℕ) → s < 64 → bit_at (bits_of (filter p squares)) s ≡ cond (p s) 1 0
-bit-passing p s below = grind (arith, bit_at-bits_of, is_among-filter, is_square)
+bit-passing p s below = grind (arith, bit_at-bits_of, is_among-filter, is-square)
 
 among-range : (i a n : ℕ) → a + n ≤ i → is_among i (range_with_len a n) ≡ false
 among-range i a zero past = refl
@@ -33,7 +33,7 @@ cell-by c x y h4 h5 = grind arith
 -- the two words of a board of 64 cells hold it
 pub words-hold : (b : List Cell) → length b ≡ 64 → cells_of (own_word b) (opp_word b) ≡ b
 words-hold b len =
-    map-squares_same (cell_of (own_word b) (opp_word b)) (λ s. cell_at b s)
+    map-squares-same (cell_of (own_word b) (opp_word b)) (λ s. cell_at b s)
     (λ s below. cell-by (cell_at b s) (bit_at (own_word b) s) (bit_at (opp_word b) s)
     (bit-passing (λ t. is_own_cell (cell_at b t)) s below) (bit-passing (λ t. is_opp_cell (cell_at b t)) s below))
     ∙ by-cells b len
@@ -50,10 +50,10 @@ words-apart b = same_from_bits (bit_and (own_word b) (opp_word b)) 0 (λ s. bit_
 
 -- the bits of two words that share none, by their cells
 own-by : (x y : ℕ) → x < 2 → y < 2 → x ≡ cond (is_own_cell (cond (eqb x 1) Own (cond (eqb y 1) Opp Empty))) 1 0
-own-by x y p q = grind (arith, bit_cases)
+own-by x y p q = grind (arith, bit-cases)
 
 opp-by : (x y : ℕ) → x < 2 → y < 2 → min x y ≡ 0 → y ≡ cond (is_opp_cell (cond (eqb x 1) Own (cond (eqb y 1) Opp Empty))) 1 0
-opp-by x y p q h = grind (arith, bit_cases)
+opp-by x y p q h = grind (arith, bit-cases)
 
 -- a word of 64 bits that has a bit where a cell passes a test
 word-same : (b : List Cell) (word : ℕ) (p : Cell → Bool) → word < 2 ^ 64 → ((s : ℕ) → s < 64 → bit_at word s ≡ cond (p (cell_at b s)) 1 0) →

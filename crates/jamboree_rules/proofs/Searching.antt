@@ -3,14 +3,14 @@ use Rattle.jamboree_rules.proofs.Common.{◌≡◌, ◌≢◌, ℕ, ◌<◌, ℤ
 use Rattle.jamboree_rules.proofs.Forms.{kind-some, kind-read, score-read, same-kind, rest-passes}
 
 -- a status that is set
-pub set_there : (st : List ℕ) (i x : ℕ) → i < length st → slice_index (slice_set st i x) i ≡ x
-set_there st i x h = grind (arith, common_steps)
+pub set-there : (st : List ℕ) (i x : ℕ) → i < length st → slice_index (slice_set st i x) i ≡ x
+set-there st i x h = grind (arith, common_steps)
 
-pub set_beside : (st : List ℕ) (i x k : ℕ) → k ≢ i → slice_index (slice_set st i x) k ≡ slice_index st k
-set_beside st i x k h = grind (arith, common_steps)
+pub set-beside : (st : List ℕ) (i x k : ℕ) → k ≢ i → slice_index (slice_set st i x) k ≡ slice_index st k
+set-beside st i x k h = grind (arith, common_steps)
 
-pub set_length : (st : List ℕ) (i x : ℕ) → length (slice_set st i x) ≡ length st
-set_length st i x = grind (arith, common_steps)
+pub set-length : (st : List ℕ) (i x : ℕ) → length (slice_set st i x) ≡ length st
+set-length st i x = grind (arith, common_steps)
 
 -- no settled choice is worth more than the best score
 abbrev pub AreAtMost : (v : ℕ → ℤ) (best : ℤ) → List ℕ → Type 0
@@ -18,7 +18,7 @@ AreAtMost v best st = (k : ℕ) → k < length st → slice_index st k ≡ 2 →
 
 -- a settled choice after a status was set
 settled-set : (v : ℕ → ℤ) (st : List ℕ) (best : ℤ) (i x : ℕ) → i < length st → (x ≡ 2 → v i ≤ℤ best) → AreAtMost v best st → AreAtMost v best (slice_set st i x)
-settled-set v st best i x inside here h k below is = grind (arith, ints, common_steps, set_there, set_beside, set_length st i x, h k, here)
+settled-set v st best i x inside here h k below is = grind (arith, ints, common_steps, set-there, set-beside, set-length st i x, h k, here)
 
 -- and after the best score grew
 settled-more : (v : ℕ → ℤ) (st : List ℕ) (best score : ℤ) (i : ℕ) → i < length st → v i ≤ℤ int_max best score → AreAtMost v best st →
@@ -29,7 +29,7 @@ settled-more v st best score i inside under h =
 -- the found choice stays where a choice that isn't settled gets another entry
 pub found-set : (v : ℕ → ℤ) (code : ℕ → ℕ) (st rests : List ℕ) (best : ℤ) (choice i x rest : ℕ) → i < length st → slice_index st i ≢ 2 →
     IsFound v code st rests best choice → IsFound v code (slice_set st i x) (slice_set rests i rest) best choice
-found-set v code st rests best choice i x rest inside other f = grind (arith, set_length, set_beside)
+found-set v code st rests best choice i x rest inside other f = grind (arith, set-length, set-beside)
 
 -- an entry of a frame that searches its choices is set
 module _ {v : ℕ → ℤ} {code : ℕ → ℕ} {st rests : List ℕ} {alpha beta best : ℤ} {choice i : ℕ} (rest : ℕ) (inside : i < length st) where
@@ -66,9 +66,9 @@ module _ {v : ℕ → ℤ} {code : ℕ → ℕ} {st rests : List ℕ} {alpha bet
         settled = settled-more v st best score i inside (omega (arith, ints, clamps)) s.settled;
         found = λ higher. record {
           place = i;
-          inside = omega (arith, set_length st i 2);
-          settled = set_there st i 2 inside;
-          exact = ap kind_in (set_there rests i rest (omega arith)) ∙ kind;
+          inside = omega (arith, set-length st i 2);
+          settled = set-there st i 2 inside;
+          exact = ap kind_in (set-there rests i rest (omega arith)) ∙ kind;
           named = refl;
           worth = exact ∙ sym same;
           earlier = λ k under. let h : v k ≤ℤ best = s.settled k (omega arith) (earlier k under) in omega (arith, ints, clamps);
@@ -163,13 +163,13 @@ module _ (f : Frame) (deep : 0 < f.depth) (len : length f.statuses ≡ length (c
 -- What a child's role says, and what it keeps.
 
 -- the value of a child's choice is the child's own, seen from the parent
-pub worth_of : (f c : Frame) → IsChildOf f c → c.phase ≢ 0 → value_at f c.number ≡ neg_ℤ (value c)
-worth_of f c kin there = rw (kin.shallower, kin.known there) refl
+pub worth-of : (f c : Frame) → IsChildOf f c → c.phase ≢ 0 → value_at f c.number ≡ neg_ℤ (value c)
+worth-of f c kin there = rw (kin.shallower, kin.known there) refl
 
 -- a child of another number stays a child where a status is set that isn't its own and that no other search again relies on
 pub role-kept-mark : (f c : Frame) (i x rest spawned : ℕ) → c.number ≢ i → slice_index f.statuses i ≢ 2 → IsInRole f c →
     IsInRole (record (changed (Status i x rest) f) { spawned = spawned }) c
-role-kept-mark f c i x rest spawned h1 h2 h3 = grind (arith, set_beside)
+role-kept-mark f c i x rest spawned h1 h2 h3 = grind (arith, set-beside)
 
 -- A frame's table: what is said of a choice is true, and stays so while other entries are set.
 
@@ -230,18 +230,18 @@ module _ {v : ℕ → ℤ} {st rests : List ℕ} (i x rest : ℕ) (inside : i < 
     (said : x ≡ 2 → kind_in rest ≢ 0) where
   true-set : (k : ℕ) → IsTrueRest (slice_index (slice_set rests i rest) k) (v k)
   true-set k = elim (cases_eq k i) [
-    | inl same ↦ rw (same, set_there rests i rest (omega (arith, t.places))) holds
-    | inr other ↦ rw (set_beside rests i rest k other) (t.holds k)
+    | inl same ↦ rw (same, set-there rests i rest (omega (arith, t.places))) holds
+    | inr other ↦ rw (set-beside rests i rest k other) (t.holds k)
   ]
 
   said-set : (k : ℕ) → slice_index (slice_set st i x) k ≡ 2 → kind_in (slice_index (slice_set rests i rest) k) ≢ 0
   said-set k is = elim (cases_eq k i) [
-    | inl same ↦ grind (arith, set_there)
-    | inr other ↦ rw (set_beside rests i rest k other) (t.said k (sym (set_beside st i x k other) ∙ is))
+    | inl same ↦ grind (arith, set-there)
+    | inr other ↦ rw (set-beside rests i rest k other) (t.said k (sym (set-beside st i x k other) ∙ is))
   ]
 
   pub tabled-set : IsTabled v (slice_set st i x) (slice_set rests i rest)
-  tabled-set = record { places = set_length rests i rest ∙ t.places ∙ sym (set_length st i x); holds = true-set; said = said-set }
+  tabled-set = record { places = set-length rests i rest ∙ t.places ∙ sym (set-length st i x); holds = true-set; said = said-set }
 
 pub zero-at : (n k : ℕ) → slice_index (replicate n 0) k ≡ 0
 zero-at n k = grind (arith, common_steps)

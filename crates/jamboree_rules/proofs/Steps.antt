@@ -1,6 +1,6 @@
 -- The acts of a running frame keep that it fits, and that a new child does.
 use Rattle.jamboree_rules.proofs.Common.{◌||◌, ◌≡◌, ◌≢◌, ℕ, ◌+◌, ◌-◌, ◌<◌, ℤ, pos, negsuc, neg_ℤ, ◌<ℤ◌, ◌≤ℤ◌, ◌+ℤ◌, List, [], ◌∷◌, ◌++◌, length, replicate, refl, slice_index, ◌≤◌, ◌⊎◌, ◌==◌, ◌&&◌, nat_lt, nat_le, Bool, true, false, map, drop, bit_and, sym, ◌∙◌, ap, arith, inl, inr, ⊎_elim, subst, common_steps, ints, clamps, choices, plies, cells_of, Choice, entered, Neither, Computes, NewChildFits, HasReturned, grown, children_after, mark_after, has_one, Frame, choice_at, rest_at, value_at, unscored, floor, least, greatest, First, IsSearchingFrame, IsDoneFrame, Fits, AreFitting, lt-leb, or_from, nat_tests, length-map, length-drop, padded, Act, Continuation, Grow, Wait, Compute, Return, stored, is_outside, is_bad_then, is_bad_act, status_of, frame_of, is_rest, are_entries, Change, OwnBits, OppBits, Phase, Best, Chosen, Count, Spawned, Status, pair_of, pairs_of, given_words, frame_size, returns, spawns, opening, first_search, tests, IsLeaf, IsInRole, eqb-true, leb-true, ltb-true, map-append}
-use Rattle.jamboree_rules.proofs.Searching.{set_there, set_beside, set_length, zero-at, tabled-zeros, tabled-none, entered-deep}
+use Rattle.jamboree_rules.proofs.Searching.{set-there, set-beside, set-length, zero-at, tabled-zeros, tabled-none, entered-deep}
 use Rattle.jamboree_rules.proofs.Kinship.{with_place, spawned-child, next-settled, next-done, HasSameGoal}
 use Rattle.jamboree_rules.proofs.Forms.{few-choices, held, rests-are, AreSafe, changed_by, length-stored, frame-stored, drop-grown, entries-zeros, frame-grown, IsFrame, IsFormed, formed-passes, formed-stored, HasEntries, IsInSearch, written}
 
@@ -45,7 +45,7 @@ module _ (f : Frame) (children : List Frame) (fits : Fits f children Neither) wh
       low <ℤ high → IsInRole (with_place f i status spawned) (new_child f role i low high) → Spawns f children role i status spawned low high
   spawns-child role i status spawned low high phase inside more free opened few before window in_role = (
     spawned-child f _ children i status spawned fits phase inside free opened more few before refl
-        (record { inside = rw (set_length f.statuses i status) inside; shallower = refl; known = λ there. absurd (there refl); in_role = in_role }),
+        (record { inside = rw (set-length f.statuses i status) inside; shallower = refl; known = λ there. absurd (there refl); in_role = in_role }),
     new-child-fits f role i low high window,
   )
 
@@ -56,7 +56,7 @@ module _ (f : Frame) (children : List Frame) (fits : Fits f children Neither) wh
       let zero : slice_index f.statuses 0 ≡ 0 = s.unspawned 0 (omega arith) s.some in
       let window : f.alpha <ℤ f.beta = fits.window in
       spawns-child 1 0 1 1 _ _ (inl phase) s.some (omega arith) (inl zero) (inl refl) (omega (arith, s.some)) (omega arith) (omega (arith, ints))
-      (First (record { role = refl; phase = phase; number = refl; status = set_there f.statuses 0 1 s.some; low = refl; high = refl }))
+      (First (record { role = refl; phase = phase; number = refl; status = set-there f.statuses 0 1 s.some; low = refl; high = refl }))
 
   -- phase 3 (i): a failed choice is searched again
   pub next-again : (j : ℕ) → f.phase ≡ 3 → j < length f.statuses → slice_index f.statuses j ≡ 3 → ((k : ℕ) → k < j → slice_index f.statuses k ≡ 2) →
@@ -67,7 +67,7 @@ module _ (f : Frame) (children : List Frame) (fits : Fits f children Neither) wh
       let below : f.best <ℤ f.beta = s.search.below in
       let begun : j < f.spawned = grind (arith, s.unspawned j, failed, inside) in
       spawns-child 3 j 4 f.spawned _ _ (inr phase) inside (omega arith) (inr failed) (inr refl) s.spawned_in begun (omega (arith, ints, clamps))
-      (grind (arith, set_there, set_beside))
+      (grind (arith, set-there, set-beside))
 
   -- phase 3 (ii): the next choice is tested
   pub next-test : f.phase ≡ 3 → f.spawned < length f.statuses → Spawns f children 2 f.spawned 1 (f.spawned + 1) (neg_ℤ (floor f +ℤ pos 1)) (neg_ℤ (floor f))
@@ -76,7 +76,7 @@ module _ (f : Frame) (children : List Frame) (fits : Fits f children Neither) wh
       let zero : slice_index f.statuses f.spawned ≡ 0 = s.unspawned f.spawned (omega arith) inside in
       let twice : neg_ℤ (neg_ℤ (floor f)) ≡ floor f = omega (arith, ints, clamps) in
       spawns-child 2 f.spawned 1 (f.spawned + 1) _ _ (inr phase) inside (omega arith) (inl zero) (inl refl) (omega arith) (omega arith)
-      (omega (arith, ints, clamps)) (grind (arith, set_there, ints, clamps))
+      (omega (arith, ints, clamps)) (grind (arith, set-there, ints, clamps))
 
   -- phase 0: the board is known, and there are choices
   pub next-opened : (own opp : ℕ) → f.phase ≡ 0 → negsuc 199999 ≤ℤ f.alpha → 0 < f.depth → 0 < length (choices (cells_of own opp)) →

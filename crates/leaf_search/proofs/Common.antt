@@ -8,8 +8,8 @@ pub use Rattle.std.specs.Int.{int_max}
 pub use Rattle.othello_board.specs.Words.{cells}
 pub use Rattle.othello_board.specs.declared.boards.Board.{Board}
 pub use Rattle.othello_board.specs.declared.cells.Cell.{Cell}
-pub use Rattle.othello_eval.proofs.MinimaxLemmas.{best_choice-deeper, best_choice-leaf, best_choice-over, find-kept, find-new, found_below_greatest}
-pub use Rattle.othello_eval.proofs.MinimaxLemmas.{greatest_or-lower, greatest_or-upper, minimax-deeper, minimax-over, minimax_leaf_there}
+pub use Rattle.othello_eval.proofs.MinimaxLemmas.{best_choice-deeper, best_choice-leaf, best_choice-over, find-kept, find-new, found-below-greatest}
+pub use Rattle.othello_eval.proofs.MinimaxLemmas.{greatest_or-lower, greatest_or-upper, minimax-deeper, minimax-over, minimax-leaf-there}
 pub use Rattle.othello_eval.proofs.othello_moves_DescentLemmas.{goes_down, passing}
 pub use Rattle.othello_eval.specs.Minimax.{choice_value, greatest, greatest_or, int_equal, minimax}
 pub use Rattle.othello_eval.specs.Values.{IsWithin, final_value}

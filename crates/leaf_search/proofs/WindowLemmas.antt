@@ -1,5 +1,5 @@
 -- The steps of a window search at one position, over any choices and what each is worth.
-use Rattle.leaf_search.proofs.Common.{◌↔◌, append-nil, append_assoc, ◌≡◌, ◌<◌, length, ℤ, pos, negsuc, neg_ℤ, List, [], ◌∷◌, ◌++◌, map, Option, Some, refl, sym, ◌∙◌, ap, subst, arith, find, ◌≤ℤ◌, ◌<ℤ◌, IsSome, IfSome, All, Contains, ℕ, ◌-◌, Bool, IsTrue, true, false, int_max, ints, clamps, by_lt_z, All-nil, All-cons, All-append, All-weaker, Contains-append_right, common_steps, choices, after, plies, Choice, Cell, greatest, greatest_or, int_equal, minimax, choice_value, IsBound, IsWithin, find-kept, find-new, greatest_or-upper, greatest_or-lower, found_below_greatest}
+use Rattle.leaf_search.proofs.Common.{◌↔◌, append-nil, append_assoc, ◌≡◌, ◌<◌, length, ℤ, pos, negsuc, neg_ℤ, List, [], ◌∷◌, ◌++◌, map, Option, Some, refl, sym, ◌∙◌, ap, subst, arith, find, ◌≤ℤ◌, ◌<ℤ◌, IsSome, IfSome, All, Contains, ℕ, ◌-◌, Bool, IsTrue, true, false, int_max, ints, clamps, by_lt_z, All-nil, All-cons, All-append, All-weaker, Contains-append_right, common_steps, choices, after, plies, Choice, Cell, greatest_or, int_equal, minimax, choice_value, IsBound, IsWithin, find-kept, find-new, greatest_or-upper, greatest_or-lower, found-below-greatest}
 
 -- what is known once these choices were searched, none of which ended the search: no value is above the
 -- best score, and where that is above alpha it is the value of the first choice that attains it
@@ -41,24 +41,24 @@ module _ {X : Type 0} (alpha : ℤ) (v : X → ℤ) (taken : List X) (best : ℤ
 
 module _ {X : Type 0} (alpha beta : ℤ) (v : X → ℤ) (other : ℤ) where
   -- once all choices were searched and none ended the search, the best score is the bound
-  all_bound : (cs : List X) (best : ℤ) (choice : Option X) → 0 < length cs → best <ℤ beta → IsBestOf alpha v cs best choice →
+  all-bound : (cs : List X) (best : ℤ) (choice : Option X) → 0 < length cs → best <ℤ beta → IsBestOf alpha v cs best choice →
       IsBound alpha beta best (greatest_or other (map v cs))
-  all_bound [] best choice some below so_far = absurd (omega arith)
-  all_bound (c ∷ cs) best choice some below so_far =
+  all-bound [] best choice some below so_far = absurd (omega arith)
+  all-bound (c ∷ cs) best choice some below so_far =
       let most : greatest_or other (map v (c ∷ cs)) ≤ℤ best = greatest_or-upper v other c cs best so_far.above in
       record {
         upper = λ low. most;
         lower = λ (high : beta ≤ℤ best). absurd (omega (arith, ints));
         exact = λ higher lower.
             let found = subst IsSome (sym (so_far.first higher)) (so_far.found higher) in
-            let least : best ≤ℤ greatest_or other (map v (c ∷ cs)) = found_below_greatest v best c cs found in
+            let least : best ≤ℤ greatest_or other (map v (c ∷ cs)) = found-below-greatest v best c cs found in
             omega (arith, ints);
       }
 
   -- a choice with a score of at least beta that is a lower bound of its value ends the search
-  cut_bound : (before : List X) (c : X) (later : List X) (score : ℤ) → alpha <ℤ beta → beta ≤ℤ score → score ≤ℤ v c →
+  cut-bound : (before : List X) (c : X) (later : List X) (score : ℤ) → alpha <ℤ beta → beta ≤ℤ score → score ≤ℤ v c →
       IsBound alpha beta score (greatest_or other (map v (before ++ c ∷ later)))
-  cut_bound before c later score window high under =
+  cut-bound before c later score window high under =
       let least : v c ≤ℤ greatest_or other (map v (before ++ c ∷ later)) = greatest_or-lower v other before c later in
       record {
         upper = λ (low : score ≤ℤ alpha). absurd (omega (arith, ints));
@@ -75,14 +75,14 @@ pub record IsChild {X : Type 0} (v : X → ℤ) (beta floor : ℤ) (c : X) (scor
 
 -- what a child's score says of the choice that leads to it
 module _ {X : Type 0} {v : X → ℤ} {beta floor : ℤ} {c : X} {score : ℤ} (child : IsChild v beta floor c score) where
-  child_under : neg_ℤ score ≤ℤ floor → v c ≤ℤ neg_ℤ score
-  child_under small = let under : score ≤ℤ child.value = child.bound.lower (omega (arith, ints)) in omega (arith, ints, child.worth)
+  child-under : neg_ℤ score ≤ℤ floor → v c ≤ℤ neg_ℤ score
+  child-under small = let under : score ≤ℤ child.value = child.bound.lower (omega (arith, ints)) in omega (arith, ints, child.worth)
 
-  child_over : beta ≤ℤ neg_ℤ score → neg_ℤ score ≤ℤ v c
-  child_over great = let over : child.value ≤ℤ score = child.bound.upper (omega (arith, ints)) in omega (arith, ints, child.worth)
+  child-over : beta ≤ℤ neg_ℤ score → neg_ℤ score ≤ℤ v c
+  child-over great = let over : child.value ≤ℤ score = child.bound.upper (omega (arith, ints)) in omega (arith, ints, child.worth)
 
-  child_exact : floor <ℤ neg_ℤ score → neg_ℤ score <ℤ beta → v c ≡ neg_ℤ score
-  child_exact higher lower = child.worth ∙ ap neg_ℤ (child.bound.exact (omega (arith, ints)) (omega (arith, ints)))
+  child-exact : floor <ℤ neg_ℤ score → neg_ℤ score <ℤ beta → v c ≡ neg_ℤ score
+  child-exact higher lower = child.worth ∙ ap neg_ℤ (child.bound.exact (omega (arith, ints)) (omega (arith, ints)))
 
 -- the best score and its choice after a child's score: its, where that is better, and else what they were
 pub record IsTakenIn {X : Type 0} (best score : ℤ) (choice : Option X) (c : X) (new_best : ℤ) (new_choice : Option X) : Type 0 where
@@ -98,8 +98,8 @@ module _ {X : Type 0} {best score : ℤ} {choice : Option X} {c : X} {new_best :
       (λ better. let new = turn.better better in omega (arith, ints, clamps)) (λ under. let old = turn.kept under in omega (arith, ints, clamps))
 
   -- after a turn the choice is among the choices
-  pub still_chosen : (all : List X) → IfSome choice (Contains all) → Contains all c → IfSome new_choice (Contains all)
-  still_chosen all chosen here =
+  pub still-chosen : (all : List X) → IfSome choice (Contains all) → Contains all c → IfSome new_choice (Contains all)
+  still-chosen all chosen here =
       by_lt_z best (neg_ℤ score) (λ better. rw ((turn.better better).1) here) (λ under. rw ((turn.kept under).1) chosen)
 
   -- one turn: the child was searched, and its score taken in; the search wasn't ended
@@ -109,10 +109,10 @@ module _ {X : Type 0} {best score : ℤ} {choice : Option X} {c : X} {new_best :
       by_lt_z best (neg_ℤ score)
       (λ better. let new = turn.better better in
       rw (new.0, new.1) (by_lt_z alpha (neg_ℤ score)
-      (λ higher. IsBestOf-new alpha v taken best choice c so_far (neg_ℤ score) better (child_exact child (omega (arith, ints, clamps)) (omega (arith, ints))))
-      (λ under. IsBestOf-low alpha v taken best choice c so_far (neg_ℤ score) better under (child_under child (omega (arith, ints, clamps))))))
+      (λ higher. IsBestOf-new alpha v taken best choice c so_far (neg_ℤ score) better (child-exact child (omega (arith, ints, clamps)) (omega (arith, ints))))
+      (λ under. IsBestOf-low alpha v taken best choice c so_far (neg_ℤ score) better under (child-under child (omega (arith, ints, clamps))))))
       (λ no_better. let old = turn.kept no_better in
-      let low : v c ≤ℤ neg_ℤ score = child_under child (omega (arith, ints, clamps)) in
+      let low : v c ≤ℤ neg_ℤ score = child-under child (omega (arith, ints, clamps)) in
       rw (old.0, old.1) (IsBestOf-kept alpha v taken best choice c so_far (omega (arith, ints))))
 
 -- what holds between two turns: the choices are those taken and those left, the best is that of those
@@ -149,32 +149,32 @@ module _ {X : Type 0} {alpha beta : ℤ} {v : X → ℤ} {all left : List X} {be
           least = omega (arith, ints, clamps, s.least);
           real = λ some. omega (arith, ints, clamps, child.within.1);
           greatest = omega (arith, ints, clamps, s.greatest, child.within.0);
-          chosen = still_chosen turn all s.chosen IsSearching-next;
+          chosen = still-chosen turn all s.chosen IsSearching-next;
         }
 
     -- a turn that ends it
     pub IsSearching-cut : {floor score new_best : ℤ} (other : ℤ) → alpha <ℤ beta → IsChild v beta floor c score →
         new_best ≡ int_max best (neg_ℤ score) → beta ≤ℤ new_best → IsBound alpha beta new_best (greatest_or other (map v all))
     IsSearching-cut {new_best = new_best} other window child is great =
-        let over = child_over child (omega (arith, ints, clamps, s.below)) in
+        let over = child-over child (omega (arith, ints, clamps, s.below)) in
         subst (λ cs. IsBound alpha beta new_best (greatest_or other (map v cs))) split-next
-        (cut_bound alpha beta v other s.taken c rest new_best window great (omega (arith, ints, clamps, s.below)))
+        (cut-bound alpha beta v other s.taken c rest new_best window great (omega (arith, ints, clamps, s.below)))
 
   -- the end of the choices
   module _ (none : left ≡ []) (some : 0 < length all) where
-    all_taken : s.taken ≡ all
-    all_taken = sym (append-nil s.taken) ∙ (ap (λ l. s.taken ++ l) (sym none) ∙ s.split)
+    all-taken : s.taken ≡ all
+    all-taken = sym (append-nil s.taken) ∙ (ap (λ l. s.taken ++ l) (sym none) ∙ s.split)
 
     pub IsSearching-real : negsuc 127999 ≤ℤ best
-    IsSearching-real = s.real (rw all_taken some)
+    IsSearching-real = s.real (rw all-taken some)
 
     pub IsSearching-bound : (other : ℤ) → IsBound alpha beta best (greatest_or other (map v all))
-    IsSearching-bound other = all_bound alpha beta v other all best choice some s.below (subst (λ cs. IsBestOf alpha v cs best choice) all_taken s.so_far)
+    IsSearching-bound other = all-bound alpha beta v other all best choice some s.below (subst (λ cs. IsBestOf alpha v cs best choice) all-taken s.so_far)
 
     -- where the best score is above alpha, the choice is the first that attains the greatest value
     pub IsSearching-best : (other : ℤ) → alpha <ℤ best → choice ≡ find (λ c. int_equal (v c) (greatest_or other (map v all))) all
     IsSearching-best other higher =
-        let first = subst (λ cs. find (λ c. int_equal (v c) best) cs ≡ choice) all_taken (s.so_far.first higher) in
+        let first = subst (λ cs. find (λ c. int_equal (v c) best) cs ≡ choice) all-taken (s.so_far.first higher) in
         sym (ap (λ x. find (λ c. int_equal (v c) x) all) ((IsSearching-bound other).exact higher s.below) ∙ first)
 
 -- the same where nobody asks for the choice
@@ -183,9 +183,9 @@ pub record Searched {X : Type 0} (alpha beta : ℤ) (v : X → ℤ) (all left : 
   pub searching : IsSearching alpha beta v all left best choice
 
 -- some choice goes with the greater score
-taken_in : {X : Type 0} (best score new_best : ℤ) (choice : Option X) (c : X) → new_best ≡ int_max best (neg_ℤ score) →
+taken-in : {X : Type 0} (best score new_best : ℤ) (choice : Option X) (c : X) → new_best ≡ int_max best (neg_ℤ score) →
     (new_choice : Option X) × IsTakenIn best score choice c new_best new_choice
-taken_in best score new_best choice c is =
+taken-in best score new_best choice c is =
     by_lt_z best (neg_ℤ score)
     (λ better. (Some c, record { better = λ same. (omega (arith, ints, clamps), refl); kept = λ under. absurd (omega (arith, ints)) }))
     (λ under. (choice, record { better = λ better. absurd (omega (arith, ints)); kept = λ same. (omega (arith, ints, clamps), refl) }))
@@ -194,28 +194,28 @@ module _ {X : Type 0} {alpha beta : ℤ} {v : X → ℤ} {all left : List X} {be
   pub Searched-turn : {c : X} {rest : List X} → left ≡ c ∷ rest → {score new_best : ℤ} → IsChild v beta (int_max alpha best) c score →
       new_best ≡ int_max best (neg_ℤ score) → new_best <ℤ beta → Searched alpha beta v all rest new_best
   Searched-turn {c} next {score} {new_best} child is new_below =
-      let turn = taken_in best score new_best s.choice c is in
+      let turn = taken-in best score new_best s.choice c is in
       record { choice = turn.0; searching = IsSearching-turn s.searching next child turn.1 new_below }
 
 -- the value itself is a bound of it, whatever the window
-pub exact_bound : (alpha beta score value : ℤ) → value ≡ score → IsBound alpha beta score value
-exact_bound alpha beta score value same = grind arith
+pub exact-bound : (alpha beta score value : ℤ) → value ≡ score → IsBound alpha beta score value
+exact-bound alpha beta score value same = grind arith
 
 -- the child, by the plies of the choice, the board after it and the window that it was searched with
 module _ {beta floor low high score : ℤ} (d : ℕ) {p : ℕ} {b : List Cell} (board : List Cell) (c : Choice) where
-  pub child_of : p ≡ plies c → b ≡ after board c → low ≡ neg_ℤ beta → high ≡ neg_ℤ floor → IsBound low high score (minimax (d - p) b) →
+  pub child-of : p ≡ plies c → b ≡ after board c → low ≡ neg_ℤ beta → high ≡ neg_ℤ floor → IsBound low high score (minimax (d - p) b) →
       IsWithin 128000 score → IsChild (choice_value d board) beta floor c score
-  child_of same is low_is high_is bound within =
+  child-of same is low_is high_is bound within =
       let worth = ap (λ b. neg_ℤ (minimax (d - plies c) b)) (sym is) ∙ ap (λ q. neg_ℤ (minimax (d - q) b)) (sym same) in
       record { value = minimax (d - p) b; worth = worth; bound = rw (low_is, high_is) at bound; within = within }
 
 -- whether there are choices
-some_length : {X : Type 0} (xs : List X) → (xs ≡ [] → ⊥) → 0 < length xs
-some_length xs h1 = grind (arith, common_steps)
+some-length : {X : Type 0} (xs : List X) → (xs ≡ [] → ⊥) → 0 < length xs
+some-length xs h1 = grind (arith, common_steps)
 
 module _ (board : List Cell) {left : List Choice} {none : Bool} (all : left ≡ choices board) (exactly : IsTrue none ↔ (left ≡ [])) where
-  pub some_left : none ≡ false → 0 < length (choices board)
-  some_left denied = some_length (choices board) (λ empty. let told : none ≡ true = exactly.1 (all ∙ empty) in cc)
+  pub some-left : none ≡ false → 0 < length (choices board)
+  some-left denied = some-length (choices board) (λ empty. let told : none ≡ true = exactly.1 (all ∙ empty) in cc)
 
-  pub none_left : none ≡ true → choices board ≡ []
-  none_left told = sym all ∙ exactly.0 told
+  pub none-left : none ≡ true → choices board ≡ []
+  none-left told = sym all ∙ exactly.0 told

@@ -14,18 +14,18 @@ module _ {K A : Type 0} (takes : Writing K) (answers : Answering A) (k : K) (a :
   abbrev pub Block-start : BlockSoFar 0 k a h
   Block-start = record { lines = []; answered = LinesAnswered-none; to_come = refl; held = refl }
 
-pub not_lf : (b : ℕ) → b ≢ 10 → eqb b 10 ≡ false
-not_lf b ne = grind (arith, nat_tests)
+pub not-lf : (b : ℕ) → b ≢ 10 → eqb b 10 ≡ false
+not-lf b ne = grind (arith, nat_tests)
 
 module _ (block : List ℕ) (i : ℕ) (l : i < length block) where
   -- what is left of a block, by its first byte
-  pub next_byte : drop i block ≡ get_or block i 0 ∷ drop (i + 1) block
-  next_byte = at_drop_more (λ z. z) block i 0 l
+  pub next-byte : drop i block ≡ get_or block i 0 ∷ drop (i + 1) block
+  next-byte = at_drop_more (λ z. z) block i 0 l
 
   -- the lines to come, where that is an LF
   pub lf-next : (lines : List LineText) (h : Option (List ℕ)) → get_or block i 0 ≡ 10 →
       lines ++ ended_within h (drop i block) ≡ (lines ++ ended_line h ∷ []) ++ ended_within (Some []) (drop (i + 1) block)
-  lf-next lines h e = rw (next_byte, e) (sym (append_assoc lines (ended_line h ∷ []) (ended_within (Some []) (drop (i + 1) block))))
+  lf-next lines h e = rw (next-byte, e) (sym (append_assoc lines (ended_line h ∷ []) (ended_within (Some []) (drop (i + 1) block))))
 
 module _ {K A : Type 0} {takes : Writing K} {answers : Answering A} {k k' : K} {a a' : A}
     {h h' : Option (List ℕ)} {block : List ℕ} {i : ℕ} (s : BlockSoFar takes answers k a h block i k' a' h') where
@@ -37,9 +37,9 @@ module _ {K A : Type 0} {takes : Writing K} {answers : Answering A} {k k' : K} {
     abbrev pub Block-byte : {h'' : Option (List ℕ)} → get_or block i 0 ≢ 10 → h'' ≡ with_byte h' (get_or block i 0) →
         BlockSoFar takes answers k a h block (i + 1) k' a' h''
     Block-byte ne e =
-        let b = get_or block i 0 in let rest = drop (i + 1) block in let other = not_lf b ne in
+        let b = get_or block i 0 in let rest = drop (i + 1) block in let other = not-lf b ne in
         let held = ap (λ t. held_after (cond t (Some []) (with_byte h' b)) rest) (sym other) ∙ (sym (at_drop_more (held_after h') block i 0 l) ∙ s.held) in
-        record { lines = s.lines; answered = s.answered; to_come = rw e (rw (next_byte block i l, other) at s.to_come); held = ap (λ z. held_after z rest) e ∙ held }
+        record { lines = s.lines; answered = s.answered; to_come = rw e (rw (next-byte block i l, other) at s.to_come); held = ap (λ z. held_after z rest) e ∙ held }
 
     module _ {line : LineText} (e : get_or block i 0 ≡ 10) (f : line ≡ ended_line h') where
       -- the lines so far and the line that an LF ends

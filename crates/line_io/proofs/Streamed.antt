@@ -33,12 +33,12 @@ last-held false b bs e =
     let long : nat_le (length (b ∷ bs)) 128 ≡ false = grind (arith, nat_tests) in
     ap (λ t. cond t (Whole (b ∷ bs)) TooLong ∷ []) (sym long)
 
-not_empty : (b : ℕ) (bs : List ℕ) → eqb (length (b ∷ bs)) 0 ≡ false
-not_empty b bs = grind (arith, nat_tests)
+not-empty : (b : ℕ) (bs : List ℕ) → eqb (length (b ∷ bs)) 0 ≡ false
+not-empty b bs = grind (arith, nat_tests)
 
 -- the line that the end of the input ends
 pub last_line-held : (raw : List ℕ) → option_to_list (last_line (held raw)) ≡ map line_text (lines_of_parts (raw ∷ []))
-last_line-held raw = grind (arith, last-held, not_empty)
+last_line-held raw = grind (arith, last-held, not-empty)
 
 -- the parts between the LFs, and the bytes before the first of them
 abbrev parts_of : List ℕ → List (List ℕ)
@@ -57,10 +57,10 @@ abbrev pub cut_lines : Option (List ℕ) → List ℕ → List LineText
 cut_lines h bs = ended_within h bs ++ option_to_list (last_line (held_after h bs))
 
 -- there is a first part
-split_some : (bs : List ℕ) → (s : List ℕ) × (ss : List (List ℕ)) × (parts_of bs ≡ s ∷ ss)
-split_some [] = ([], [], refl)
-split_some (b ∷ bs) =
-    let p = split_some bs in
+split-some : (bs : List ℕ) → (s : List ℕ) × (ss : List (List ℕ)) × (parts_of bs ≡ s ∷ ss)
+split-some [] = ([], [], refl)
+split-some (b ∷ bs) =
+    let p = split-some bs in
     elim (eqb b 10) as (λ t. (s : List ℕ) × (ss : List (List ℕ)) × (cond t ([] ∷ parts_of bs) (onto_first b (parts_of bs)) ≡ s ∷ ss)) [
       | true ↦ ([], parts_of bs, refl)
       | false ↦ (b ∷ p.0, p.1, ap (onto_first b) p.2)
@@ -77,14 +77,14 @@ module _ (raw bs : List ℕ) (nothing : cut_lines (held []) bs ≡ lines_onto []
 all-onto : (raw bs : List ℕ) → cut_lines (held raw) bs ≡ lines_onto raw (parts_of bs)
 all-onto raw [] = last_line-held raw ∙ ap (λ z. map line_text (lines_of_parts (z ∷ []))) (sym (append-nil raw))
 all-onto raw (b ∷ bs) = elim (cases_Bool (eqb b 10)) [
-  | inl lf ↦ let p = split_some bs in rw lf (all-lf raw bs (all-onto [] bs) p.0 p.1 p.2)
+  | inl lf ↦ let p = split-some bs in rw lf (all-lf raw bs (all-onto [] bs) p.0 p.1 p.2)
   | inr other ↦ rw (other, with_byte-held raw b, ← onto-first raw b (parts_of bs)) (all-onto (raw ++ b ∷ []) bs)
 ]
 
 -- with the line that the end of the input ends they are all lines
 pub lines_of-all : (bs : List ℕ) → cut_lines (Some []) bs ≡ lines_of bs
 lines_of-all bs =
-    let p = split_some bs in
+    let p = split-some bs in
     all-onto [] bs ∙ (ap (lines_onto []) p.2 ∙ ap (λ z. map line_text (lines_of_parts z)) (sym p.2))
 
 -- where no byte is an LF, no line ends
@@ -101,14 +101,14 @@ held_after-end : (h : Option (List ℕ)) (bs : List ℕ) → held_after h (up_to
 held_after-end h [] = refl
 held_after-end h (b ∷ bs) = grind (arith, held_after-end (Some []) bs, held_after-end (with_byte h b) bs)
 
-cond_same : (t : Bool) (h : Option (List ℕ)) → cond t h h ≡ h
-cond_same t h = grind arith
+cond-same : (t : Bool) (h : Option (List ℕ)) → cond t h h ≡ h
+cond-same t h = grind arith
 
 -- what is cut byte by byte are the lines of the bytes up to the last LF
 pub ended_within-all : (bs : List ℕ) → ended_within (Some []) bs ≡ lines_of (up_to_last_end bs)
 ended_within-all bs =
     let ended = ended_within-end (Some []) bs in
-    let empty = held_after-end (Some []) bs ∙ cond_same (list_any (λ c. eqb c 10) bs) (Some []) in
+    let empty = held_after-end (Some []) bs ∙ cond-same (list_any (λ c. eqb c 10) bs) (Some []) in
     let first = ended_within (Some []) (up_to_last_end bs) in
     sym ended ∙ (sym (append-nil first) ∙ (ap (λ h. first ++ option_to_list (last_line h)) (sym empty) ∙ lines_of-all (up_to_last_end bs)))
 

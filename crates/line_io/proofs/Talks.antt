@@ -71,8 +71,8 @@ module _ {ends : LineText → Bool} {S K A : Type 0} {gives : Reading S} {takes 
   more block = ended_within h block
 
   -- a read failed
-  pub Talk-read_failed : {s'' : S} → gives s' Failed s'' → Talk gives takes answers ends s k a s'' k' a' (Err Read)
-  Talk-read_failed r = grind (arith, ended_within-all, Leads-more, LinesAnswered-same, upto-none)
+  pub Talk-read-failed : {s'' : S} → gives s' Failed s'' → Talk gives takes answers ends s k a s'' k' a' (Err Read)
+  Talk-read-failed r = grind (arith, ended_within-all, Leads-more, LinesAnswered-same, upto-none)
 
   module _ {block : List ℕ} {s'' : S} {k'' : K} {a'' : A} (r : gives s' (Gave block) s'') where
     -- a line of a block ended the talk
@@ -92,9 +92,9 @@ module _ {ends : LineText → Bool} {S K A : Type 0} {gives : Reading S} {takes 
         }
 
     -- an answer within a block wasn't written
-    pub Talk-write_failed : {d : WriteFailed} → LinesAnswered takes answers k' a' (upto ends (more block)) k'' a'' (Err d) →
+    pub Talk-write-failed : {d : WriteFailed} → LinesAnswered takes answers k' a' (upto ends (more block)) k'' a'' (Err d) →
         Talk gives takes answers ends s k a s'' k'' a'' (Err Write)
-    Talk-write_failed y =
+    Talk-write-failed y =
         let first = upto-first_of ends (ended ++ more block) (last_after blocks h x.so_far.held block) in
         let all = first.1 ∙ ap (upto ends) (all-lines blocks h x.so_far.held block) in
         let due = ap (λ (z : List LineText). z ++ first.0) (sym (upto-append ends ended (more block) x.none)) ∙ all in
@@ -122,7 +122,7 @@ module _ {ends : LineText → Bool} {S K A : Type 0} {gives : Reading S} {takes 
         record { blocks = blocks; last = Ended ∷ []; reads = Leads-more gives s (map Gave blocks) s' Ended s'' x.so_far.reads r; ending = ending; lines = lines }
 
     -- the end of the input, and the answer to the last line not written
-    pub Talk-last_failed : {d : WriteFailed} → LinesAnswered takes answers k' a' (option_to_list (last_line h)) k'' a'' (Err d) →
+    pub Talk-last-failed : {d : WriteFailed} → LinesAnswered takes answers k' a' (option_to_list (last_line h)) k'' a'' (Err d) →
         Talk gives takes answers ends s k a s'' k'' a'' (Err Write)
-    Talk-last_failed y =
+    Talk-last-failed y =
         let lines = LinesAnswered-same (last-due ends blocks h x.so_far.held x.none) (LinesAnswered-append x.so_far.lines y) in grind (arith, Leads-more)

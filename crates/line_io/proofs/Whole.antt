@@ -58,8 +58,8 @@ module _ {S K A : Type 0} (gives : Reading S) (takes : Writing K) (answers : Ans
 module _ {S K A : Type 0} {gives : Reading S} {takes : Writing K} {answers : Answering A} {s s' : S} {k k' : K} {a a' : A} {total : ℕ} {h : Option (List ℕ)}
     (x : RunSoFar gives takes answers s k a total s' k' a' h) where
   -- a read failed
-  pub Run-read_failed : {s'' : S} → gives s' Failed s'' → Run gives takes answers s k a s'' k' a' (Err Read)
-  Run-read_failed r = grind (arith, Leads-more, LinesAnswered-same, ended_within-all)
+  pub Run-read-failed : {s'' : S} → gives s' Failed s'' → Run gives takes answers s k a s'' k' a' (Err Read)
+  Run-read-failed r = grind (arith, Leads-more, LinesAnswered-same, ended_within-all)
 
   -- too many bytes were read
   pub Run-too_much : 2 ^ 62 ≤ total → Run gives takes answers s k a s' k' a' (Err TooMuch)
@@ -71,9 +71,9 @@ module _ {S K A : Type 0} {gives : Reading S} {takes : Writing K} {answers : Ans
     Run-ended y = let lines = LinesAnswered-same (last-lines x.blocks h x.held) (LinesAnswered-append x.lines y) in grind (arith, Leads-more)
 
     -- the end of the input, and the answer to the last line not written
-    pub Run-last_failed : {e : WriteFailed} → LinesAnswered takes answers k' a' (option_to_list (last_line h)) k'' a'' (Err e) →
+    pub Run-last-failed : {e : WriteFailed} → LinesAnswered takes answers k' a' (option_to_list (last_line h)) k'' a'' (Err e) →
         Run gives takes answers s k a s'' k'' a'' (Err Write)
-    Run-last_failed y = let lines = LinesAnswered-same (last-lines x.blocks h x.held) (LinesAnswered-append x.lines y) in grind (arith, Leads-more)
+    Run-last-failed y = let lines = LinesAnswered-same (last-lines x.blocks h x.held) (LinesAnswered-append x.lines y) in grind (arith, Leads-more)
 
   module _ {block : List ℕ} {s'' : S} {k'' : K} {a'' : A} (r : gives s' (Gave block) s'') where
     -- one more block
@@ -90,8 +90,8 @@ module _ {S K A : Type 0} {gives : Reading S} {takes : Writing K} {answers : Ans
         }
 
     -- an answer within a block not written
-    pub Run-write_failed : {e : WriteFailed} → LinesAnswered takes answers k' a' (ended_within h block) k'' a'' (Err e) →
+    pub Run-write-failed : {e : WriteFailed} → LinesAnswered takes answers k' a' (ended_within h block) k'' a'' (Err e) →
         Run gives takes answers s k a s'' k'' a'' (Err Write)
-    Run-write_failed y =
+    Run-write-failed y =
         let lines = LinesAnswered-same (all-lines x.blocks h x.held block) (LinesAnswered-before _ (LinesAnswered-append x.lines y)) in
         record { blocks = x.blocks ++ block ∷ []; last = []; reads = block-reads gives x.blocks block s s' s'' x.reads r; ends = inl refl; lines = lines }

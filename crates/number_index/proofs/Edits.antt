@@ -188,16 +188,16 @@ module _ {X : Type 0} (number_of : X → ℕ) where
 -- one thing changed, to one of the same number
 
 module _ {X Y : Type 0} (number_of : X → ℕ) (say : X → Y) (none : Y) where
-  pub said-with_own : (after : Y → Y) (n : ℕ) (change : X → X) (xs : List X) → ((x : X) → number_of x ≡ n → number_of (change x) ≡ n) →
+  pub said-with-own : (after : Y → Y) (n : ℕ) (change : X → X) (xs : List X) → ((x : X) → number_of x ≡ n → number_of (change x) ≡ n) →
       ((x : X) → say (change x) ≡ after (say x)) → (has_by_number number_of n xs ≡ false → after none ≡ none) →
       read_by_number number_of say none n (change_by_number number_of n change xs) ≡ after (read_by_number number_of say none n xs)
-  said-with_own after n change [] keeps changes gone = sym (gone refl)
-  said-with_own after n change (x ∷ xs) keeps changes gone = grind (arith, said-with_own after n change xs keeps changes, eq-eqb, eqb-true)
+  said-with-own after n change [] keeps changes gone = sym (gone refl)
+  said-with-own after n change (x ∷ xs) keeps changes gone = grind (arith, said-with-own after n change xs keeps changes, eq-eqb, eqb-true)
 
-  pub said-with_other : (m n : ℕ) (change : X → X) (xs : List X) → n ≢ m → ((x : X) → number_of x ≡ n → number_of (change x) ≡ n) →
+  pub said-with-other : (m n : ℕ) (change : X → X) (xs : List X) → n ≢ m → ((x : X) → number_of x ≡ n → number_of (change x) ≡ n) →
       read_by_number number_of say none m (change_by_number number_of n change xs) ≡ read_by_number number_of say none m xs
-  said-with_other m n change [] differs keeps = refl
-  said-with_other m n change (x ∷ xs) differs keeps = grind (arith, said-with_other m n change xs differs keeps, eqb-true, ne_eqb)
+  said-with-other m n change [] differs keeps = refl
+  said-with-other m n change (x ∷ xs) differs keeps = grind (arith, said-with-other m n change xs differs keeps, eqb-true, ne_eqb)
 
 pub thing-with : {X : Type 0} (number_of : X → ℕ) (n : ℕ) (change : X → X) (xs : List X) (x : X) → ((x : X) → number_of x ≡ n → number_of (change x) ≡ n) →
     find_by_number number_of n xs ≡ Some x → find_by_number number_of n (change_by_number number_of n change xs) ≡ Some (change x)
@@ -237,23 +237,23 @@ module _ {X : Type 0} (g number_of : X → ℕ) (n : ℕ) (change : X → X) whe
   ]
 
   -- where the change keeps the term, the sum stays
-  pub sum_by-with_same : (xs : List X) → ((x : X) → g (change x) ≡ g x) → sum_by g (change_by_number number_of n change xs) ≡ sum_by g xs
-  sum_by-with_same [] keeps = refl
-  sum_by-with_same (x ∷ xs) keeps = elim (cases_Bool (eqb (number_of x) n)) [
+  pub sum_by-with-same : (xs : List X) → ((x : X) → g (change x) ≡ g x) → sum_by g (change_by_number number_of n change xs) ≡ sum_by g xs
+  sum_by-with-same [] keeps = refl
+  sum_by-with-same (x ∷ xs) keeps = elim (cases_Bool (eqb (number_of x) n)) [
     | inl same ↦ rw same (omega (arith, keeps x, sum_by-cons g x xs, sum_by-cons g (change x) xs))
-    | inr other ↦ (let rest = sum_by-with_same xs keeps in rw other (omega (arith, rest, sum_by-cons g x xs, sum_by-cons g x (change_by_number number_of n change xs))))
+    | inr other ↦ (let rest = sum_by-with-same xs keeps in rw other (omega (arith, rest, sum_by-cons g x xs, sum_by-cons g x (change_by_number number_of n change xs))))
   ]
 
 -- one thing gone
 
 module _ {X Y : Type 0} (number_of : X → ℕ) (say : X → Y) (none : Y) where
-  pub said-without_own : (n : ℕ) (xs : List X) → AreRising number_of xs → read_by_number number_of say none n (remove_by_number number_of n xs) ≡ none
-  said-without_own n [] rising = refl
-  said-without_own n (x ∷ xs) rising = grind (arith, said-without_own n xs rising.1, eqb-true, said-lacks, has-above)
+  pub said-without-own : (n : ℕ) (xs : List X) → AreRising number_of xs → read_by_number number_of say none n (remove_by_number number_of n xs) ≡ none
+  said-without-own n [] rising = refl
+  said-without-own n (x ∷ xs) rising = grind (arith, said-without-own n xs rising.1, eqb-true, said-lacks, has-above)
 
-  pub said-without_other : (m n : ℕ) (xs : List X) → n ≢ m → read_by_number number_of say none m (remove_by_number number_of n xs) ≡ read_by_number number_of say none m xs
-  said-without_other m n [] differs = refl
-  said-without_other m n (x ∷ xs) differs = grind (arith, said-without_other m n xs differs, ne_eqb, eqb-true)
+  pub said-without-other : (m n : ℕ) (xs : List X) → n ≢ m → read_by_number number_of say none m (remove_by_number number_of n xs) ≡ read_by_number number_of say none m xs
+  said-without-other m n [] differs = refl
+  said-without-other m n (x ∷ xs) differs = grind (arith, said-without-other m n xs differs, ne_eqb, eqb-true)
 
 pub all-without : {X : Type 0} (P : X → Type 0) (number_of : X → ℕ) (n : ℕ) (xs : List X) → AllByRecursion P xs → AllByRecursion P (remove_by_number number_of n xs)
 all-without P number_of n [] all = tt
@@ -279,27 +279,27 @@ sum_by-without g number_of n x (y ∷ ys) is = elim (cases_Bool (eqb (number_of 
 -- one thing more
 
 module _ {X Y : Type 0} (number_of : X → ℕ) (say : X → Y) (none : Y) where
-  pub said-insert_own : (xs : List X) (i : ℕ) (new : X) → has_by_number number_of (number_of new) xs ≡ false → read_by_number number_of say none (number_of new) (insert xs i new) ≡ say new
-  said-insert_own [] zero new lacks = rw (eq-eqb (number_of new) (number_of new) refl) refl
-  said-insert_own [] (suc i) new lacks = rw (eq-eqb (number_of new) (number_of new) refl) refl
-  said-insert_own (x ∷ xs) zero new lacks = rw (eq-eqb (number_of new) (number_of new) refl) refl
-  said-insert_own (x ∷ xs) (suc i) new lacks =
-      let parts = or_parts (eqb (number_of x) (number_of new)) (has_by_number number_of (number_of new) xs) lacks in rw parts.0 (said-insert_own xs i new parts.1)
+  pub said-insert-own : (xs : List X) (i : ℕ) (new : X) → has_by_number number_of (number_of new) xs ≡ false → read_by_number number_of say none (number_of new) (insert xs i new) ≡ say new
+  said-insert-own [] zero new lacks = rw (eq-eqb (number_of new) (number_of new) refl) refl
+  said-insert-own [] (suc i) new lacks = rw (eq-eqb (number_of new) (number_of new) refl) refl
+  said-insert-own (x ∷ xs) zero new lacks = rw (eq-eqb (number_of new) (number_of new) refl) refl
+  said-insert-own (x ∷ xs) (suc i) new lacks =
+      let parts = or_parts (eqb (number_of x) (number_of new)) (has_by_number number_of (number_of new) xs) lacks in rw parts.0 (said-insert-own xs i new parts.1)
 
-  pub said-insert_other : (m : ℕ) (xs : List X) (i : ℕ) (new : X) → number_of new ≢ m → read_by_number number_of say none m (insert xs i new) ≡ read_by_number number_of say none m xs
-  said-insert_other m [] zero new differs = rw (ne_eqb (number_of new) m differs) refl
-  said-insert_other m [] (suc i) new differs = rw (ne_eqb (number_of new) m differs) refl
-  said-insert_other m (x ∷ xs) zero new differs = rw (ne_eqb (number_of new) m differs) refl
-  said-insert_other m (x ∷ xs) (suc i) new differs = ap (λ (rest : _). cond (eqb (number_of x) m) (say x) rest) (said-insert_other m xs i new differs)
+  pub said-insert-other : (m : ℕ) (xs : List X) (i : ℕ) (new : X) → number_of new ≢ m → read_by_number number_of say none m (insert xs i new) ≡ read_by_number number_of say none m xs
+  said-insert-other m [] zero new differs = rw (ne_eqb (number_of new) m differs) refl
+  said-insert-other m [] (suc i) new differs = rw (ne_eqb (number_of new) m differs) refl
+  said-insert-other m (x ∷ xs) zero new differs = rw (ne_eqb (number_of new) m differs) refl
+  said-insert-other m (x ∷ xs) (suc i) new differs = ap (λ (rest : _). cond (eqb (number_of x) m) (say x) rest) (said-insert-other m xs i new differs)
 
 -- at its place
 
 module _ {X Y : Type 0} (number_of : X → ℕ) (say : X → Y) (none : Y) where
-  pub said-inserted_own : (new : X) (xs : List X) → has_by_number number_of (number_of new) xs ≡ false → read_by_number number_of say none (number_of new) (inserted number_of new xs) ≡ say new
-  said-inserted_own new xs lacks = rw (← place-inserted number_of new xs) (said-insert_own number_of say none xs (count_below number_of (number_of new) xs) new lacks)
+  pub said-inserted-own : (new : X) (xs : List X) → has_by_number number_of (number_of new) xs ≡ false → read_by_number number_of say none (number_of new) (inserted number_of new xs) ≡ say new
+  said-inserted-own new xs lacks = rw (← place-inserted number_of new xs) (said-insert-own number_of say none xs (count_below number_of (number_of new) xs) new lacks)
 
-  pub said-inserted_other : (m : ℕ) (new : X) (xs : List X) → number_of new ≢ m → read_by_number number_of say none m (inserted number_of new xs) ≡ read_by_number number_of say none m xs
-  said-inserted_other m new xs differs = rw (← place-inserted number_of new xs) (said-insert_other number_of say none m xs (count_below number_of (number_of new) xs) new differs)
+  pub said-inserted-other : (m : ℕ) (new : X) (xs : List X) → number_of new ≢ m → read_by_number number_of say none m (inserted number_of new xs) ≡ read_by_number number_of say none m xs
+  said-inserted-other m new xs differs = rw (← place-inserted number_of new xs) (said-insert-other number_of say none m xs (count_below number_of (number_of new) xs) new differs)
 
 pub all-inserted : {X : Type 0} (P : X → Type 0) (number_of : X → ℕ) (new : X) (xs : List X) → P new → AllByRecursion P xs → AllByRecursion P (inserted number_of new xs)
 all-inserted P number_of new xs p all = rw (← place-inserted number_of new xs) (all-insert P xs (count_below number_of (number_of new) xs) new all p)
@@ -333,11 +333,11 @@ module _ {X : Type 0} (g h : X → ℕ) where
   sum_by-le [] all = omega arith
   sum_by-le (x ∷ xs) all = let first : g x ≤ h x = all.0 in omega (arith, first, sum_by-cons g x xs, sum_by-cons h x xs, sum_by-le xs all.1)
 
-  pub sum_by-le_with : (number_of : X → ℕ) (n : ℕ) (x : X) (xs : List X) → find_by_number number_of n xs ≡ Some x → AllByRecursion (λ x. g x ≤ h x) xs → sum_by g xs + (h x - g x) ≤ sum_by h xs
-  sum_by-le_with number_of n x [] is all = absurd cc
-  sum_by-le_with number_of n x (y ∷ ys) is all =
+  pub sum_by-le-with : (number_of : X → ℕ) (n : ℕ) (x : X) (xs : List X) → find_by_number number_of n xs ≡ Some x → AllByRecursion (λ x. g x ≤ h x) xs → sum_by g xs + (h x - g x) ≤ sum_by h xs
+  sum_by-le-with number_of n x [] is all = absurd cc
+  sum_by-le-with number_of n x (y ∷ ys) is all =
       let first : g y ≤ h y = all.0 in
       elim (cases_Bool (eqb (number_of y) n)) [
         | inl same ↦ grind (arith, sum_by-cons, sum_by-le)
-        | inr other ↦ omega (arith, first, sum_by-cons g y ys, sum_by-cons h y ys, sum_by-le_with number_of n x ys (rw other at is) all.1)
+        | inr other ↦ omega (arith, first, sum_by-cons g y ys, sum_by-cons h y ys, sum_by-le-with number_of n x ys (rw other at is) all.1)
       ]

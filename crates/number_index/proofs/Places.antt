@@ -34,14 +34,14 @@ module _ {X : Type 0} (number_of : X → ℕ) (n : ℕ) where
       partitioned-rising xs rising.1 i j d (omega (arith, before)) (omega (arith, within)) low
 
   -- the place before which all are below the number, and from which none is
-  pub point-is_count_below : (xs : List X) (i : ℕ) → IsPartitionPoint (λ x. ltb (number_of x) n ≡ true) (λ x. ltb (number_of x) n ≡ false) xs i → i ≤ length xs → i ≡ count_below number_of n xs
-  point-is_count_below [] i point within = omega arith
-  point-is_count_below (x ∷ xs) zero point within =
+  pub point-is-count_below : (xs : List X) (i : ℕ) → IsPartitionPoint (λ x. ltb (number_of x) n ≡ true) (λ x. ltb (number_of x) n ≡ false) xs i → i ≤ length xs → i ≡ count_below number_of n xs
+  point-is-count_below [] i point within = omega arith
+  point-is-count_below (x ∷ xs) zero point within =
       count_below-cases x xs (λ k. 0 ≡ k)
       (λ below. let above : n ≤ number_of x = ltb-false (number_of x) n (point.1 0 x (omega arith) (omega arith)) in absurd (omega arith))
       (λ _. refl)
-  point-is_count_below (x ∷ xs) (suc i) point within =
-      let rest : i ≡ count_below number_of n xs = point-is_count_below xs i (λ k d low high. point.0 (suc k) d (omega arith) (omega (arith, high)), λ k d low high. point.1 (suc k) d (omega (arith, low)) (omega (arith, high))) (omega (arith, within)) in
+  point-is-count_below (x ∷ xs) (suc i) point within =
+      let rest : i ≡ count_below number_of n xs = point-is-count_below xs i (λ k d low high. point.0 (suc k) d (omega arith) (omega (arith, high)), λ k d low high. point.1 (suc k) d (omega (arith, low)) (omega (arith, high))) (omega (arith, within)) in
       count_below-cases x xs (λ k. suc i ≡ k)
       (λ below. ap suc rest)
       (λ above. let below : number_of x < n = ltb-true (number_of x) n (point.0 0 x (omega arith) (omega arith)) in absurd (omega arith))
@@ -90,8 +90,8 @@ masked number mask count h (k, e) =
     rw (m, e) (and_mask number k)
 
 -- the lowest 32 bits
-pub low_bits : (place : ℕ) → bit_and place 4294967295 ≡ place % 2 ^ 32
-low_bits place = and_mask place 32
+pub low-bits : (place : ℕ) → bit_and place 4294967295 ≡ place % 2 ^ 32
+low-bits place = and_mask place 32
 
 -- what stands at the remainder is the guess
 module _ (places : List ℕ) (number : ℕ) where
@@ -99,6 +99,6 @@ module _ (places : List ℕ) (number : ℕ) where
   guessed found some h = grind (arith, get_or_default, mod-lt)
 
   -- what is put down for a number is its guess
-  pub found_again : (place : ℕ) → 0 < length places → place < 2 ^ 32 → guess_of (with_guess places number place) number ≡ place
-  found_again place some small =
+  pub found-again : (place : ℕ) → 0 < length places → place < 2 ^ 32 → guess_of (with_guess places number place) number ≡ place
+  found-again place some small =
       rw (length-set, mod-eq_of_lt small) (get_or-set_same places (number % length places) place 0 (mod-lt number some))

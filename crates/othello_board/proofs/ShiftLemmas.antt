@@ -45,13 +45,13 @@ abbrev pub all_below : ℕ → (ℕ → Bool) → Bool
 all_below zero test = true
 all_below (suc n) test = test n && all_below n test
 
-pub holds_below : (n : ℕ) (test : ℕ → Bool) → all_below n test ≡ true → (s : ℕ) → s < n → test s ≡ true
-holds_below zero test all s below = absurd (omega arith)
-holds_below (suc n) test all s below =
+pub holds-below : (n : ℕ) (test : ℕ → Bool) → all_below n test ≡ true → (s : ℕ) → s < n → test s ≡ true
+holds-below zero test all s below = absurd (omega arith)
+holds-below (suc n) test all s below =
     let parts = and_parts (test n) (all_below n test) all in
     elim (eqb_tells s n) [
       | inl same ↦ ap test same.1 ∙ parts.0
-      | inr other ↦ holds_below n test parts.1 s (omega (arith, other.1))
+      | inr other ↦ holds-below n test parts.1 s (omega (arith, other.1))
     ]
 
 -- a word shifted right and left, bit by bit
@@ -77,28 +77,28 @@ abbrev pub down_test : ℕ → ℕ → Option ℕ → Bool
 down_test k t None = ltb 63 (t + k)
 down_test k t (Some s) = eqb s (t + k)
 
-up_by : (x k t : ℕ) (from : Option ℕ) → t < 64 → up_test k t from ≡ true → bit_at (x * 2 ^ k % 2 ^ 64) t ≡ bit_there x from
-up_by x k t None below test =
+up-by : (x k t : ℕ) (from : Option ℕ) → t < 64 → up_test k t from ≡ true → bit_at (x * 2 ^ k % 2 ^ 64) t ≡ bit_there x from
+up-by x k t None below test =
     let fell : t < k = ltb-true t k test in
     omega (arith, bit_at-left x k t below, bit_at_cat_low x k 0 t fell, bit_at-zero t)
-up_by x k t (Some s) below test =
+up-by x k t (Some s) below test =
     let parts = and_parts (leb k t) (eqb s (t - k)) test in
     let high : k ≤ t = leb-true k t parts.0 in
     let from : s ≡ t - k = eqb-true s (t - k) parts.1 in
     bit_at-left x k t below ∙ bit_at_cat_high x k 0 t (pow_pos k) high ∙ ap (bit_at x) (sym from)
 
-down_by : (x k t : ℕ) (from : Option ℕ) → x < 2 ^ 64 → t < 64 → down_test k t from ≡ true → bit_at (x / 2 ^ k) t ≡ bit_there x from
-down_by x k t None fits below test =
+down-by : (x k t : ℕ) (from : Option ℕ) → x < 2 ^ 64 → t < 64 → down_test k t from ≡ true → bit_at (x / 2 ^ k) t ≡ bit_there x from
+down-by x k t None fits below test =
     let over : 63 < t + k = ltb-true 63 (t + k) test in
     omega (arith, bit_at-right x k t, bit_at_above x 64 (t + k) fits (omega arith))
-down_by x k t (Some s) fits below test = bit_at-right x k t ∙ ap (bit_at x) (sym (eqb-true s (t + k) test))
+down-by x k t (Some s) fits below test = bit_at-right x k t ∙ ap (bit_at x) (sym (eqb-true s (t + k) test))
 
 -- a shift does what a table of squares says, where it does so at each square
-pub slid_up : (x k : ℕ) (from : ℕ → Option ℕ) → all_below 64 (λ t. up_test k t (from t)) ≡ true → (t : ℕ) → t < 64 → bit_at (x * 2 ^ k % 2 ^ 64) t ≡ bit_there x (from t)
-slid_up x k from all t below = up_by x k t (from t) below (holds_below 64 (λ s. up_test k s (from s)) all t below)
+pub slid-up : (x k : ℕ) (from : ℕ → Option ℕ) → all_below 64 (λ t. up_test k t (from t)) ≡ true → (t : ℕ) → t < 64 → bit_at (x * 2 ^ k % 2 ^ 64) t ≡ bit_there x (from t)
+slid-up x k from all t below = up-by x k t (from t) below (holds-below 64 (λ s. up_test k s (from s)) all t below)
 
-pub slid_down : (x k : ℕ) (from : ℕ → Option ℕ) → all_below 64 (λ t. down_test k t (from t)) ≡ true → x < 2 ^ 64 → (t : ℕ) → t < 64 → bit_at (x / 2 ^ k) t ≡ bit_there x (from t)
-slid_down x k from all fits t below = down_by x k t (from t) fits below (holds_below 64 (λ s. down_test k s (from s)) all t below)
+pub slid-down : (x k : ℕ) (from : ℕ → Option ℕ) → all_below 64 (λ t. down_test k t (from t)) ≡ true → x < 2 ^ 64 → (t : ℕ) → t < 64 → bit_at (x / 2 ^ k) t ≡ bit_there x (from t)
+slid-down x k from all fits t below = down-by x k t (from t) fits below (holds-below 64 (λ s. down_test k s (from s)) all t below)
 
 -- Steps and the way back.
 
@@ -114,24 +114,24 @@ back_test back s (Some t) = ltb t 64 && is_square s (step back t)
 is_square-true : (s : ℕ) (o : Option ℕ) → is_square s o ≡ true → o ≡ Some s
 is_square-true s o h3 = grind arith
 
-back_by : (back : Direction) (s t : ℕ) (next : Option ℕ) → back_test back s next ≡ true → next ≡ Some t → (t < 64) × (step back t ≡ Some s)
-back_by back s t next h5 h6 = grind (arith, is_square-true)
+back-by : (back : Direction) (s t : ℕ) (next : Option ℕ) → back_test back s next ≡ true → next ≡ Some t → (t < 64) × (step back t ≡ Some s)
+back-by back s t next h5 h6 = grind (arith, is_square-true)
 
-back_everywhere : (d : Direction) → all_below 64 (λ s. back_test (opposite d) s (step d s)) ≡ true
-back_everywhere d = grind arith
+back-everywhere : (d : Direction) → all_below 64 (λ s. back_test (opposite d) s (step d s)) ≡ true
+back-everywhere d = grind arith
 
-pub step_back : (d : Direction) (s t : ℕ) → s < 64 → step d s ≡ Some t → (t < 64) × (step (opposite d) t ≡ Some s)
-step_back d s t below e =
-    back_by (opposite d) s t (step d s) (holds_below 64 (λ q. back_test (opposite d) q (step d q)) (back_everywhere d) s below) e
+pub step-back : (d : Direction) (s t : ℕ) → s < 64 → step d s ≡ Some t → (t < 64) × (step (opposite d) t ≡ Some s)
+step-back d s t below e =
+    back-by (opposite d) s t (step d s) (holds-below 64 (λ q. back_test (opposite d) q (step d q)) (back-everywhere d) s below) e
 
 -- the squares beside a square: none at the edge, else the next one and those beside it
-pub beside_edge : (n : ℕ) (d : Direction) (s : ℕ) → step d s ≡ None → squares_beside (suc n) d s ≡ []
+pub beside-edge : (n : ℕ) (d : Direction) (s : ℕ) → step d s ≡ None → squares_beside (suc n) d s ≡ []
 unfolding squares_beside
-beside_edge n d s edge = ap (λ next. unwrap_or (option_map (λ t. t ∷ squares_beside n d t) next) []) edge
+beside-edge n d s edge = ap (λ next. unwrap_or (option_map (λ t. t ∷ squares_beside n d t) next) []) edge
 
-pub beside_next : (n : ℕ) (d : Direction) (s t : ℕ) → step d s ≡ Some t → squares_beside (suc n) d s ≡ t ∷ squares_beside n d t
+pub beside-next : (n : ℕ) (d : Direction) (s t : ℕ) → step d s ≡ Some t → squares_beside (suc n) d s ≡ t ∷ squares_beside n d t
 unfolding squares_beside
-beside_next n d s t next = ap (λ found. unwrap_or (option_map (λ u. u ∷ squares_beside n d u) found) []) next
+beside-next n d s t next = ap (λ found. unwrap_or (option_map (λ u. u ∷ squares_beside n d u) found) []) next
 
 -- The table of rays holds what the rules say, and the squares of a ray come in order.
 
@@ -165,39 +165,39 @@ stride North = 8
 stride SouthWest = 7
 stride NorthEast = 7
 
-holds_in_table : (d : Direction) → all_below 64 (λ s. eqb (get_or (get_or RAYS s []) (number_of d) 0) (bits_of (ray d s))) ≡ true
+holds-in-table : (d : Direction) → all_below 64 (λ s. eqb (get_or (get_or RAYS s []) (number_of d) 0) (bits_of (ray d s))) ≡ true
 unfolding squares_beside
-holds_in_table North = refl
-holds_in_table NorthEast = refl
-holds_in_table East = refl
-holds_in_table SouthEast = refl
-holds_in_table South = refl
-holds_in_table SouthWest = refl
-holds_in_table West = refl
-holds_in_table NorthWest = refl
+holds-in-table North = refl
+holds-in-table NorthEast = refl
+holds-in-table East = refl
+holds-in-table SouthEast = refl
+holds-in-table South = refl
+holds-in-table SouthWest = refl
+holds-in-table West = refl
+holds-in-table NorthWest = refl
 
-pub table_read : (d : Direction) (s : ℕ) → s < 64 → get_or (get_or RAYS s []) (number_of d) 0 ≡ bits_of (ray d s)
-table_read d s below =
-    eqb-true (get_or (get_or RAYS s []) (number_of d) 0) (bits_of (ray d s)) (holds_below 64 (λ t. eqb (get_or (get_or RAYS t []) (number_of d) 0) (bits_of (ray d t))) (holds_in_table d) s below)
+pub table-read : (d : Direction) (s : ℕ) → s < 64 → get_or (get_or RAYS s []) (number_of d) 0 ≡ bits_of (ray d s)
+table-read d s below =
+    eqb-true (get_or (get_or RAYS s []) (number_of d) 0) (bits_of (ray d s)) (holds-below 64 (λ t. eqb (get_or (get_or RAYS t []) (number_of d) 0) (bits_of (ray d t))) (holds-in-table d) s below)
 
 -- the word of the table for a square and a direction
 abbrev pub ray_at : ℕ → Direction → ℕ
 ray_at s d = get_or (get_or RAYS s []) (number_of d) 0
 
-rays_fit : (d : Direction) → all_below 64 (λ s. ltb (bits_of (ray d s)) (2 ^ 64)) ≡ true
+rays-fit : (d : Direction) → all_below 64 (λ s. ltb (bits_of (ray d s)) (2 ^ 64)) ≡ true
 unfolding squares_beside
-rays_fit North = refl
-rays_fit NorthEast = refl
-rays_fit East = refl
-rays_fit SouthEast = refl
-rays_fit South = refl
-rays_fit SouthWest = refl
-rays_fit West = refl
-rays_fit NorthWest = refl
+rays-fit North = refl
+rays-fit NorthEast = refl
+rays-fit East = refl
+rays-fit SouthEast = refl
+rays-fit South = refl
+rays-fit SouthWest = refl
+rays-fit West = refl
+rays-fit NorthWest = refl
 
-pub ray_fits : (d : Direction) (s : ℕ) → s < 64 → ray_at s d < 2 ^ 64
-ray_fits d s below =
-    subst (λ n. n < 2 ^ 64) (sym (table_read d s below)) (ltb-true (bits_of (ray d s)) (2 ^ 64) (holds_below 64 (λ t. ltb (bits_of (ray d t)) (2 ^ 64)) (rays_fit d) s below))
+pub ray-fits : (d : Direction) (s : ℕ) → s < 64 → ray_at s d < 2 ^ 64
+ray-fits d s below =
+    subst (λ n. n < 2 ^ 64) (sym (table-read d s below)) (ltb-true (bits_of (ray d s)) (2 ^ 64) (holds-below 64 (λ t. ltb (bits_of (ray d t)) (2 ^ 64)) (rays-fit d) s below))
 
 -- one square comes before another where the numbers rise, or where they fall
 abbrev pub comes : Bool → ℕ → ℕ → Bool
@@ -209,19 +209,19 @@ abbrev pub ordered : Bool → List ℕ → Bool
 ordered up [] = true
 ordered up (s ∷ more) = ltb s 64 && (list_all (comes up s) more && ordered up more)
 
-rays_ordered : (d : Direction) → all_below 64 (λ s. ordered (rises d) (ray d s)) ≡ true
+rays-ordered : (d : Direction) → all_below 64 (λ s. ordered (rises d) (ray d s)) ≡ true
 unfolding squares_beside
-rays_ordered North = refl
-rays_ordered NorthEast = refl
-rays_ordered East = refl
-rays_ordered SouthEast = refl
-rays_ordered South = refl
-rays_ordered SouthWest = refl
-rays_ordered West = refl
-rays_ordered NorthWest = refl
+rays-ordered North = refl
+rays-ordered NorthEast = refl
+rays-ordered East = refl
+rays-ordered SouthEast = refl
+rays-ordered South = refl
+rays-ordered SouthWest = refl
+rays-ordered West = refl
+rays-ordered NorthWest = refl
 
-pub ray_ordered : (d : Direction) (s : ℕ) → s < 64 → ordered (rises d) (ray d s) ≡ true
-ray_ordered d s below = holds_below 64 (λ t. ordered (rises d) (ray d t)) (rays_ordered d) s below
+pub ray-ordered : (d : Direction) (s : ℕ) → s < 64 → ordered (rises d) (ray d s) ≡ true
+ray-ordered d s below = holds-below 64 (λ t. ordered (rises d) (ray d t)) (rays-ordered d) s below
 
 -- the squares of a list fall by this number at each step: each is more than those after it by that number, up to 6 times
 abbrev pub falls_to : ℕ → ℕ → ℕ → Bool
@@ -231,16 +231,16 @@ abbrev pub falls_by : ℕ → List ℕ → Bool
 falls_by k [] = true
 falls_by k (s ∷ more) = list_all (falls_to k s) more && falls_by k more
 
-rays_fall : (d : Direction) → all_below 64 (λ s. rises d || falls_by (stride d) (ray d s)) ≡ true
+rays-fall : (d : Direction) → all_below 64 (λ s. rises d || falls_by (stride d) (ray d s)) ≡ true
 unfolding squares_beside
-rays_fall North = refl
-rays_fall NorthEast = refl
-rays_fall East = refl
-rays_fall SouthEast = refl
-rays_fall South = refl
-rays_fall SouthWest = refl
-rays_fall West = refl
-rays_fall NorthWest = refl
+rays-fall North = refl
+rays-fall NorthEast = refl
+rays-fall East = refl
+rays-fall SouthEast = refl
+rays-fall South = refl
+rays-fall SouthWest = refl
+rays-fall West = refl
+rays-fall NorthWest = refl
 
-pub ray_falls : (d : Direction) (s : ℕ) → s < 64 → rises d || falls_by (stride d) (ray d s) ≡ true
-ray_falls d s below = holds_below 64 (λ t. rises d || falls_by (stride d) (ray d t)) (rays_fall d) s below
+pub ray-falls : (d : Direction) (s : ℕ) → s < 64 → rises d || falls_by (stride d) (ray d s) ≡ true
+ray-falls d s below = holds-below 64 (λ t. rises d || falls_by (stride d) (ray d t)) (rays-fall d) s below

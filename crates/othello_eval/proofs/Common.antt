@@ -18,8 +18,8 @@ pub use Rattle.std.proofs.lemmas.Nat.Bits.{bit_at-lt, bit_at-zero, bit_at_and, b
 pub use Rattle.std.specs.Int.{bit_at, int_max}
 pub use Rattle.std.specs.List.{flat_map, list_all, range_with_len}
 pub use Rattle.std.specs.Option.{option_or}
-pub use Rattle.othello_board.proofs.CellLemmas.{apart, bit_cases, cell_at-cells_of, cell_at-map, count_in, is_opp-cell_of, map-map, ones_by_bits}
-pub use Rattle.othello_board.proofs.ShiftLemmas.{all_below, holds_below}
+pub use Rattle.othello_board.proofs.CellLemmas.{apart, bit-cases, cell_at-cells_of, cell_at-map, count_in, is-opp-cell_of, map-map, ones-by-bits}
+pub use Rattle.othello_board.proofs.ShiftLemmas.{all_below, holds-below}
 pub use Rattle.othello_board.specs.Rows.{opening}
 pub use Rattle.othello_board.specs.Rules.{cell_at, directions, exchanged, exchanged_cell, flips, is_among, is_empty_cell, is_legal, is_nil, is_opp_cell}
 pub use Rattle.othello_board.specs.Rules.{is_own_cell, led_by, outflanked, played, ray, run}
@@ -28,7 +28,7 @@ pub use Rattle.othello_board.specs.Words.{bits_of, cell_of, cells, cells_of}
 pub use Rattle.othello_board.specs.declared.cells.Cell.{Cell}
 pub use Rattle.othello_board.specs.declared.cells.Cell.TheVariants.{Empty, Opp, Own}
 pub use Rattle.othello_board.specs.declared.directions.Direction.{Direction}
-pub use Rattle.othello_moves.proofs.AllowedLemmas.{contained_allowed, goes_down, legal_squares_fit, length-after, length-cells, passing}
+pub use Rattle.othello_moves.proofs.AllowedLemmas.{contained-allowed, goes_down, legal_squares-fit, length-after, length-cells, passing}
 pub use Rattle.othello_moves.proofs.BitLemmas.{length-in_order}
 pub use Rattle.othello_moves.specs.Choices.{after, choices, choices_without_move, legal_squares, plies}
 unfoldable pub use Rattle.othello_moves.specs.Choices.{in_order}

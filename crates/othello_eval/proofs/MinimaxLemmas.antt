@@ -1,17 +1,17 @@
 -- The greatest of the values of some choices, and the first choice that attains a value.
 use Rattle.othello_eval.proofs.Common.{◌≡◌, ℤ, Bool, true, false, List, [], ◌∷◌, ◌++◌, map, Option, Some, None, refl, ◌∙◌, ap, arith, cond, ℕ, zero, suc, ◌<◌, sym, length, neg_ℤ, ap₂, Contains, ⊎_elim, int_lt, subst, ◌-◌, pos, ◌-ℤ◌, w32, to_z, of_z, find, ◌≤ℤ◌, ◌<ℤ◌, IsSome, All, int_max, ints, clamps, to_z-of_z, false_from_ne_true, cond_both, cond-true, cond-false, cases_Bool, All-head, All-tail, All-nil, All-cons, All-weaker, All-contains_itself, find-append, option_or, greatest, greatest_or, int_equal, leaf_value, over_squares, value_after, minimax, choice_value, best_choice, Cell, exchanged, played, is_nil, Choice, Square, Pass, choices, choices_without_move, legal_squares, after, plies, length-after, eval, final_value, IsWithin}
 use Rattle.std.proofs.lemmas.Simd.{map-map}
-use Rattle.othello_eval.proofs.ValueLemmas.{eval_within, final_value_within}
+use Rattle.othello_eval.proofs.ValueLemmas.{eval-within, final_value-within}
 
 -- two equal numbers pass the test, and two that pass are equal
 pub int_equal-same : (x y : ℤ) → x ≡ y → int_equal x y ≡ true
 int_equal-same x y same = grind (arith, ints)
 
-pub same_from_int_equal : (x y : ℤ) → int_equal x y ≡ true → x ≡ y
-same_from_int_equal x y passed = grind (arith, ints)
+pub same-from-int_equal : (x y : ℤ) → int_equal x y ≡ true → x ≡ y
+same-from-int_equal x y passed = grind (arith, ints)
 
 pub int_equal-other : (x y : ℤ) → (x ≡ y → ⊥) → int_equal x y ≡ false
-int_equal-other x y ne = false_from_ne_true (int_equal x y) (λ e. ne (same_from_int_equal x y e))
+int_equal-other x y ne = false_from_ne_true (int_equal x y) (λ e. ne (same-from-int_equal x y e))
 
 pub int_equal-below : (x y : ℤ) → x <ℤ y → int_equal x y ≡ false
 int_equal-below x y below = grind (arith, ints)
@@ -51,14 +51,14 @@ greatest_or-lower v other [] c later = greatest-first (v c) (map v later)
 greatest_or-lower v other (b ∷ before) c later = greatest-lower v (v b) before c later
 
 -- the value of the first choice that attains x, or else what is found among the others
-pub found_below_max : (value x greatest : ℤ) {X : Type 0} (c : X) (more : Option X) (test : Bool) → int_equal value x ≡ test → (IsSome more → x ≤ℤ greatest) →
+pub found-below-max : (value x greatest : ℤ) {X : Type 0} (c : X) (more : Option X) (test : Bool) → int_equal value x ≡ test → (IsSome more → x ≤ℤ greatest) →
     IsSome (cond test (Some c) more) → x ≤ℤ int_max value greatest
-found_below_max value x greatest c more test h7 h8 h9 = grind (arith, same_from_int_equal, int_max-left, int_max-right)
+found-below-max value x greatest c more test h7 h8 h9 = grind (arith, same-from-int_equal, int_max-left, int_max-right)
 
 -- the greatest of x and these values is at least the greatest of these values
-pub found_below_greatest : {X : Type 0} (v : X → ℤ) (x : ℤ) (c : X) (cs : List X) → IsSome (find (λ d. int_equal (v d) x) (c ∷ cs)) → x ≤ℤ greatest (v c) (map v cs)
-found_below_greatest v x c [] found = grind (arith, found_below_max)
-found_below_greatest v x c (d ∷ cs) found = grind (arith, found_below_greatest v x d cs, found_below_max)
+pub found-below-greatest : {X : Type 0} (v : X → ℤ) (x : ℤ) (c : X) (cs : List X) → IsSome (find (λ d. int_equal (v d) x) (c ∷ cs)) → x ≤ℤ greatest (v c) (map v cs)
+found-below-greatest v x c [] found = grind (arith, found-below-max)
+found-below-greatest v x c (d ∷ cs) found = grind (arith, found-below-greatest v x d cs, found-below-max)
 
 -- none of these choices has a value above all of theirs
 pub find-none : {X : Type 0} (v : X → ℤ) (x : ℤ) (cs : List X) → All (λ c. v c <ℤ x) cs → find (λ c. int_equal (v c) x) cs ≡ None
@@ -90,13 +90,13 @@ unfolding best_choice
 best_choice-leaf board = refl
 
 -- a mover with legal squares chooses among them
-squares_there : (own : List ℕ) (other : List Choice) → is_nil own ≡ false → cond (is_nil own) other (map Square own) ≡ map Square own
-squares_there own other h3 = grind arith
+squares-there : (own : List ℕ) (other : List Choice) → is_nil own ≡ false → cond (is_nil own) other (map Square own) ≡ map Square own
+squares-there own other h3 = grind arith
 
 pub minimax-squares : (depth : ℕ) (board : List Cell) → is_nil (legal_squares board) ≡ false
     → minimax (suc depth) board ≡ over_squares (minimax depth) board (legal_squares board)
 unfolding minimax
-minimax-squares depth board some = grind (arith, squares_there, map-map)
+minimax-squares depth board some = grind (arith, squares-there, map-map)
 
 -- with one ply at least, a choice is worth what comes after it: a pass, a square, any choice
 module _ (depth : ℕ) (board : List Cell) where
@@ -104,22 +104,22 @@ module _ (depth : ℕ) (board : List Cell) where
   abbrev AreWorth : List Choice → Type 0
   AreWorth cs = map (λ c. neg_ℤ (value_after (minimax depth) board c)) cs ≡ map (choice_value (suc depth) board) cs
 
-  one_pass : (theirs : List ℕ) → theirs ≡ legal_squares (exchanged board) → AreWorth (cond (is_nil theirs) [] (Pass ∷ []))
-  one_pass [] same = refl
-  one_pass (s ∷ theirs) same =
+  one-pass : (theirs : List ℕ) → theirs ≡ legal_squares (exchanged board) → AreWorth (cond (is_nil theirs) [] (Pass ∷ []))
+  one-pass [] same = refl
+  one-pass (s ∷ theirs) same =
       ap (λ v. neg_ℤ v ∷ []) (sym (minimax-squares depth (exchanged board) (ap is_nil (sym same))) ∙ ap (λ d. minimax d (exchanged board)) (omega arith))
 
-  squares_same : (own : List ℕ) → AreWorth (map Square own)
-  squares_same [] = refl
-  squares_same (s ∷ own) = ap₂ (λ v more. neg_ℤ v ∷ more) (ap (λ d. minimax d (played board s)) (omega arith)) (squares_same own)
+  squares-same : (own : List ℕ) → AreWorth (map Square own)
+  squares-same [] = refl
+  squares-same (s ∷ own) = ap₂ (λ v more. neg_ℤ v ∷ more) (ap (λ d. minimax d (played board s)) (omega arith)) (squares-same own)
 
-  by_squares : (own : List ℕ) → AreWorth (cond (is_nil own) (choices_without_move board) (map Square own))
-  by_squares own = grind (arith, one_pass, squares_same)
+  by-squares : (own : List ℕ) → AreWorth (cond (is_nil own) (choices_without_move board) (map Square own))
+  by-squares own = grind (arith, one-pass, squares-same)
 
 pub minimax-deeper : (depth : ℕ) (board : List Cell) → 0 < depth → minimax depth board ≡ greatest_or (final_value board) (map (choice_value depth board) (choices board))
 unfolding minimax
 minimax-deeper zero board some = absurd (omega arith)
-minimax-deeper (suc depth) board some = ap (greatest_or (final_value board)) (by_squares depth board (legal_squares board))
+minimax-deeper (suc depth) board some = ap (greatest_or (final_value board)) (by-squares depth board (legal_squares board))
 
 pub best_choice-deeper : (depth : ℕ) (board : List Cell) → 0 < depth → best_choice depth board ≡ find (λ c. int_equal (choice_value depth board c) (minimax depth board)) (choices board)
 unfolding best_choice
@@ -151,51 +151,51 @@ minimax-more depth board c cs some e = grind (arith, minimax-deeper)
 pub within_more : (z : ℤ) → IsWithin 1184 z → IsWithin 128000 z
 within_more z h = (omega (arith, ints), omega (arith, ints))
 
-within_negated : (n : ℕ) (z : ℤ) → IsWithin n z → IsWithin n (neg_ℤ z)
-within_negated n z h = (omega (arith, ints), omega (arith, ints))
+within-negated : (n : ℕ) (z : ℤ) → IsWithin n z → IsWithin n (neg_ℤ z)
+within-negated n z h = (omega (arith, ints), omega (arith, ints))
 
 module _ {X : Type 0} (n : ℕ) (v : X → ℤ) (each : (c : X) → IsWithin n (v c)) where
-  greatest_within : (x : ℤ) (cs : List X) → IsWithin n x → IsWithin n (greatest x (map v cs))
-  greatest_within x [] h = h
-  greatest_within x (c ∷ cs) h = grind (arith, greatest_within (v c) cs (each c), cond_both)
+  greatest-within : (x : ℤ) (cs : List X) → IsWithin n x → IsWithin n (greatest x (map v cs))
+  greatest-within x [] h = h
+  greatest-within x (c ∷ cs) h = grind (arith, greatest-within (v c) cs (each c), cond_both)
 
-  greatest_or_within : (other : ℤ) (cs : List X) → IsWithin n other → IsWithin n (greatest_or other (map v cs))
-  greatest_or_within other [] h = h
-  greatest_or_within other (c ∷ cs) h = greatest_within (v c) cs (each c)
+  greatest_or-within : (other : ℤ) (cs : List X) → IsWithin n other → IsWithin n (greatest_or other (map v cs))
+  greatest_or-within other [] h = h
+  greatest_or-within other (c ∷ cs) h = greatest-within (v c) cs (each c)
 
-leaf_within : (board : List Cell) (cs : List Choice) → length board ≡ 64 → IsWithin 128000 (leaf_value board cs)
-leaf_within board cs h3 = grind (arith, final_value_within, within_more, eval_within)
+leaf-within : (board : List Cell) (cs : List Choice) → length board ≡ 64 → IsWithin 128000 (leaf_value board cs)
+leaf-within board cs h3 = grind (arith, final_value-within, within_more, eval-within)
 
 -- what comes after a choice lies within too
-after_within : (depth : ℕ) → ((b : List Cell) → length b ≡ 64 → IsWithin 128000 (minimax depth b)) → (board : List Cell) (c : Choice) → length board ≡ 64 →
+after-within : (depth : ℕ) → ((b : List Cell) → length b ≡ 64 → IsWithin 128000 (minimax depth b)) → (board : List Cell) (c : Choice) → length board ≡ 64 →
     IsWithin 128000 (value_after (minimax depth) board c)
-after_within depth within board (Square s) e = within (played board s) (length-after board (Square s) e)
-after_within depth within board Pass e =
+after-within depth within board (Square s) e = within (played board s) (length-after board (Square s) e)
+after-within depth within board Pass e =
     let b = exchanged board in
     let other : length b ≡ 64 = length-after board Pass e in
-    greatest_or_within 128000 (λ (s : ℕ). neg_ℤ (minimax depth (played b s)))
-    (λ s. within_negated 128000 (minimax depth (played b s)) (within (played b s) (length-after b (Square s) other)))
-    (final_value b) (legal_squares b) (final_value_within b other)
+    greatest_or-within 128000 (λ (s : ℕ). neg_ℤ (minimax depth (played b s)))
+    (λ s. within-negated 128000 (minimax depth (played b s)) (within (played b s) (length-after b (Square s) other)))
+    (final_value b) (legal_squares b) (final_value-within b other)
 
 -- every minimax value of a board of 64 cells lies within -128,000 and 128,000
-pub minimax_within : (depth : ℕ) (board : List Cell) → length board ≡ 64 → IsWithin 128000 (minimax depth board)
+pub minimax-within : (depth : ℕ) (board : List Cell) → length board ≡ 64 → IsWithin 128000 (minimax depth board)
 unfolding minimax
-minimax_within zero board e = leaf_within board (choices board) e
-minimax_within (suc depth) board e =
-    greatest_or_within 128000 (λ c. neg_ℤ (value_after (minimax depth) board c))
-    (λ c. within_negated 128000 (value_after (minimax depth) board c) (after_within depth (minimax_within depth) board c e))
-    (final_value board) (choices board) (final_value_within board e)
+minimax-within zero board e = leaf-within board (choices board) e
+minimax-within (suc depth) board e =
+    greatest_or-within 128000 (λ c. neg_ℤ (value_after (minimax depth) board c))
+    (λ c. within-negated 128000 (value_after (minimax depth) board c) (after-within depth (minimax-within depth) board c e))
+    (final_value board) (choices board) (final_value-within board e)
 
 -- The greatest value and the first choice that attains it, choice by choice.
 
-max_assoc : (x y z : ℤ) → int_max x (int_max y z) ≡ int_max (int_max x y) z
-max_assoc x y z = omega (arith, ints, clamps)
+max-assoc : (x y z : ℤ) → int_max x (int_max y z) ≡ int_max (int_max x y) z
+max-assoc x y z = omega (arith, ints, clamps)
 
-max_left : (x y : ℤ) → y ≤ℤ x → int_max x y ≡ x
-max_left x y l = omega (arith, ints, clamps)
+max-left : (x y : ℤ) → y ≤ℤ x → int_max x y ≡ x
+max-left x y l = omega (arith, ints, clamps)
 
-max_right : (x y : ℤ) → x <ℤ y → int_max x y ≡ y
-max_right x y l = omega (arith, ints, clamps)
+max-right : (x y : ℤ) → x <ℤ y → int_max x y ≡ y
+max-right x y l = omega (arith, ints, clamps)
 
 under : (x y : ℤ) → int_lt x y ≡ true → x <ℤ y
 under x y t = grind (arith, ints)
@@ -205,7 +205,7 @@ over x y f = grind (arith, ints)
 
 greatest-step : (x y : ℤ) (ys : List ℤ) → greatest x (y ∷ ys) ≡ greatest (int_max x y) ys
 greatest-step x y [] = refl
-greatest-step x y (z ∷ zs) = max_assoc x y (greatest z zs)
+greatest-step x y (z ∷ zs) = max-assoc x y (greatest z zs)
 
 -- from the best value so far and the choice that attains it, over the choices that are left: a later
 -- choice takes over only where it is worth more
@@ -217,8 +217,8 @@ pub running-value : (v : Choice → ℤ) (best : ℤ) (c : Choice) (es : List Ch
 running-value v best c [] = refl
 running-value v best c (e ∷ es) =
     cond_both (int_lt best (v e)) (running v (v e) e es) (running v best c es) (λ p. p.0 ≡ greatest best (map v (e ∷ es)))
-    (λ t. running-value v (v e) e es ∙ ap (λ x. greatest x (map v es)) (sym (max_right best (v e) (under best (v e) t))) ∙ sym (greatest-step best (v e) (map v es)))
-    (λ f. running-value v best c es ∙ ap (λ x. greatest x (map v es)) (sym (max_left best (v e) (over best (v e) f))) ∙ sym (greatest-step best (v e) (map v es)))
+    (λ t. running-value v (v e) e es ∙ ap (λ x. greatest x (map v es)) (sym (max-right best (v e) (under best (v e) t))) ∙ sym (greatest-step best (v e) (map v es)))
+    (λ f. running-value v best c es ∙ ap (λ x. greatest x (map v es)) (sym (max-left best (v e) (over best (v e) f))) ∙ sym (greatest-step best (v e) (map v es)))
 
 -- the first of these choices that is worth m
 abbrev pub first_worth : (Choice → ℤ) → ℤ → List Choice → Option Choice
@@ -228,9 +228,9 @@ skipped : (v : Choice → ℤ) (m : ℤ) (c : Choice) (cs : List Choice) → (v 
 skipped v m c cs ne = cond-false (int_equal (v c) m) (Some c) (first_worth v m cs) (int_equal-other (v c) m ne)
 
 -- a choice that is worth no more than the one before it changes nothing
-passed_over : (v : Choice → ℤ) (m : ℤ) (c e : Choice) (es : List Choice) → v e ≤ℤ v c → v c ≤ℤ m
+passed-over : (v : Choice → ℤ) (m : ℤ) (c e : Choice) (es : List Choice) → v e ≤ℤ v c → v c ≤ℤ m
     → first_worth v m (c ∷ e ∷ es) ≡ first_worth v m (c ∷ es)
-passed_over v m c e es l h = grind (arith, cond_both, cond-true, skipped, int_equal-same, cond-false)
+passed-over v m c e es l h = grind (arith, cond_both, cond-true, skipped, int_equal-same, cond-false)
 
 pub running-choice : (v : Choice → ℤ) (best : ℤ) (c : Choice) (es : List Choice) → v c ≡ best
     → first_worth v (greatest best (map v es)) (c ∷ es) ≡ Some (running v best c es).1
@@ -244,13 +244,13 @@ running-choice v best c (e ∷ es) at =
   where
     more : best <ℤ v e → first_worth v (greatest best (map v (e ∷ es))) (c ∷ e ∷ es) ≡ first_worth v (greatest (v e) (map v es)) (e ∷ es)
     more l =
-        ap (λ m. first_worth v m (c ∷ e ∷ es)) (greatest-step best (v e) (map v es) ∙ ap (λ x. greatest x (map v es)) (max_right best (v e) l))
+        ap (λ m. first_worth v m (c ∷ e ∷ es)) (greatest-step best (v e) (map v es) ∙ ap (λ x. greatest x (map v es)) (max-right best (v e) l))
         ∙ skipped v (greatest (v e) (map v es)) c (e ∷ es) (λ q. absurd (omega (arith, ints, greatest-first (v e) (map v es))))
 
     same : v e ≤ℤ best → first_worth v (greatest best (map v (e ∷ es))) (c ∷ e ∷ es) ≡ first_worth v (greatest best (map v es)) (c ∷ es)
     same l =
-        ap (λ m. first_worth v m (c ∷ e ∷ es)) (greatest-step best (v e) (map v es) ∙ ap (λ x. greatest x (map v es)) (max_left best (v e) l))
-        ∙ passed_over v (greatest best (map v es)) c e es (omega (arith, ints)) (omega (arith, ints, greatest-first best (map v es)))
+        ap (λ m. first_worth v m (c ∷ e ∷ es)) (greatest-step best (v e) (map v es) ∙ ap (λ x. greatest x (map v es)) (max-left best (v e) l))
+        ∙ passed-over v (greatest best (map v es)) c e es (omega (arith, ints)) (omega (arith, ints, greatest-first best (map v es)))
 
 -- ---- of a board
 
@@ -267,16 +267,16 @@ module _ (depth : ℕ) (board : List Cell) (c : Choice) (cs : List Choice) (some
       ∙ ap₂ (λ m l. first_worth v m l) (minimax-more depth board c cs some e) e
       ∙ running-choice v (v c) c cs refl
 
-greatest_all : (v : Choice → ℤ) (x : ℤ) (cs : List Choice) → All (λ c. v c ≤ℤ greatest x (map v cs)) cs
-greatest_all v x [] = All-nil (λ c. v c ≤ℤ x)
-greatest_all v x (c ∷ cs) =
+greatest-all : (v : Choice → ℤ) (x : ℤ) (cs : List Choice) → All (λ c. v c ≤ℤ greatest x (map v cs)) cs
+greatest-all v x [] = All-nil (λ c. v c ≤ℤ x)
+greatest-all v x (c ∷ cs) =
     let g = greatest (v c) (map v cs) in
     let P : Choice → Type 0 = λ e. v e ≤ℤ int_max x g in
-    All-cons P c cs (int_max-right x g (v c) (greatest-first (v c) (map v cs))) (All-weaker (λ e. v e ≤ℤ g) P (λ e h. int_max-right x g (v e) h) cs (greatest_all v (v c) cs))
+    All-cons P c cs (int_max-right x g (v c) (greatest-first (v c) (map v cs))) (All-weaker (λ e. v e ≤ℤ g) P (λ e h. int_max-right x g (v e) h) cs (greatest-all v (v c) cs))
 
 greatest_or-all : (v : Choice → ℤ) (other : ℤ) (cs : List Choice) → All (λ c. v c ≤ℤ greatest_or other (map v cs)) cs
 greatest_or-all v other [] = All-nil (λ c. v c ≤ℤ other)
-greatest_or-all v other (c ∷ cs) = All-cons (λ e. v e ≤ℤ greatest (v c) (map v cs)) c cs (greatest-first (v c) (map v cs)) (greatest_all v (v c) cs)
+greatest_or-all v other (c ∷ cs) = All-cons (λ e. v e ≤ℤ greatest (v c) (map v cs)) c cs (greatest-first (v c) (map v cs)) (greatest-all v (v c) cs)
 
 -- no choice is worth more than the minimax value
 pub choices_below : (depth : ℕ) (board : List Cell) → 0 < depth → All (λ c. choice_value depth board c ≤ℤ minimax depth board) (choices board)
@@ -285,17 +285,17 @@ choices_below depth board some =
     subst (λ x. All (λ c. v c ≤ℤ x) (choices board)) (sym (minimax-deeper depth board some)) (greatest_or-all v (final_value board) (choices board))
 
 -- where no choice is worth more than s, nor is the minimax value
-minimax_at_most : (depth : ℕ) (board : List Cell) (s : ℤ) (c : Choice) (cs : List Choice) → 0 < depth → choices board ≡ c ∷ cs
+minimax-at_most : (depth : ℕ) (board : List Cell) (s : ℤ) (c : Choice) (cs : List Choice) → 0 < depth → choices board ≡ c ∷ cs
     → All (λ c. choice_value depth board c ≤ℤ s) (choices board) → minimax depth board ≤ℤ s
-minimax_at_most depth board s c cs some e all =
+minimax-at_most depth board s c cs some e all =
     let v = choice_value depth board in
     let each = subst (All (λ c. v c ≤ℤ s)) e all in
     subst (λ x. x ≤ℤ s) (sym (minimax-more depth board c cs some e))
     (greatest-upper v (v c) cs s (All-head (λ c. v c ≤ℤ s) c cs each) (All-tail (λ c. v c ≤ℤ s) c cs each))
 
-find_passes : (p : Choice → Bool) (cs : List Choice) (c : Choice) → find p cs ≡ Some c → (p c ≡ true) × Contains cs c
-find_passes p [] c e = cc
-find_passes p (d ∷ ds) c e = ⊎_elim here (later (find_passes p ds c)) (cases_Bool (p d))
+find-passes : (p : Choice → Bool) (cs : List Choice) (c : Choice) → find p cs ≡ Some c → (p c ≡ true) × Contains cs c
+find-passes p [] c e = cc
+find-passes p (d ∷ ds) c e = ⊎_elim here (later (find-passes p ds c)) (cases_Bool (p d))
   where
     here : p d ≡ true → (p c ≡ true) × Contains (d ∷ ds) c
     here t =
@@ -309,42 +309,42 @@ find_passes p (d ∷ ds) c e = ⊎_elim here (later (find_passes p ds c)) (cases
         (h.0, (suc h.1.0, omega (arith, h.1.1), h.1.2))
 
 -- the first choice in order that attains the minimax value is the best choice
-pub best_choice_first : (depth : ℕ) (board : List Cell) (done : List Choice) (c : Choice) (rest : List Choice) → 0 < depth
+pub best_choice-first : (depth : ℕ) (board : List Cell) (done : List Choice) (c : Choice) (rest : List Choice) → 0 < depth
     → choices board ≡ done ++ c ∷ rest
     → choice_value depth board c ≡ minimax depth board
     → All (λ e. choice_value depth board e <ℤ minimax depth board) done
     → best_choice depth board ≡ Some c
-best_choice_first depth board done c rest some e at all =
+best_choice-first depth board done c rest some e at all =
     let v = choice_value depth board in
     best_choice-deeper depth board some ∙ ap (first_worth v (minimax depth board)) e ∙ find-new v (minimax depth board) done c rest all at
 
 -- the best choice is a choice, and attains the minimax value
-pub best_choice_attains : (depth : ℕ) (board : List Cell) (c : Choice) → best_choice depth board ≡ Some c
+pub best_choice-attains : (depth : ℕ) (board : List Cell) (c : Choice) → best_choice depth board ≡ Some c
     → (choice_value depth board c ≡ minimax depth board) × Contains (choices board) c
-best_choice_attains zero board c e = absurd (let none : None ≡ Some c = sym (best_choice-leaf board) ∙ e in cc none)
-best_choice_attains (suc depth) board c e =
+best_choice-attains zero board c e = absurd (let none : None ≡ Some c = sym (best_choice-leaf board) ∙ e in cc none)
+best_choice-attains (suc depth) board c e =
     let v = choice_value (suc depth) board in
     let m = minimax (suc depth) board in
-    let h = find_passes (λ d. int_equal (v d) m) (choices board) c (sym (best_choice-deeper (suc depth) board (omega arith)) ∙ e) in
-    (same_from_int_equal (v c) m h.0, h.1)
+    let h = find-passes (λ d. int_equal (v d) m) (choices board) c (sym (best_choice-deeper (suc depth) board (omega arith)) ∙ e) in
+    (same-from-int_equal (v c) m h.0, h.1)
 
 -- ---- where there is a choice
 
-some_choice : (cs : List Choice) → (cs ≡ [] → ⊥) → (c : Choice) × (more : List Choice) × (cs ≡ c ∷ more)
-some_choice [] ne = absurd (ne refl)
-some_choice (c ∷ more) ne = (c, more, refl)
+some-choice : (cs : List Choice) → (cs ≡ [] → ⊥) → (c : Choice) × (more : List Choice) × (cs ≡ c ∷ more)
+some-choice [] ne = absurd (ne refl)
+some-choice (c ∷ more) ne = (c, more, refl)
 
 pub best_choice_there : (depth : ℕ) (board : List Cell) → 0 < depth → (choices board ≡ [] → ⊥) → IsSome (best_choice depth board)
 best_choice_there depth board some ne =
-    let h = some_choice (choices board) ne in
+    let h = some-choice (choices board) ne in
     subst IsSome (sym (best_choice-running depth board h.0 h.1 some h.2)) refl
 
 pub minimax_least : (depth : ℕ) (board : List Cell) (s : ℤ) → 0 < depth → (choices board ≡ [] → ⊥)
     → All (λ c. choice_value depth board c ≤ℤ s) (choices board) → minimax depth board ≤ℤ s
-minimax_least depth board s some ne all = let h = some_choice (choices board) ne in minimax_at_most depth board s h.0 h.1 some h.2 all
+minimax_least depth board s some ne all = let h = some-choice (choices board) ne in minimax-at_most depth board s h.0 h.1 some h.2 all
 
-pub minimax_leaf_there : (board : List Cell) → (choices board ≡ [] → ⊥) → minimax 0 board ≡ eval board
-minimax_leaf_there board ne = let h = some_choice (choices board) ne in minimax-goes_on board h.0 h.1 h.2
+pub minimax-leaf-there : (board : List Cell) → (choices board ≡ [] → ⊥) → minimax 0 board ≡ eval board
+minimax-leaf-there board ne = let h = some-choice (choices board) ne in minimax-goes_on board h.0 h.1 h.2
 
 -- Plain recursion over the choices that are left.
 
@@ -356,41 +356,41 @@ negated r h = omega (arith, ints)
 
 -- what the code computes of a choice is what it is worth
 module _ (depth : ℕ) (board : List Cell) where
-  pub child_value : {child : List Cell} {p : ℕ} {r : ℤ} (c : Choice) → child ≡ after board c → p ≡ plies c → r ≡ minimax (depth - p) child → IsWithin 128000 r →
+  pub child-value : {child : List Cell} {p : ℕ} {r : ℤ} (c : Choice) → child ≡ after board c → p ≡ plies c → r ≡ minimax (depth - p) child → IsWithin 128000 r →
       to_z w32 (of_z w32 (pos 0 -ℤ to_z w32 (of_z w32 r))) ≡ choice_value depth board c
-  child_value {child} {r = r} c e same f h = negated r h ∙ ap neg_ℤ (f ∙ ap (λ q. minimax (depth - q) child) same ∙ ap (minimax (depth - plies c)) e)
+  child-value {child} {r = r} c e same f h = negated r h ∙ ap neg_ℤ (f ∙ ap (λ q. minimax (depth - q) child) same ∙ ap (minimax (depth - plies c)) e)
 
-  pub leaf_value_at : (c : Choice) (cs : List Choice) → choices board ≡ c ∷ cs → depth ≡ 0 → eval board ≡ minimax depth board
-  leaf_value_at c cs e zero_depth = sym (minimax-goes_on board c cs e) ∙ ap (λ k. minimax k board) (sym zero_depth)
+  pub leaf-value-at : (c : Choice) (cs : List Choice) → choices board ≡ c ∷ cs → depth ≡ 0 → eval board ≡ minimax depth board
+  leaf-value-at c cs e zero_depth = sym (minimax-goes_on board c cs e) ∙ ap (λ k. minimax k board) (sym zero_depth)
 
-  pub leaf_choice_at : depth ≡ 0 → None ≡ best_choice depth board
-  leaf_choice_at zero_depth = sym (best_choice-leaf board) ∙ ap (λ k. best_choice k board) (sym zero_depth)
+  pub leaf-choice-at : depth ≡ 0 → None ≡ best_choice depth board
+  leaf-choice-at zero_depth = sym (best_choice-leaf board) ∙ ap (λ k. best_choice k board) (sym zero_depth)
 
 -- after the first choice
 module _ (depth : ℕ) (board : List Cell) (w : ℤ) (c : Choice) (cs : List Choice) (e : choices board ≡ c ∷ cs) (some : 0 < depth) (is : w ≡ choice_value depth board c) where
-  pub start_value : (running (choice_value depth board) w c cs).0 ≡ minimax depth board
-  start_value =
+  pub start-value : (running (choice_value depth board) w c cs).0 ≡ minimax depth board
+  start-value =
       ap (λ x. (running (choice_value depth board) x c cs).0) is ∙ sym (minimax-running depth board c cs some e)
 
-  pub start_choice : Some (running (choice_value depth board) w c cs).1 ≡ best_choice depth board
-  start_choice = grind (arith, best_choice-running)
+  pub start-choice : Some (running (choice_value depth board) w c cs).1 ≡ best_choice depth board
+  start-choice = grind (arith, best_choice-running)
 
 -- one choice more
 module _ (v : Choice → ℤ) (best : ℤ) (c : Choice) {w : ℤ} {e : Choice} {left es : List Choice} (is : left ≡ e ∷ es) (worth : w ≡ v e) where
-  pub running_more : int_lt best w ≡ true → running v w e es ≡ running v best c left
-  running_more l = grind (arith, cond-true)
+  pub running-more : int_lt best w ≡ true → running v w e es ≡ running v best c left
+  running-more l = grind (arith, cond-true)
 
-  pub running_same : int_lt best w ≡ false → running v best c es ≡ running v best c left
-  running_same l = grind (arith, cond-false)
+  pub running-same : int_lt best w ≡ false → running v best c es ≡ running v best c left
+  running-same l = grind (arith, cond-false)
 
-pub running_all : (v : Choice → ℤ) (best : ℤ) (c : Choice) (left : List Choice) → left ≡ [] → (running v best c left) ≡ (best, c)
-running_all v best c left e = ap (running v best c) e
+pub running-all : (v : Choice → ℤ) (best : ℤ) (c : Choice) (left : List Choice) → left ≡ [] → (running v best c left) ≡ (best, c)
+running-all v best c left e = ap (running v best c) e
 
 -- what is left are choices
-pub left_chosen : (all left : List Choice) (c : Choice) → all ≡ c ∷ left → All (Contains all) left
-left_chosen all left c e = All-tail (Contains all) c left (subst (All (Contains all)) e (All-contains_itself all))
+pub left-chosen : (all left : List Choice) (c : Choice) → all ≡ c ∷ left → All (Contains all) left
+left-chosen all left c e = All-tail (Contains all) c left (subst (All (Contains all)) e (All-contains_itself all))
 
-pub next_chosen : (all : List Choice) {old new : List Choice} {c : Choice} → All (Contains all) old → old ≡ c ∷ new → Contains all c × All (Contains all) new
-next_chosen all {old} {new} {c} h e =
+pub next-chosen : (all : List Choice) {old new : List Choice} {c : Choice} → All (Contains all) old → old ≡ c ∷ new → Contains all c × All (Contains all) new
+next-chosen all {old} {new} {c} h e =
     let each = subst (All (Contains all)) e h in
     (All-head (Contains all) c new each, All-tail (Contains all) c new each)

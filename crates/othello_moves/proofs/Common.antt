@@ -17,9 +17,9 @@ pub use Rattle.std.specs.Int.{bit_at, bit_not, trailing_zeros}
 pub use Rattle.std.specs.List.{flat_map, list_all, range_with_len}
 pub use lib.Count.{ones-le, ones_step}
 pub use mir.Val.{bool_byte}
-pub use Rattle.othello_board.proofs.CellLemmas.{apart, bit_at-bits_of, bit_cases, cell_at-cells_of, exchanged-cells_of, length-cells_of}
-pub use Rattle.othello_board.proofs.ShiftLemmas.{all_below, beside_edge, beside_next, bit_there, holds_below, opposite, slid_down, slid_from, slid_up}
-pub use Rattle.othello_board.proofs.ShiftLemmas.{step_back}
+pub use Rattle.othello_board.proofs.CellLemmas.{apart, bit_at-bits_of, bit-cases, cell_at-cells_of, exchanged-cells_of, length-cells_of}
+pub use Rattle.othello_board.proofs.ShiftLemmas.{all_below, beside-edge, beside-next, bit_there, holds-below, opposite, slid-down, slid_from, slid-up}
+pub use Rattle.othello_board.proofs.ShiftLemmas.{step-back}
 pub use Rattle.othello_board.specs.Rules.{cell_at, directions, exchanged, flips, is_among, is_empty_cell, is_legal, is_nil, is_opp_cell, is_own_cell, led_by}
 pub use Rattle.othello_board.specs.Rules.{outflanked, run, step}
 unfoldable pub use Rattle.othello_board.specs.Rules.{squares, squares_beside}

@@ -5,14 +5,14 @@ use Rattle.othello_board.specs.declared.boards.Board.{Board}
 use Rattle.othello_board.specs.Rules.{cell_at, is_own_cell, is_opp_cell}
 use Rattle.othello_board.specs.Words.{cells, cells_of}
 use Rattle.othello_moves.specs.declared.choices.Choice.{Choice}
-use Rattle.othello_moves.proofs.LeadLemmas.{word_of_passing, own_bit, opp_bit}
+use Rattle.othello_moves.proofs.LeadLemmas.{word-of-passing, own-bit, opp-bit}
 use Rattle.page_engine.specs.leaf_search.othello_eval.Values.{IsWithin}
 use Rattle.page_engine.specs.Codes.{choice_code, with_code, own_bits, opp_bits}
 
 -- the choice that has a code is one of those that were looked at
-pub coded_contained : (code : ℕ) (cs : List Choice) (c : Choice) → with_code code cs ≡ Some c → Contains cs c
-coded_contained code [] c e = cc
-coded_contained code (d ∷ ds) c e = ⊎_elim here (later (coded_contained code ds c)) (cases_Bool (eqb (choice_code d) code))
+pub coded-contained : (code : ℕ) (cs : List Choice) (c : Choice) → with_code code cs ≡ Some c → Contains cs c
+coded-contained code [] c e = cc
+coded-contained code (d ∷ ds) c e = ⊎_elim here (later (coded-contained code ds c)) (cases_Bool (eqb (choice_code d) code))
   where
     here : eqb (choice_code d) code ≡ true → Contains (d ∷ ds) c
     here t =
@@ -28,17 +28,17 @@ coded_contained code (d ∷ ds) c e = ⊎_elim here (later (coded_contained code
 -- the words of a board are those of its cells
 pub own_word-cells : (b : Board) → b.own < 2 ^ 64 → b.own ≡ own_bits (cells b)
 own_word-cells b fits =
-    word_of_passing b.own (λ s. is_own_cell (cell_at (cells b) s)) fits (own_bit b.own b.opp)
+    word-of-passing b.own (λ s. is_own_cell (cell_at (cells b) s)) fits (own-bit b.own b.opp)
 
 pub opp_word-cells : (b : Board) → b.opp < 2 ^ 64 → bit_and b.own b.opp ≡ 0 → b.opp ≡ opp_bits (cells b)
 opp_word-cells b fits disjoint =
-    word_of_passing b.opp (λ s. is_opp_cell (cell_at (cells b) s)) fits (λ t below. opp_bit b.own b.opp t disjoint below)
+    word-of-passing b.opp (λ s. is_opp_cell (cell_at (cells b) s)) fits (λ t below. opp-bit b.own b.opp t disjoint below)
 
 -- the cells of a board that was made of two words
-pub cells_here : (b : Board) (own opp : ℕ) → (b.own ≡ own) × (b.opp ≡ opp) → cells b ≡ cells_of own opp
-cells_here b own opp same = rw (same.0, same.1) refl
+pub cells-here : (b : Board) (own opp : ℕ) → (b.own ≡ own) × (b.opp ≡ opp) → cells b ≡ cells_of own opp
+cells-here b own opp same = rw (same.0, same.1) refl
 
 -- nothing isn't something
-pub nothing_found : (found : Option Choice) (r : ℤ) → None ≡ found → IsSome found → IsWithin 128000 r
-nothing_found None r none some = cc
-nothing_found (Some x) r none some = cc
+pub nothing-found : (found : Option Choice) (r : ℤ) → None ≡ found → IsSome found → IsWithin 128000 r
+nothing-found None r none some = cc
+nothing-found (Some x) r none some = cc

@@ -1,7 +1,7 @@
 -- Each frame that a worker's step makes ready is named by what the step did.
 use Rattle.pool_rules.proofs.Common.{◌≡◌, ℕ, ◌==◌, Bool, true, false, List, [], ◌∷◌, ◌++◌, not, Option, Some, None, Result, Err, IfOk, inl, inr, if◌then◌else◌, refl, sym, subst, replicate, arith, FrameId, Running, frame_at, root_of, IsTree, Act, InletAct, Continuation, Grow, Spawn, Go, Wait, Compute, Return, Refusal, NotSpent, StepOf, Take, Steal, Spend, Functions, Tree, Tenant, words_in, tenant_of, Outcome, unless, at_frame, lone_step, take_tests, steal_tests, taken_by, act_by_sight, advance_tests, advanced, then_done, answer_tests, answered, inlet_tests, inlet_under, taken_in, staying, finish_tests, finished, spent, is_spendable, Leaf, LeafAnswer, Action, Get, Run, Bring, TakeIn, Finish, Holding, Nothing, Next, Computing as IsComputed, GivingUp, readied, task_at, frame_of_action, step_of, offered, frames_of_tenant, IsNoneForgotten, PushesWhatItReadied}
 use Rattle.frame_tree.specs.declared.names.State.TheVariants.{Computing}
-use Rattle.pool_rules.proofs.ReadyFrames.{TreeFrame, IsReadyIn, ready-with_state, ready-with_other, ready-with_frame_words, ready-without, ready-aborted, ready-without_job, ready-push}
+use Rattle.pool_rules.proofs.ReadyFrames.{TreeFrame, IsReadyIn, ready-with_state, ready-with-other, ready-with_frame_words, ready-without, ready-aborted, ready-without_job, ready-push}
 
 -- no ready frame is forgotten by what a worker's step did
 abbrev Names : Tree → ℕ → ℕ → Outcome Leaf → Type 0
@@ -29,7 +29,7 @@ module _ {X : Type 0} (P : X → Type 0) where
 
 -- Take and Steal
 taken-names : (before : Tenant) (tenant worker : ℕ) (frame : TreeFrame) → Names before.frames tenant worker (taken_by before worker frame)
-taken-names before tenant worker frame serial home ready = inl (ready-with_other frame.serial (Running worker) before.frames serial home refl ready)
+taken-names before tenant worker frame serial home ready = inl (ready-with-other frame.serial (Running worker) before.frames serial home refl ready)
 
 module _ (functions : Functions Leaf LeafAnswer) where
   -- what comes after the stores
@@ -40,10 +40,10 @@ module _ (functions : Functions Leaf LeafAnswer) where
   then-names first before worker name path words (Spawn given size) none serial home ready =
       elim (ready-push before.frames _ serial home ready) [ inl was ↦ inl (none serial home was) | inr now ↦ inr (let own = now.0 in let here = now.1 in cc) ]
   then-names first before worker name path words Go none serial home ready = inl (none serial home ready)
-  then-names first before worker name path words Wait none serial home ready = grind (arith, ready-with_other)
+  then-names first before worker name path words Wait none serial home ready = grind (arith, ready-with-other)
   then-names first before worker name path words Compute none serial home ready =
-      inl (none serial home (ready-with_other name.serial (Computing worker) before.frames serial home refl ready))
-  then-names first before worker name path words Return none serial home ready = grind (arith, ready-with_other)
+      inl (none serial home (ready-with-other name.serial (Computing worker) before.frames serial home refl ready))
+  then-names first before worker name path words Return none serial home ready = grind (arith, ready-with-other)
 
   -- Advance
   advanced-names : (before : Tenant) (worker : ℕ) (name : FrameId) (frame : TreeFrame) (act : Act) → Names before.frames name.tenant worker (advanced functions before worker name frame act)
@@ -51,7 +51,7 @@ module _ (functions : Functions Leaf LeafAnswer) where
 
   -- Answer
   answered-names : (before : Tenant) (tenant worker : ℕ) (frame : TreeFrame) (answer : LeafAnswer) → Names before.frames tenant worker (answered functions before worker frame answer)
-  answered-names before tenant worker frame answer serial home ready = grind (arith, ready-with_frame_words, ready-with_other)
+  answered-names before tenant worker frame answer serial home ready = grind (arith, ready-with_frame_words, ready-with-other)
 
 -- the frames that stay at an inlet
 staying-names : (before : Tree) (child parent : ℕ) (abort : Bool) → IsTree before → NoneMore before (staying before child parent abort)

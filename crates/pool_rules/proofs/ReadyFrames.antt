@@ -1,5 +1,5 @@
 -- Which frames are ready after a change of a tenant's frames.
-use Rattle.pool_rules.proofs.Common.{true, ◌≡◌, ℕ, eqb, Bool, false, List, [], ◌∷◌, ◌++◌, Option, Some, None, ◌⊎◌, inl, inr, refl, arith, cases_Bool, eq-eqb, eqb-true, State, Ready, Frame, frame_at, IsReadyAt, IsTree, AllBelow, with_state, is_ready, aborted, frames_without, new_frame, if_kept, frame_at-left, frame_at-right, frame_at-push, frame_at-without, frame_at_other-without, frame_at-aborted, Tree, with_frame_words, without_job, does_wait}
+use Rattle.pool_rules.proofs.Common.{true, ◌≡◌, ℕ, eqb, Bool, false, List, [], ◌∷◌, ◌++◌, Option, Some, None, ◌⊎◌, inl, inr, refl, arith, cases_Bool, eq-eqb, eqb-true, State, Ready, Frame, frame_at, IsReadyAt, IsTree, AllBelow, with_state, is_ready, aborted, frames_without, new_frame, if_kept, frame_at-left, frame_at-right, frame_at-push, frame_at-without, frame_at-other-without, frame_at-aborted, Tree, with_frame_words, without_job, does_wait}
 
 abbrev pub TreeFrame : Type 0
 TreeFrame = Frame (List ℕ)
@@ -14,8 +14,8 @@ ready-with_state n state [] s home ready = absurd ready
 ready-with_state n state (x ∷ xs) s home ready = grind (arith, ready-with_state n state xs s home, eqb-true)
 
 -- a state that isn't Ready makes none ready
-pub ready-with_other : (n : ℕ) (state : State) (xs : Tree) (s home : ℕ) → is_ready state ≡ false → IsReadyIn (with_state n state xs) s home → IsReadyIn xs s home
-ready-with_other n state xs s home never ready = grind (arith, ready-with_state)
+pub ready-with-other : (n : ℕ) (state : State) (xs : Tree) (s home : ℕ) → is_ready state ≡ false → IsReadyIn (with_state n state xs) s home → IsReadyIn xs s home
+ready-with-other n state xs s home never ready = grind (arith, ready-with_state)
 
 -- other words make none ready
 pub ready-with_frame_words : (n : ℕ) (words : List ℕ) (xs : Tree) (s home : ℕ) → IsReadyIn (with_frame_words n words xs) s home → IsReadyIn xs s home
@@ -24,7 +24,7 @@ ready-with_frame_words n words (x ∷ xs) s home ready = grind (arith, ready-wit
 
 -- nor does the removal of a frame
 pub ready-without : (p : ℕ) (xs : Tree) (s home : ℕ) → IsReadyIn (frames_without p xs) s home → IsReadyIn xs s home
-ready-without p xs s home ready = grind (arith, eqb-true, frame_at-without, frame_at_other-without, eq-eqb)
+ready-without p xs s home ready = grind (arith, eqb-true, frame_at-without, frame_at-other-without, eq-eqb)
 
 -- what is kept of a ready frame was ready
 kept-ready : (keep : TreeFrame → Bool) (found : Option TreeFrame) (home : ℕ) → IsReadyAt (if_kept keep found) home → IsReadyAt found home

@@ -12,7 +12,7 @@ pub use Rattle.std.proofs.lemmas.Nat.Bits.{bit_at-lt, bit_at-zero, bit_at_and, b
 pub use Rattle.std.specs.Int.{bit_at}
 pub use Rattle.std.specs.List.{range_with_len}
 pub use Rattle.std.specs.Option.{option_map}
-pub use Rattle.othello_board.proofs.CellLemmas.{apart, cell_at-cells_of, length-cells_of, map-map, map-range_same}
+pub use Rattle.othello_board.proofs.CellLemmas.{apart, cell_at-cells_of, length-cells_of, map-map, map-range-same}
 pub use Rattle.othello_board.specs.Rules.{cell_at}
 unfoldable pub use Rattle.othello_board.specs.Rules.{squares}
 pub use Rattle.othello_board.specs.Words.{cell_of, cells}

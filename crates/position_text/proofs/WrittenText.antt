@@ -22,12 +22,12 @@ length-front p = length-map (cells p.board) (λ cell. byte_of (mark_of_cell p.si
 get_or-front : (p : Position) (s : ℕ) → s < 64 → get_or (front p) s 0 ≡ byte_at p s
 get_or-front p s below = grind (arith, get_or-map, length-cells_of)
 
-pub written_is : (p : Position) → IsWritten (written p) p
-written_is p = grind (arith, length-front, length-append, get_or_append_left, get_or-front, get_or-append_right)
+pub written-is : (p : Position) → IsWritten (written p) p
+written-is p = grind (arith, length-front, length-append, get_or_append_left, get_or-front, get_or-append_right)
 
 -- only one text is written like a position
-pub written_same : (one other : List ℕ) (p : Position) → IsWritten one p → IsWritten other p → one ≡ other
-written_same one other p this that =
+pub written-same : (one other : List ℕ) (p : Position) → IsWritten one p → IsWritten other p → one ≡ other
+written-same one other p this that =
     ext_get_or 0 one other (this.len ∙ sym that.len) (λ s below.
     elim (cases_lt s 64) [
       | inl cell ↦ this.each s cell ∙ sym (that.each s cell)
@@ -44,8 +44,8 @@ side_spelled-byte_of : (side : Side) → side_spelled (byte_of (Disc side)) ≡ 
 side_spelled-byte_of side = grind arith
 
 -- a text that is written like a position spells it
-pub written_spells : (text : List ℕ) (p : Position) → IsWritten text p → Spells text p
-written_spells text p this = grind (arith, spelled-byte_of, side_spelled-byte_of)
+pub written-spells : (text : List ℕ) (p : Position) → IsWritten text p → Spells text p
+written-spells text p this = grind (arith, spelled-byte_of, side_spelled-byte_of)
 
 -- 66 bytes that are written like this position up to the cell n, with the space in its place
 pub record WritesFirst (text : List ℕ) (p : Position) (n : ℕ) : Type 0 where
@@ -53,17 +53,17 @@ pub record WritesFirst (text : List ℕ) (p : Position) (n : ℕ) : Type 0 where
   pub each : (s : ℕ) → s < n → get_or text s 0 ≡ byte_at p s
   pub space : get_or text 64 0 ≡ 32
 
-pub writes_none : (text : List ℕ) (p : Position) → text ≡ replicate 66 32 → WritesFirst text p 0
-writes_none text p blank = grind (arith, length-replicate, get_or-replicate)
+pub writes-none : (text : List ℕ) (p : Position) → text ≡ replicate 66 32 → WritesFirst text p 0
+writes-none text p blank = grind (arith, length-replicate, get_or-replicate)
 
 -- the whole text, once the side stands at its end
-pub writes_all : (text : List ℕ) (p : Position) (n byte : ℕ) → n ≡ 64 → byte ≡ byte_of (Disc p.side) → WritesFirst text p n → IsWritten (set text 65 byte) p
-writes_all text p n byte all is this = record {
+pub writes-all : (text : List ℕ) (p : Position) (n byte : ℕ) → n ≡ 64 → byte ≡ byte_of (Disc p.side) → WritesFirst text p n → IsWritten (set text 65 byte) p
+writes-all text p n byte all is this = record {
   len = length-set text 65 byte ∙ this.len;
   each = λ s below. let other : s ≢ 65 = omega arith in get_or-set_other text 65 s byte 0 other ∙ this.each s (omega arith);
   space = let other : 64 ≢ 65 = omega arith in get_or-set_other text 65 64 byte 0 other ∙ this.space;
   side = get_or-set_same text 65 byte 0 (omega (arith, this.len)) ∙ is;
 }
 
-pub is_written : (text : List ℕ) (p : Position) → IsWritten text p → text ≡ written p
-is_written text p this = written_same text (written p) p this (written_is p)
+pub is-written : (text : List ℕ) (p : Position) → IsWritten text p → text ≡ written p
+is-written text p this = written-same text (written p) p this (written-is p)

@@ -203,7 +203,7 @@ module _ (begun : HallOf) (more : Quota) (board : List Cell) (side : Side) (job 
 
   pub spent-ask : (quota : Quota) (all : List Made) (knew : Option (Known SearchStep)) → IsTenantOf begun all knew →
       all ≡ came quota ∷ (Ask 3 board side, Job job) ∷ (Wait 1, Told 1 Spent) ∷ (Reserve more, Refused 14) ∷ leaving → knew ≡ Some known → IsSpentAsk begun more board job known
-  spent-ask quota all knew is are knows = spent-of h.number first second third later words a.4.2.0 whole none_between a.3 waited raised
+  spent-ask quota all knew is are knows = spent-of h.number first second third later words a.4.2.0 whole none-between a.3 waited raised
     where
       h : Held begun quota calls known
       h = held begun quota all knew known is knows calls are
@@ -220,8 +220,8 @@ module _ (begun : HallOf) (more : Quota) (board : List Cell) (side : Side) (job 
       asked : Entries
       asked = with_search first known.maker h.number words
 
-      after_ask : first ++ a.1 ≡ asked
-      after_ask =
+      after-ask : first ++ a.1 ≡ asked
+      after-ask =
           let same : searching h.number words ≡ a.4.1 = cc a.4.3 in
           ap (λ (l : Entries). first ++ l) (a.4.4 ∙ ap (λ (s : SearchStep). (known.maker, s) ∷ []) (sym same))
 
@@ -229,18 +229,18 @@ module _ (begun : HallOf) (more : Quota) (board : List Cell) (side : Side) (job 
       second = a.5.0
 
       waited : IsReplyAt begun h.number (asked ++ second) (Wait 1) (Told 1 Spent)
-      waited = subst (λ (l : Entries). IsReplyAt begun h.number (l ++ second) (Wait 1) (Told 1 Spent)) after_ask a.5.3
+      waited = subst (λ (l : Entries). IsReplyAt begun h.number (l ++ second) (Wait 1) (Told 1 Spent)) after-ask a.5.3
 
-      after_wait : ((first ++ a.1) ++ second) ++ a.5.1 ≡ asked ++ second
-      after_wait =
+      after-wait : ((first ++ a.1) ++ second) ++ a.5.1 ≡ asked ++ second
+      after-wait =
           let before = (first ++ a.1) ++ second in
-          ap (λ (l : Entries). before ++ l) a.5.4 ∙ append-nil before ∙ ap (λ (l : Entries). l ++ second) after_ask
+          ap (λ (l : Entries). before ++ l) a.5.4 ∙ append-nil before ∙ ap (λ (l : Entries). l ++ second) after-ask
 
       third : Entries
       third = a.5.5.0
 
       raised : IsReplyAt begun h.number ((asked ++ second) ++ third) (Reserve more) (Refused 14)
-      raised = subst (λ (l : Entries). IsReplyAt begun h.number (l ++ third) (Reserve more) (Refused 14)) after_wait a.5.5.3
+      raised = subst (λ (l : Entries). IsReplyAt begun h.number (l ++ third) (Reserve more) (Refused 14)) after-wait a.5.5.3
 
       later : Entries
       later = a.5.5.5.0 ++ (known.maker, LeaveStep h.number) ∷ []
@@ -251,10 +251,10 @@ module _ (begun : HallOf) (more : Quota) (board : List Cell) (side : Side) (job 
           let leave : Entries = (known.maker, LeaveStep h.number) ∷ [] in
           let before = (((first ++ a.1) ++ second) ++ a.5.1) ++ third in
           last.2 ∙ ap (λ (l : Entries). ((before ++ l) ++ last.0) ++ leave) a.5.5.4
-          ∙ ap (λ (l : Entries). (l ++ last.0) ++ leave) (append-nil before ∙ ap (λ (l : Entries). l ++ third) after_wait)
+          ∙ ap (λ (l : Entries). (l ++ last.0) ++ leave) (append-nil before ∙ ap (λ (l : Entries). l ++ third) after-wait)
           ∙ append_assoc ((asked ++ second) ++ third) last.0 leave
 
-      none_between : seat_steps h.number (steps_of (second ++ third)) ≡ []
-      none_between =
+      none-between : seat_steps h.number (steps_of (second ++ third)) ≡ []
+      none-between =
           ap (λ (l : List SearchStep). seat_steps h.number l) (steps-more second third) ∙ seat-more h.number (steps_of second) (steps_of third)
           ∙ ap (λ (l : List SearchStep). l ++ seat_steps h.number (steps_of third)) a.5.2 ∙ a.5.5.2

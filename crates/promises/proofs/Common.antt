@@ -25,7 +25,7 @@ pub use Rattle.othello_eval.specs.othello_moves.declared.choices.Choice.{Choice}
 pub use Rattle.promises.specs.Replies.{IsAskedBy, IsEntryOfSubmit, IsValueOfSubmit, SearchStep}
 pub use Rattle.promises.specs.Tenants.{AreAdmissionsTaken, AreRefusedForThese, IsForBusyWorker, IsForOwnState, free_worker, own_steps, stands}
 pub use Rattle.sched_rules.proofs.Isolation.{headline, shared-after-taken, step-taken}
-pub use Rattle.sched_rules.proofs.Tenants.{tenant_in-with_outcome, tenant_in_other-with_tenant, tenant_in_other-without_tenant}
+pub use Rattle.sched_rules.proofs.Tenants.{tenant_in-with_outcome, tenant_in-other-with_tenant, tenant_in-other-without_tenant}
 pub use Rattle.sched_rules.specs.Cores.{CoreState, is_busy_elsewhere, meets_busy, shared_after, shared_by_nobody, step_result, tenant_in, with_outcome}
 pub use Rattle.sched_rules.specs.Cores.{with_tenant, without_tenant}
 pub use Rattle.sched_rules.specs.Functions.{Functions}

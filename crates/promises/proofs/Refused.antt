@@ -1,5 +1,5 @@
 -- What a step that is no admission is refused for.
-use Rattle.promises.proofs.Common.{◌≡◌, ◌≢◌, ℕ, ◌⊎◌, inl, inr, Bool, true, false, ◌==◌, List, [], ◌∷◌, ◌++◌, length, Option, Some, None, Result, Ok, Err, refl, sym, ap, ◌∙◌, subst, arith, not, ◌&&◌, ◌||◌, nat_tests, Quota, Refusal, Busy, StepOf, Take, Steal, Inlet, Finish, Functions, Tenant, is_busy_in, Outcome, lone, lone_refusal, refusal_in, tenant_of, answer_of, CoreState, shared_by_nobody, tenant_in, with_tenant, without_tenant, with_outcome, is_busy_elsewhere, meets_busy, step_result, shared_after, IsAnswerTo, IsAnswerToStep, AreAnswersTo, after_answer, after_answers, IsHeadline, headline, tenant_in_other-with_tenant, tenant_in_other-without_tenant, stands, free_worker, IsForOwnState, IsForBusyWorker, AreRefusedForThese}
+use Rattle.promises.proofs.Common.{◌≡◌, ◌≢◌, ℕ, ◌⊎◌, inl, inr, Bool, true, false, ◌==◌, List, [], ◌∷◌, ◌++◌, length, Option, Some, None, Result, Ok, Err, refl, sym, ap, ◌∙◌, subst, arith, not, ◌&&◌, ◌||◌, nat_tests, Quota, Refusal, Busy, StepOf, Take, Steal, Inlet, Finish, Functions, Tenant, is_busy_in, Outcome, lone, lone_refusal, refusal_in, tenant_of, answer_of, CoreState, shared_by_nobody, tenant_in, with_tenant, without_tenant, with_outcome, is_busy_elsewhere, meets_busy, step_result, shared_after, IsAnswerTo, IsAnswerToStep, AreAnswersTo, after_answer, after_answers, IsHeadline, headline, tenant_in-other-with_tenant, tenant_in-other-without_tenant, stands, free_worker, IsForOwnState, IsForBusyWorker, AreRefusedForThese}
 use Rattle.promises.proofs.Answered.{Answer}
 
 abbrev Entries : Type 0
@@ -13,11 +13,11 @@ AreApart (entry ∷ entries) = (tenant_in entries entry.0 ≡ None) × AreApart 
 
 apart-with_tenant : (n : ℕ) (t : Tenant) (es : Entries) → AreApart es → AreApart (with_tenant n t es)
 apart-with_tenant n t [] apart = (refl, tt)
-apart-with_tenant n t (e ∷ es) apart = grind (arith, apart-with_tenant n t es apart.1, nat_tests, tenant_in_other-with_tenant)
+apart-with_tenant n t (e ∷ es) apart = grind (arith, apart-with_tenant n t es apart.1, nat_tests, tenant_in-other-with_tenant)
 
 apart-without_tenant : (n : ℕ) (es : Entries) → AreApart es → AreApart (without_tenant n es)
 apart-without_tenant n [] apart = tt
-apart-without_tenant n (e ∷ es) apart = grind (arith, apart-without_tenant n es apart.1, tenant_in_other-without_tenant, nat_tests)
+apart-without_tenant n (e ∷ es) apart = grind (arith, apart-without_tenant n es apart.1, tenant_in-other-without_tenant, nat_tests)
 
 apart-with_outcome : (n : ℕ) (t : Option Tenant) (es : Entries) → AreApart es → AreApart (with_outcome n t es)
 apart-with_outcome n None es apart = apart-without_tenant n es apart

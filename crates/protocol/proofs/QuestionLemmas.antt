@@ -22,8 +22,8 @@ use Rattle.protocol.specs.Questions.{QuestionOf, mover_question, marks_question,
 abbrev pub behind : List ℕ → Option (List ℕ × List ℕ) → Option (List ℕ × List ℕ)
 behind front found = option_map (λ p. (front ++ p.0, p.1)) found
 
-pub seven_digits_fit : (n i : ℕ) → n < 10 ^ i → i ≤ 7 → n < 10000000
-seven_digits_fit n i below few = omega (arith, pow-le-pow_right {n = 10} (omega arith) {i = i} {j = 7} few)
+pub seven-digits-fit : (n i : ℕ) → n < 10 ^ i → i ≤ 7 → n < 10000000
+seven-digits-fit n i below few = omega (arith, pow-le-pow_right {n = 10} (omega arith) {i = i} {j = 7} few)
 
 -- What the text of a position asks for, by what reading it gives.
 
@@ -35,36 +35,36 @@ abbrev pub faulty : ProtocolFault → Result QuestionOf ProtocolFault
 faulty fault = Err fault
 
 -- 66 bytes
-long_enough : (depth : ℕ) (text : List ℕ) → length text ≡ 66 → position_question depth text ≡ marks_question depth (marks_of text) (mover_of text)
-long_enough depth text len = ap (λ t. cond t (marks_question depth (marks_of text) (mover_of text)) (faulty PositionLength)) (eq-eqb (length text) 66 len)
+long-enough : (depth : ℕ) (text : List ℕ) → length text ≡ 66 → position_question depth text ≡ marks_question depth (marks_of text) (mover_of text)
+long-enough depth text len = ap (λ t. cond t (marks_question depth (marks_of text) (mover_of text)) (faulty PositionLength)) (eq-eqb (length text) 66 len)
 
 -- the position that is spelled
-pub spelled_question : (depth : ℕ) (text : List ℕ) (p : Position) → Spells text p → position_question depth text ≡ asks depth (cells p.board) p.side
-spelled_question depth text p s =
-    long_enough depth text s.len
+pub spelled-question : (depth : ℕ) (text : List ℕ) (p : Position) → Spells text p → position_question depth text ≡ asks depth (cells p.board) p.side
+spelled-question depth text p s =
+    long-enough depth text s.len
     ∙ ap (λ m. marks_question depth m (mover_of text)) (marks_of-spelled text p s)
     ∙ ap (mover_question depth (map (mark_of_cell p.side) (cells p.board))) (mover_of-spelled text p s)
     ∙ ap (λ board. asks depth board p.side) (seen_of-spelled p)
 
 -- marks without a mover
-no_mover : (depth : ℕ) (marks : Option (List Mark)) → IsSome marks → marks_question depth marks None ≡ faulty PositionSide
-no_mover depth None some = cc some
-no_mover depth (Some marks) some = refl
+no-mover : (depth : ℕ) (marks : Option (List Mark)) → IsSome marks → marks_question depth marks None ≡ faulty PositionSide
+no-mover depth None some = cc some
+no-mover depth (Some marks) some = refl
 
 -- a fault that was met
 abbrev pub Faulted : TextFault → Result Position TextFault
 Faulted fault = Err fault
 
-pub fault_question : (depth : ℕ) (text : List ℕ) (fault : TextFault)
+pub fault-question : (depth : ℕ) (text : List ℕ) (fault : TextFault)
     → (Faulted fault ≡ Err Length) ↔ (length text ≢ 66) → ((at : ℕ) → (Faulted fault ≡ Err (BadCell at)) ↔ IsBadCell text at) → (Faulted fault ≡ Err BadSide) ↔ IsBadSide text
     → position_question depth text ≡ faulty (position_fault fault)
-fault_question depth text Length len cell side =
+fault-question depth text Length len cell side =
     ap (λ t. cond t (marks_question depth (marks_of text) (mover_of text)) (faulty PositionLength)) (ne_eqb (length text) 66 (len.0 refl))
-fault_question depth text (BadCell at) len cell side =
+fault-question depth text (BadCell at) len cell side =
     let bad = (cell at).0 refl in
-    long_enough depth text bad.len ∙ ap (λ m. marks_question depth m (mover_of text)) (marks_of-bad_cell text at bad)
-fault_question depth text BadSide len cell side =
+    long-enough depth text bad.len ∙ ap (λ m. marks_question depth m (mover_of text)) (marks_of-bad_cell text at bad)
+fault-question depth text BadSide len cell side =
     let bad = side.0 refl in
-    long_enough depth text bad.len
+    long-enough depth text bad.len
     ∙ ap (marks_question depth (marks_of text)) (mover_of-bad_side text bad)
-    ∙ no_mover depth (marks_of text) (marks_of-bad_side text bad)
+    ∙ no-mover depth (marks_of text) (marks_of-bad_side text bad)

@@ -24,7 +24,7 @@ pub use Rattle.sched_laws.proofs.Common.{Spent, State, Steal, StepOf, Submit, Ta
 pub use Rattle.sched_laws.proofs.Common.{act_by_sight, act_tests, admit_tests, admitted_with, advance_tests, advanced, after_answer, after_answers, answer_of}
 pub use Rattle.sched_laws.proofs.Common.{answer_tests, answered, ap, append-nil, append_assoc, applies, arith, at_frame, below-found, cases_Bool, charged_for}
 pub use Rattle.sched_laws.proofs.Common.{counted, does_wait, ended, eq-eqb, false, finish_tests, finished, found-each, found-serial, found-there, frame_at}
-pub use Rattle.sched_laws.proofs.Common.{frame_at_other-without, frames_without, goes_under, has_child, has_frame, holding, in_state, inl, inlet_tests, inr}
+pub use Rattle.sched_laws.proofs.Common.{frame_at-other-without, frames_without, goes_under, has_child, has_frame, holding, in_state, inl, inlet_tests, inr}
 pub use Rattle.sched_laws.proofs.Common.{is_admission, is_bad_then, is_beyond, is_busy_in, is_child_of, is_computed_by, is_lower, is_ok, is_outside, is_ready}
 pub use Rattle.sched_laws.proofs.Common.{is_returned, is_root, is_run_by, is_spendable, job_at, job_under, kept_words, left, length, lone, mark_of_state}
 pub use Rattle.sched_laws.proofs.Common.{meets_busy, newest_ready_of, not-false, number_from, only, opened, or_parts, origins_after, origins_of, parent_of, path_in, raised, refl}

@@ -1,5 +1,5 @@
 -- A returned frame is taken in by its parent.
-use Rattle.sched_core.proofs.Common.{◌≡◌, if◌then◌else◌, ◌≢◌, ℕ, ◌<◌, ◌==◌, Bool, true, false, List, [], ◌∷◌, Option, Some, None, Result, Ok, Err, refl, sym, ◌∙◌, ap, arith, ◌||◌, ◌&&◌, not, IsSome, nat_tests, eq-eqb, FrameId, State, Ready, Returned, frame_at, name_of, parent_of, goes_under, aborted, frames_without, IsTree, is_child_of, Each, tree-rising, found-each, found-serial, there-found, under-there, under-below, child-under-parent, aborted-itself, frame_at_other-without, Refusal, NoTenant, NoFrame, NotReturned, BadAct, Busy, InletAct, Inlet, TakenIn, Functions, Tenant, Tree, words_in, is_outside, has_child, stored, Outcome, unless, lone, refusal_in, inlet_tests, taken_in, staying, aborted_beside, does_wait, is_waiting, is_returned, holding, counted, in_state, on_tenant, named, CoreState, tenant_in, is_busy_elsewhere, unless_busy, step_result, shared_refusal, AreShaped, shaped-in, returned-leaf, is_busy_among, AreTenantsRising, words_under, frames_in_core, TenantHasStepLeft, Seen, MayBeTakenIn, IsReturnedUnder, FollowsResult, staying_with, AllPass, F, not-false, cases_Bool, inl, inr}
+use Rattle.sched_core.proofs.Common.{◌≡◌, if◌then◌else◌, ◌≢◌, ℕ, ◌<◌, ◌==◌, Bool, true, false, List, [], ◌∷◌, Option, Some, None, Result, Ok, Err, refl, sym, ◌∙◌, ap, arith, ◌||◌, ◌&&◌, not, IsSome, nat_tests, eq-eqb, FrameId, State, Ready, Returned, frame_at, name_of, parent_of, goes_under, aborted, frames_without, IsTree, is_child_of, Each, tree-rising, found-each, found-serial, there-found, under-there, under-below, child-under-parent, aborted-itself, frame_at-other-without, Refusal, NoTenant, NoFrame, NotReturned, BadAct, Busy, InletAct, Inlet, TakenIn, Functions, Tenant, Tree, words_in, is_outside, has_child, stored, Outcome, unless, lone, refusal_in, inlet_tests, taken_in, staying, aborted_beside, does_wait, is_waiting, is_returned, holding, counted, in_state, on_tenant, named, CoreState, tenant_in, is_busy_elsewhere, unless_busy, step_result, shared_refusal, AreShaped, shaped-in, returned-leaf, is_busy_among, AreTenantsRising, words_under, frames_in_core, TenantHasStepLeft, Seen, MayBeTakenIn, IsReturnedUnder, FollowsResult, staying_with, AllPass, F, not-false, cases_Bool, inl, inr}
 use Rattle.sched_core.proofs.Deciding.{some-is}
 use Rattle.sched_core.proofs.Parents.{inlet-told}
 use Rattle.sched_core.proofs.TakenStep.{all-pass, IsWith, begins, then-changed, step-left}
@@ -95,7 +95,7 @@ module _ (frames : List F) (child parent : ℕ) (frame : F) (tree : IsTree frame
   parent-found = there-found frames parent (under-there frames child parent frame tree found path)
 
   pub stays-beside : (above : F) → frame_at frames parent ≡ Some above → frame_at (frames_without child frames) parent ≡ Some above
-  stays-beside above at = grind (arith, frame_at_other-without, other, under-below)
+  stays-beside above at = grind (arith, frame_at-other-without, other, under-below)
 
   pub parent-stays : (abort : Bool) (above : F) → frame_at frames parent ≡ Some above →
       frame_at (staying frames child parent abort) parent ≡ Some above

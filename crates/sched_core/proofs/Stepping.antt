@@ -27,12 +27,9 @@ module _ {I A : Type 0} (functions : Functions I A) (before : CoreState) (step :
 
 -- what follows from one step
 module _ {I A : Type 0} (functions : Functions I A) (before : CoreState) (step : StepOf A) (after : CoreState) where
-  pub refused-stays : (refusal : Refusal) → IsOneStep functions before step (Err refusal) after → after ≡ before
-  refused-stays refusal is = is.left
-
-  pub stays-on_err : (answer : Result (DidOf I) Refusal) → IsOneStep functions before step answer after → OnErr answer (after ≡ before)
-  stays-on_err (Ok did) is = tt
-  stays-on_err (Err refusal) is = is.left
+  pub stays-on-err : (answer : Result (DidOf I) Refusal) → IsOneStep functions before step answer after → OnErr answer (after ≡ before)
+  stays-on-err (Ok did) is = tt
+  stays-on-err (Err refusal) is = is.left
 
   -- no tenant is there under a number that wasn't taken
   pub known-still : (answer : Result (DidOf I) Refusal) → AreNumbersGiven before → IsOneStep functions before step answer after → AreNumbersGiven after

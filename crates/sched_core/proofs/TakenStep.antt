@@ -138,6 +138,3 @@ module _ {I A : Type 0} (functions : Functions I A) (shared : CoreState) (worker
   steal-going from none =
       let tests = λ (tenant : Tenant). steal_tests tenant worker from in
       going functions shared (Steal worker from name) name _ tests (λ tenant. taken_by tenant worker) refl refl (λ tenant. refl) none
-
--- a step is still left
-pub ruleset left_still = (left-still)

@@ -1,5 +1,5 @@
 -- Every answer leaves a core fitting, and so does every list of them.
-use Rattle.sched_laws.proofs.Common.{◌≡◌, ◌≢◌, ℕ, ◌<◌, ◌≤◌, inl, inr, true, false, eqb, List, [], ◌∷◌, ◌++◌, Option, Some, None, Result, Ok, Err, refl, ap, sym, ◌∙◌, arith, append_assoc, append-nil, suc, ◌+◌, length, is_ok, ◌==◌, cases_Bool, cases_eq, eq-eqb, ne_eqb, Quota, root_of, Refusal, Continuation, StepOf, Admit, AdmitMore, Submit, DidOf, Admitted, Submitted, Functions, Tenant, admitted_with, Tree, Fitting, Rooting, ParentFits, NewChildFits, Outcome, lone, lone_step, submit_tests, submitted, tenant_of, only, state_after, alone_from, answers_from, CoreState, shared_by_nobody, tenant_in, with_outcome, meets_busy, step_result, newest_after, shared_with, is_admission, IsAnswerTo, AreAnswersTo, after_answer, after_answers, taken_steps, AreNumbersGiven, tenant_in-with_outcome, tenant_in_other-with_outcome, known-number, step-taken, there, more-there, above, step_result-step, shared-after-taken, found, IsShaped, AreShaped, TenantFits, CoreFits, submits, origins_of, RootFits, RootsFit, origins_after, StaysFitting, JobsFit, filter-append, Job, Spent as SpentJob, Cancelled as CancelledJob}
+use Rattle.sched_laws.proofs.Common.{◌≡◌, ◌≢◌, ℕ, ◌<◌, ◌≤◌, inl, inr, true, false, eqb, List, [], ◌∷◌, ◌++◌, Option, Some, None, Result, Ok, Err, refl, ap, sym, ◌∙◌, arith, append_assoc, append-nil, suc, ◌+◌, length, is_ok, ◌==◌, cases_Bool, cases_eq, eq-eqb, ne_eqb, Quota, root_of, Refusal, Continuation, StepOf, Admit, AdmitMore, Submit, DidOf, Admitted, Submitted, Functions, Tenant, admitted_with, Tree, Fitting, Rooting, ParentFits, NewChildFits, Outcome, lone, lone_step, submit_tests, submitted, tenant_of, only, state_after, alone_from, answers_from, CoreState, shared_by_nobody, tenant_in, with_outcome, meets_busy, step_result, newest_after, shared_with, is_admission, IsAnswerTo, AreAnswersTo, after_answer, after_answers, taken_steps, AreNumbersGiven, tenant_in-with_outcome, tenant_in-other-with_outcome, known-number, step-taken, there, more-there, above, step_result-step, shared-after-taken, found, IsShaped, AreShaped, TenantFits, CoreFits, submits, origins_of, RootFits, RootsFit, origins_after, StaysFitting, JobsFit, filter-append, Job, Spent as SpentJob, Cancelled as CancelledJob}
 use Rattle.sched_laws.proofs.Shaped.{unless-passed, came, by-effects}
 use Rattle.sched_laws.proofs.Consequences.{root-above, live-root, shaped-in, not-busy, more-taken, shaped_answer}
 use Rattle.sched_laws.proofs.Holds.{Lists, among}
@@ -124,7 +124,7 @@ module _ {I A : Type 0} {functions : Functions I A} {fits : Fitting} {rooted : R
         | inl same ↦ (let own : outcome.0 ≡ Some tenant = sym (tenant_in-with_outcome (tenant_of step) outcome.0 before.tenants) ∙ ap (tenant_in _) same ∙ at in
             let left = rw own at (taken-left step root is) in rw (eq-eqb (tenant_of step) number same, ← same) left)
         | inr ne ↦ rw (other number ne)
-            (core.tenants number tenant (sym (tenant_in_other-with_outcome number (tenant_of step) outcome.0 before.tenants ne) ∙ at))
+            (core.tenants number tenant (sym (tenant_in-other-with_outcome number (tenant_of step) outcome.0 before.tenants ne) ∙ at))
       ]
 
       unused : (number : ℕ) → newest_after before.newest step < number → origins_after origins step (Ok did) number ≡ []

@@ -1,7 +1,7 @@
 -- Every step of a tenant leaves its frames fitting, and its jobs holding what they were asked: Advance and Answer.
-use Rattle.sched_laws.proofs.Common.{◌≡◌, ℕ, Bool, true, false, List, [], ◌∷◌, ◌++◌, Some, ap, sym, ◌∙◌, arith, ◌≢◌, ◌+◌, ◌<◌, not, Option, None, length, refl, inl, inr, ◌||◌, ◌&&◌, State, Running, Ready, FrameId, frame_at, children_of, path_in, parent_of, goes_under, aborted, frames_without, IsTree, new_frame, is_ready, found-serial, there-found, found-path, frame_at-left, frame_at-push, tree-rising, IsUnder, top-path, under-there, named-under, Act, Continuation, InletAct, Functions, Tree, Tenant, sight, with_frame_words, stored, is_outside, has_child, frame_words, words_in, is_root, without_job, kept_words, Fitting, Rooting, Neither, Computes, mark_of_state, has_one, grown, children_after, mark_after, ParentFits, NewChildFits, HasReturned, AllFit, children_left, is_bad_act, act_by_sight, counted, holding, then_done, advanced, answered, opened, ended, staying, taken_by, is_computed_by, is_returned, advance_tests, answer_tests, inlet_tests, does_wait, taken_in, finish_tests, finished, IsShaped, TenantFits, JobFits, false≢true, eq-eqb, eqb-true, cases_Bool, not-false, or_parts, padded, is_that, is_child_of, frame_at-stays, frame_at_other-without, tree-aborted, tree-without, tree-without_job, tree-new_frame, new-frame-next, path_in-alike, Job, Live, Done, is_run_by}
+use Rattle.sched_laws.proofs.Common.{◌≡◌, ℕ, Bool, true, false, List, [], ◌∷◌, ◌++◌, Some, ap, sym, ◌∙◌, arith, ◌≢◌, ◌+◌, ◌<◌, not, Option, None, length, refl, inl, inr, ◌||◌, ◌&&◌, State, Running, Ready, FrameId, frame_at, children_of, path_in, parent_of, goes_under, aborted, frames_without, IsTree, new_frame, is_ready, found-serial, there-found, found-path, frame_at-left, frame_at-push, tree-rising, IsUnder, top-path, under-there, named-under, Act, Continuation, InletAct, Functions, Tree, Tenant, sight, with_frame_words, stored, is_outside, has_child, frame_words, words_in, is_root, without_job, kept_words, Fitting, Rooting, Neither, Computes, mark_of_state, has_one, grown, children_after, mark_after, ParentFits, NewChildFits, HasReturned, AllFit, children_left, is_bad_act, act_by_sight, counted, holding, then_done, advanced, answered, opened, ended, staying, taken_by, is_computed_by, is_returned, advance_tests, answer_tests, inlet_tests, does_wait, taken_in, finish_tests, finished, IsShaped, TenantFits, JobFits, false≢true, eq-eqb, eqb-true, cases_Bool, not-false, or_parts, padded, is_that, is_child_of, frame_at-stays, frame_at-other-without, tree-aborted, tree-without, tree-without_job, tree-new_frame, new-frame-next, path_in-alike, Job, Live, Done, is_run_by}
 use Rattle.sched_laws.proofs.Parts.{has_child-with_frame_words, path-there}
-use Rattle.sched_laws.proofs.Holds.{Lists, F, kids, fits-holds, with_frame_words-alike, tree-with_frame_words, paths-with_frame_words, children_of-with_frame_words, frame_at_other-with_frame_words, holds-fits, among-kids, BeforeWithout, holds-without, BeforeAbort, holds-aborted, holds-push, holds-without_job, frame_at-with_frame_words, found-same, found-own}
+use Rattle.sched_laws.proofs.Holds.{Lists, F, kids, fits-holds, with_frame_words-alike, tree-with_frame_words, paths-with_frame_words, children_of-with_frame_words, frame_at-other-with_frame_words, holds-fits, among-kids, BeforeWithout, holds-without, BeforeAbort, holds-aborted, holds-push, holds-without_job, frame_at-with_frame_words, found-same, found-own}
 use Rattle.sched_laws.proofs.Fits.{IsLawful, IsKeptAbove, with_frame_words-twice, all-fit, has-one, LeftFits, fits-spawned, words-found, jobs-append, jobs-ended, root-top, parent-neither, fits-same-mark, FitsAt, HaveSameRoots, fits-changed, fits-marked, jobs-left, kept-of, state-fits, words-fits}
 use Rattle.sched_laws.proofs.Shaped.{AllPass, run-free, returned-marked, returned-childless, staying-parent, inlet-stored-shaped}
 
@@ -39,7 +39,7 @@ module _ (p : ℕ) (tree : Tree) (root : ℕ) (t : IsTree tree) where
   root-aborted is = grind (arith, root-found, frame_at-stays, tree-rising)
 
   pub root-without_job : root ≢ p → path_in tree root ≡ root ∷ [] → frame_at (without_job p tree) root ≡ frame_at tree root
-  root-without_job other is = frame_at_other-without p (aborted p tree) root (λ e. other (sym e)) ∙ root-aborted is
+  root-without_job other is = frame_at-other-without p (aborted p tree) root (λ e. other (sym e)) ∙ root-aborted is
 
 root-path : (path : List ℕ) → is_root path ≡ true → parent_of path ≡ None
 root-path [] is = absurd (false≢true is)
@@ -89,7 +89,7 @@ module _ (n p : ℕ) (words : List ℕ) where
 
 staying-root : (n p : ℕ) (tree : Tree) (root : ℕ) (abort : Bool) → IsTree tree → root ≢ n → path_in tree root ≡ root ∷ [] →
     frame_at (staying tree n p abort) root ≡ frame_at tree root
-staying-root n p tree root abort h6 h7 h8 = grind (arith, root-aborted, frame_at_other-without)
+staying-root n p tree root abort h6 h7 h8 = grind (arith, root-aborted, frame_at-other-without)
 
 -- a list of children that fit, in two parts
 parts-fit : (fits : Fitting) (older : Lists) (child : List ℕ) (younger : Lists) → AllFit fits (older ++ child ∷ younger) →
@@ -140,7 +140,7 @@ module _ {fits : Fitting} {rooted : Rooting} {origins : Lists} {tenant : Tenant}
       left false own =
           let leaf1 : children_of tree n ≡ [] = children_of-with_frame_words p words tenant.frames n shape.tree ∙ ap (with_frame_words p words) leaf in
           let below = below-parent in
-          let at1 = frame_at_other-with_frame_words p words tenant.frames n (λ e. omega (arith, e, below)) ∙ at_n in
+          let at1 = frame_at-other-with_frame_words p words tenant.frames n (λ e. omega (arith, e, below)) ∙ at_n in
           fits-changed shape fitting (BeforeWithout (FitsAt fits) n f) p g words (frames_without n tree) at_p kept
           (λ other. ((λ is older younger split. rw free (own older younger split)), (λ none. absurd (false≢true (sym none ∙ child-of)))))
           (λ s w k m ne fit other.

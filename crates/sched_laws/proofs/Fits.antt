@@ -2,7 +2,7 @@
 use Rattle.sched_laws.proofs.Common.{◌≡◌, ◌≢◌, ℕ, ◌≤◌, inl, inr, true, List, [], ◌∷◌, ◌++◌, Option, Some, None, refl, ap, sym, ◌∙◌, arith, suc, ◌+◌, ltb, length, map-append, reverse-append, false≢true, eq-eqb, eqb-true, eqb-false, frame_at, path_in, parent_of, children_of, IsTree, with_state, values_of, new_frame, is_that, is_child_of, Each, found-serial, tree-rising, IsUnder, IsTop, placed, children-by-paths, found-there, found-path, frame_at-left, found-each, frame_at-stays, rising-filter, filter-found, Job, Functions, Tree, Tenant, frame_words, words_in, sight, has_child, is_root, with_frame_words, with_ended, is_live_at, Fitting, Rooting, Mark, Neither, mark_of_state, ParentFits, NextKeeps, InletKeeps, AcceptKeeps, EveryFrameFits, AllFit, has_one, IsShaped, AreMarkedChildless, AreLiveRootsThere, live_count, JobFits, JobsFit, TenantFits, filter, padded, State, tree-new_frame, new-frame-next, parent_of-path_under, AllBelow-alike, path_in-alike, tree-with_state, counted, in_state, holding, opened}
 use Rattle.sched_laws.proofs.Parts.{childless-at, no-child, path-there}
 use Rattle.sched_laws.proofs.Consequences.{root-counted}
-use Rattle.sched_laws.proofs.Holds.{Lists, F, Fact, kids, Holds, fits-holds, found-same, among-kids, holds-with_frame_words, with_frame_words-alike, tree-with_frame_words, frame_at-with_frame_words, frame_at_other-with_frame_words, holds-fits, BeforeState, holds-with_state, BeforePush, holds-push}
+use Rattle.sched_laws.proofs.Holds.{Lists, F, Fact, kids, Holds, fits-holds, found-same, among-kids, holds-with_frame_words, with_frame_words-alike, tree-with_frame_words, frame_at-with_frame_words, frame_at-other-with_frame_words, holds-fits, BeforeState, holds-with_state, BeforePush, holds-push}
 
 -- the laws of a procedure
 pub record IsLawful {I A : Type 0} (functions : Functions I A) (fits : Fitting) (rooted : Rooting) : Type 0 where
@@ -149,7 +149,7 @@ module _ (fits : Fitting) (rooted : Rooting) where
 -- the words of another frame, and of the frame itself
 module _ (n : ℕ) (words : List ℕ) (tree : Tree) where
   pub words-other : (s : ℕ) → n ≢ s → words_in (with_frame_words n words tree) s ≡ words_in tree s
-  words-other s other = ap frame_words (frame_at_other-with_frame_words n words tree s other)
+  words-other s other = ap frame_words (frame_at-other-with_frame_words n words tree s other)
 
   pub words-own : (f : F) → frame_at tree n ≡ Some f → words_in (with_frame_words n words tree) n ≡ words
   words-own f at = ap frame_words (frame_at-with_frame_words n words tree f at)

@@ -1,5 +1,5 @@
 -- A tree with other words in a frame: what is found, whose children, and what is charged.
-use Rattle.sched_laws.proofs.Common.{◌≡◌, ◌≢◌, ℕ, suc, ◌+◌, ◌≤◌, inl, inr, Bool, false, eqb, List, [], ◌∷◌, ◌++◌, Some, length, refl, ap, sym, ◌∙◌, arith, true, not, Option, None, append-nil, filter, length-set, sum_by-append, sum_by-cons, cases_Bool, eqb-true, cases_eq, false≢true, ne_eqb, not-true, not_from_false, charge, Frame, frame_at, has_frame, children_of, values_of, IsTree, parent_of, goes_under, aborted, frames_without, with_state, IsNextFrame, is_child_of, AreSerialsRising, AreAlike, is_that, Each, above-missing, children-by-paths, there-found, found-serial, missing, frame_at-push, frame_at_other-push, tree-rising, placed, under-through, tree-push, has_frame-above, children_under, without_job, found-each, each-found, tree-alike, children_of-push, frame_at_other-with_state, children_of-with_state, values_of-with_state, Tree, charged_for, with_frame_words, stored, State, aborted-itself, rising-filter, frame_at-filter, frame_at-stays, filter-found, tree-aborted, tree-without, frame_at-without, frame_at_other-without, aborted-leaf, Fitting, Mark, mark_of_state, EachFits, EveryFrameFits}
+use Rattle.sched_laws.proofs.Common.{◌≡◌, ◌≢◌, ℕ, suc, ◌+◌, ◌≤◌, inl, inr, Bool, false, eqb, List, [], ◌∷◌, ◌++◌, Some, length, refl, ap, sym, ◌∙◌, arith, true, not, Option, None, append-nil, filter, length-set, sum_by-append, sum_by-cons, cases_Bool, eqb-true, cases_eq, false≢true, ne_eqb, not-true, not_from_false, charge, Frame, frame_at, has_frame, children_of, values_of, IsTree, parent_of, goes_under, aborted, frames_without, with_state, IsNextFrame, is_child_of, AreSerialsRising, AreAlike, is_that, Each, above-missing, children-by-paths, there-found, found-serial, missing, frame_at-push, frame_at-other-push, tree-rising, placed, under-through, tree-push, has_frame-above, children_under, without_job, found-each, each-found, tree-alike, children_of-push, frame_at-other-with_state, children_of-with_state, values_of-with_state, Tree, charged_for, with_frame_words, stored, State, aborted-itself, rising-filter, frame_at-filter, frame_at-stays, filter-found, tree-aborted, tree-without, frame_at-without, frame_at-other-without, aborted-leaf, Fitting, Mark, mark_of_state, EachFits, EveryFrameFits}
 
 -- a frame with its words
 abbrev pub F : Type 0
@@ -23,9 +23,9 @@ module _ (n : ℕ) (words : List ℕ) where
   frame_at-with_frame_words [] f at = absurd cc
   frame_at-with_frame_words (x ∷ xs) f at = grind (arith, frame_at-with_frame_words xs f)
 
-  pub frame_at_other-with_frame_words : (xs : Tree) (s : ℕ) → n ≢ s → frame_at (with_frame_words n words xs) s ≡ frame_at xs s
-  frame_at_other-with_frame_words [] s other = refl
-  frame_at_other-with_frame_words (x ∷ xs) s other = grind (arith, frame_at_other-with_frame_words xs s other)
+  pub frame_at-other-with_frame_words : (xs : Tree) (s : ℕ) → n ≢ s → frame_at (with_frame_words n words xs) s ≡ frame_at xs s
+  frame_at-other-with_frame_words [] s other = refl
+  frame_at-other-with_frame_words (x ∷ xs) s other = grind (arith, frame_at-other-with_frame_words xs s other)
 
   -- the frames that pass a test on paths
   pub paths-with_frame_words : (p : List ℕ → Bool) (xs : Tree) →
@@ -140,7 +140,7 @@ module _ (Q : Fact) (n : ℕ) (state : State) (tree : Tree) (t : IsTree tree) wh
   holds-with_state all s f at = elim (cases_eq s n) [
     | inl is ↦ (let g = found-with_state n state tree f (ap (frame_at (with_state n state tree)) (sym is) ∙ at) in
         rw (same, ← g.2) ((all s g.0 (ap (frame_at tree) is ∙ g.1)).0 is))
-    | inr other ↦ rw same ((all s f (sym (frame_at_other-with_state n state tree s (λ e. other (sym e))) ∙ at)).1 other)
+    | inr other ↦ rw same ((all s f (sym (frame_at-other-with_state n state tree s (λ e. other (sym e))) ∙ at)).1 other)
   ]
     where
       same : kids (with_state n state tree) s ≡ kids tree s
@@ -230,7 +230,7 @@ module _ (n : ℕ) (f : F) (tree : Tree) (t : IsTree tree) (at_n : frame_at tree
   holds-with_frame_words Q words all s h at = elim (cases_eq s n) [
     | inl is ↦ (let e : record f { value = words } ≡ h = found-same _ n s _ h (sym is) (frame_at-with_frame_words n words tree f at_n) at in
         rw (← e, same (rw is not-own-child)) ((all s f (ap (frame_at tree) is ∙ at_n)).0 is))
-    | inr other ↦ (let old = all s h (sym (frame_at_other-with_frame_words n words tree s (λ e. other (sym e))) ∙ at) in
+    | inr other ↦ (let old = all s h (sym (frame_at-other-with_frame_words n words tree s (λ e. other (sym e))) ∙ at) in
         elim (cases_Bool (is_child_of s f.path)) [
           | inl child ↦ (let a = among-kids tree s n f t at_n child in rw (a.stored words) (old.1 other child a.older a.younger a.all))
           | inr none ↦ rw (same none) (old.2 other none)
@@ -248,7 +248,7 @@ module _ (Q : Fact) (tree : Tree) (y : F) (t : IsTree tree) (next : IsNextFrame 
   pub holds-push : Q y.serial y.value [] (mark_of_state y.state) → Holds (BeforePush Q y) tree → Holds Q (tree ++ y ∷ [])
   holds-push new all s f at = elim (cases_eq y.serial s) [
     | inl is ↦ (let e : y ≡ f = found-same (tree ++ y ∷ []) y.serial s y f is (frame_at-push tree y next.above) at in rw (← e, none is, ← is) new)
-    | inr other ↦ (let old = all s f (sym (frame_at_other-push tree y s other) ∙ at) in
+    | inr other ↦ (let old = all s f (sym (frame_at-other-push tree y s other) ∙ at) in
         elim (cases_Bool (is_child_of s y.path)) [ inl child ↦ rw (more child) (old.0 child) | inr no_child ↦ rw (same no_child) (old.1 no_child) ])
   ]
     where
@@ -290,7 +290,7 @@ module _ (Q : Fact) (n : ℕ) (f : F) (tree : Tree) (t : IsTree tree) (at_n : fr
       apart e = let both : ◌≡◌ {A = Option F} None (Some h) = sym (frame_at-without n tree) ∙ ap (frame_at (frames_without n tree)) (sym e) ∙ at in cc
 
       old : BeforeWithout Q n f s h.value (kids tree s) (mark_of_state h.state)
-      old = all s h (sym (frame_at_other-without n tree s (λ e. apart (sym e))) ∙ at)
+      old = all s h (sym (frame_at-other-without n tree s (λ e. apart (sym e))) ∙ at)
 
       kept : kids (frames_without n tree) s ≡ values_of (frames_without n (children_of tree s))
       kept = ap values_of (children-filter (λ x. not (eqb x.serial n)) tree s t (tree-without n tree t leaf))

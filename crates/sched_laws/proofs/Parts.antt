@@ -1,5 +1,5 @@
 -- Each part of a tenant's shape, under each change of the tree and of the jobs.
-use Rattle.sched_laws.proofs.Common.{◌≡◌, ◌≢◌, ℕ, suc, ◌+◌, ◌≤◌, ◌⊎◌, inl, inr, Bool, true, false, eqb, ltb, List, [], ◌∷◌, ◌++◌, Option, Some, None, length, refl, ap, sym, ◌∙◌, arith, length-append, ◌-◌, ◌*◌, ◌<◌, not, replicate, filter, filter-append, cases_Bool, cases_eq, false≢true, eq-eqb, ne_eqb, eqb-false, ltb-false, not_from_false, State, frame_at, has_frame, path_in, AllBelow, parent_of, with_state, children_of, values_of, IsNextFrame, IsTree, goes_under, aborted, frames_without, new_frame, is_child_of, Each, AreAlike, there-found, found-serial, found-path, frame_at-push, frame_at_other-push, tree-rising, each-found, found-each, children-by-paths, found-there, found-ends, filter-found, frame_at-stays, AllBelow-filter, tree-aborted, tree-without, tree-without_job, tree-push, children_of-push, tree-with_state, frame_at_other-with_state, children_of-with_state, tree-new_frame, new-frame-next, parent_of-path_under, AllBelow-alike, path_in-alike, with_state-alike, values_of-with_state, Job, Live, Tree, has_child, is_live_at, with_frame_words, with_ended, Tenant, charged_for, is_root, Neither, mark_of_state, AreMarkedChildless, live_count, AreRootsLive, IsRootThere, AreLiveRootsThere, HaveWords, IsShaped, length-replicate, charge, padded, EndsIn, AllBelow-append, has_frame-above, path_in-left, path_in-right, counted, in_state, holding, opened, ended, frame_at_other-without}
+use Rattle.sched_laws.proofs.Common.{◌≡◌, ◌≢◌, ℕ, suc, ◌+◌, ◌≤◌, ◌⊎◌, inl, inr, Bool, true, false, eqb, ltb, List, [], ◌∷◌, ◌++◌, Option, Some, None, length, refl, ap, sym, ◌∙◌, arith, length-append, ◌-◌, ◌*◌, ◌<◌, not, replicate, filter, filter-append, cases_Bool, cases_eq, false≢true, eq-eqb, ne_eqb, eqb-false, ltb-false, not_from_false, State, frame_at, has_frame, path_in, AllBelow, parent_of, with_state, children_of, values_of, IsNextFrame, IsTree, goes_under, aborted, frames_without, new_frame, is_child_of, Each, AreAlike, there-found, found-serial, found-path, frame_at-push, frame_at-other-push, tree-rising, each-found, found-each, children-by-paths, found-there, found-ends, filter-found, frame_at-stays, AllBelow-filter, tree-aborted, tree-without, tree-without_job, tree-push, children_of-push, tree-with_state, frame_at-other-with_state, children_of-with_state, tree-new_frame, new-frame-next, parent_of-path_under, AllBelow-alike, path_in-alike, with_state-alike, values_of-with_state, Job, Live, Tree, has_child, is_live_at, with_frame_words, with_ended, Tenant, charged_for, is_root, Neither, mark_of_state, AreMarkedChildless, live_count, AreRootsLive, IsRootThere, AreLiveRootsThere, HaveWords, IsShaped, length-replicate, charge, padded, EndsIn, AllBelow-append, has_frame-above, path_in-left, path_in-right, counted, in_state, holding, opened, ended, frame_at-other-without}
 use Rattle.sched_laws.proofs.Holds.{found-same, children_of-with_frame_words, length-with_frame_words, with_frame_words-alike, tree-with_frame_words, charged-one, charged-with_frame_words, charged-append, charged-filter, charged-values, F, found-with_state}
 
 -- a frame that computes or has returned has no child in this tree
@@ -61,7 +61,7 @@ module _ (n : ℕ) (state : State) (tree : Tree) (t : IsTree tree) where
       at s f is = elim (cases_eq n s) [
         | inl same ↦ (let g = found-with_state n state tree f (ap (frame_at (with_state n state tree)) same ∙ is) in
             rw (← g.2) (own g.0 (found-serial tree n g.0 g.1) ok))
-        | inr other ↦ keep f (childless-at tree s f all (sym (frame_at_other-with_state n state tree s other) ∙ is))
+        | inr other ↦ keep f (childless-at tree s f all (sym (frame_at-other-with_state n state tree s other) ∙ is))
       ]
 
 pub childless-from : (new : Tree) → IsTree new → ((s : ℕ) (f : F) → frame_at new s ≡ Some f → IsMarkedChildless new f) → AreMarkedChildless new new
@@ -104,7 +104,7 @@ childless-push tree y t next new free all = childless-from (tree ++ y ∷ []) (t
     at : (s : ℕ) (f : F) → frame_at (tree ++ y ∷ []) s ≡ Some f → IsMarkedChildless (tree ++ y ∷ []) f
     at s f is = elim (cases_eq y.serial s) [
       | inl same ↦ grind (arith, frame_at-push)
-      | inr other ↦ old s f (sym (frame_at_other-push tree y s other) ∙ is)
+      | inr other ↦ old s f (sym (frame_at-other-push tree y s other) ∙ is)
     ]
 
 -- fewer frames
@@ -335,7 +335,7 @@ module _ (p : ℕ) where
       stays r other is =
           let cut = aborted p tenant.frames in
           let f = there-found cut r (path-there cut r is) in
-          found-path (frames_without p cut) r f.0 (frame_at_other-without p cut r (λ e. other (sym e)) ∙ f.1) ∙ sym (found-path cut r f.0 f.1) ∙ is
+          found-path (frames_without p cut) r f.0 (frame_at-other-without p cut r (λ e. other (sym e)) ∙ f.1) ∙ sym (found-path cut r f.0 f.1) ∙ is
 
       gone : (xs : Tree) → has_frame (frames_without p xs) p ≡ false
       gone [] = refl

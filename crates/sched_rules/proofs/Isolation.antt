@@ -20,7 +20,7 @@ use Rattle.tenant_quota.specs.Quota.{Quota, IsNotAbove}
 use Rattle.tenant_quota.specs.Reservations.{Reservations, IsFull, IsBeyond}
 use Rattle.sched_rules.specs.Cores.{CoreState, tenant_in, meets_busy, unless_busy, step_result, step_among, newest_after, shared_with, is_full, is_beyond, unless_beyond, reserved_by, reservations_in}
 use Rattle.sched_rules.specs.Headline.{IsAnswerTo, IsAnswerToAdmit, IsAnswerToStep, after_answer, after_answers, AreAnswersTo, taken_steps, own_answers, IsUndisturbed, IsHeadline, AreNumbersGiven, is_admission}
-use Rattle.sched_rules.proofs.Tenants.{tenant_in-with_outcome, tenant_in_other-with_outcome, taken-with_outcome, taken-above, tenant_in-new, known-number}
+use Rattle.sched_rules.proofs.Tenants.{tenant_in-with_outcome, tenant_in-other-with_outcome, taken-with_outcome, taken-above, tenant_in-new, known-number}
 
 -- a taken step: what it came to, among all and alone
 pub record IsTaken {I A : Type 0} (functions : Functions I A) (before : CoreState) (step : StepOf A) (did : DidOf I) : Type 0 where
@@ -201,7 +201,7 @@ undisturbed functions before (step ∷ steps) (Ok did ∷ answers) number known 
     let own = tenant_in before.tenants number in
     let after = tenant_in (after_answer functions before step (Ok did)).tenants number in
     let mine : tenant_of step ≡ number → after ≡ state_after own (lone functions own step) = λ e. rw is (mine-after functions before step did t number e) in
-    let others : tenant_of step ≢ number → after ≡ own = λ ne. rw is (tenant_in_other-with_outcome number (tenant_of step) t.outcome.0 before.tenants ne) in
+    let others : tenant_of step ≢ number → after ≡ own = λ ne. rw is (tenant_in-other-with_outcome number (tenant_of step) t.outcome.0 before.tenants ne) in
     record {
       state = rest.state ∙ run-on functions number step (taken_steps steps answers) own after mine others;
       replies = replies-on functions number step steps answers did own after mine others (λ e. mine-answers functions before step did t number e) rest.replies;

@@ -12,25 +12,25 @@ pub tenant_in-with_tenant : (n : ℕ) (t : Tenant) (es : Entries) → tenant_in 
 tenant_in-with_tenant n t [] = grind (arith, nat_tests)
 tenant_in-with_tenant n t (e ∷ es) = grind (arith, nat_tests, tenant_in-with_tenant n t es)
 
-pub tenant_in_other-with_tenant : (m n : ℕ) (t : Tenant) (es : Entries) → n ≢ m → tenant_in (with_tenant n t es) m ≡ tenant_in es m
-tenant_in_other-with_tenant m n t [] other = grind (arith, nat_tests)
-tenant_in_other-with_tenant m n t (e ∷ es) other = grind (arith, nat_tests, tenant_in_other-with_tenant m n t es other)
+pub tenant_in-other-with_tenant : (m n : ℕ) (t : Tenant) (es : Entries) → n ≢ m → tenant_in (with_tenant n t es) m ≡ tenant_in es m
+tenant_in-other-with_tenant m n t [] other = grind (arith, nat_tests)
+tenant_in-other-with_tenant m n t (e ∷ es) other = grind (arith, nat_tests, tenant_in-other-with_tenant m n t es other)
 
 pub tenant_in-without_tenant : (n : ℕ) (es : Entries) → tenant_in (without_tenant n es) n ≡ None
 tenant_in-without_tenant n [] = refl
 tenant_in-without_tenant n (e ∷ es) = grind (arith, nat_tests, tenant_in-without_tenant n es)
 
-pub tenant_in_other-without_tenant : (m n : ℕ) (es : Entries) → n ≢ m → tenant_in (without_tenant n es) m ≡ tenant_in es m
-tenant_in_other-without_tenant m n [] other = refl
-tenant_in_other-without_tenant m n (e ∷ es) other = grind (arith, nat_tests, tenant_in_other-without_tenant m n es other)
+pub tenant_in-other-without_tenant : (m n : ℕ) (es : Entries) → n ≢ m → tenant_in (without_tenant n es) m ≡ tenant_in es m
+tenant_in-other-without_tenant m n [] other = refl
+tenant_in-other-without_tenant m n (e ∷ es) other = grind (arith, nat_tests, tenant_in-other-without_tenant m n es other)
 
 pub tenant_in-with_outcome : (n : ℕ) (t : Option Tenant) (es : Entries) → tenant_in (with_outcome n t es) n ≡ t
 tenant_in-with_outcome n None es = tenant_in-without_tenant n es
 tenant_in-with_outcome n (Some t) es = tenant_in-with_tenant n t es
 
-pub tenant_in_other-with_outcome : (m n : ℕ) (t : Option Tenant) (es : Entries) → n ≢ m → tenant_in (with_outcome n t es) m ≡ tenant_in es m
-tenant_in_other-with_outcome m n None es other = tenant_in_other-without_tenant m n es other
-tenant_in_other-with_outcome m n (Some t) es other = tenant_in_other-with_tenant m n t es other
+pub tenant_in-other-with_outcome : (m n : ℕ) (t : Option Tenant) (es : Entries) → n ≢ m → tenant_in (with_outcome n t es) m ≡ tenant_in es m
+tenant_in-other-with_outcome m n None es other = tenant_in-other-without_tenant m n es other
+tenant_in-other-with_outcome m n (Some t) es other = tenant_in-other-with_tenant m n t es other
 
 -- numbers that were taken stay so
 pub taken-with_tenant : (newest n : ℕ) (t : Tenant) (es : Entries) → n ≤ newest → AreNumbersTaken newest es → AreNumbersTaken newest (with_tenant n t es)

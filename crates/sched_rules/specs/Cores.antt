@@ -1,5 +1,5 @@
 -- Meaning: a core of several tenants: an admission among them, a worker that is busy elsewhere, and what each step is answered.
-use Rattle.std.specs.Prelude.{ℕ, ◌+◌, ◌^◌, Bool, false, not, ◌||◌, ◌&&◌, ◌==◌, nat_lt, nat_le, List, [], ◌∷◌, Option, Some, None, Result, Ok, Err, if◌then◌else◌, length, IsTrue}
+use Rattle.std.specs.Prelude.{ℕ, ◌+◌, ◌^◌, Bool, false, not, ◌||◌, ◌&&◌, ◌==◌, nat_lt, nat_le, List, [], ◌∷◌, Option, Some, None, Result, Ok, Err, if◌then◌else◌, length}
 use Rattle.tenant_quota.specs.Quota.{Quota}
 use Rattle.tenant_quota.specs.Accounts.{reserved_segments, reserved_nodes}
 use Rattle.tenant_quota.specs.Reservations.{Reservations}
@@ -54,10 +54,6 @@ abbrev pub is_busy_elsewhere : ℕ → ℕ → List (ℕ × Tenant) → Bool
 is_busy_elsewhere worker number [] = false
 is_busy_elsewhere worker number (entry ∷ entries) =
     (not (entry.0 == number) && is_busy_in worker entry.1.frames) || is_busy_elsewhere worker number entries
-
--- the worker runs or computes a frame of a tenant other than this one, as a fact
-abbrev pub IsBusyElsewhere : ℕ → ℕ → List (ℕ × Tenant) → Type 0
-IsBusyElsewhere worker number entries = IsTrue (is_busy_elsewhere worker number entries)
 
 -- whether a step needs a free worker (Take, Steal, Inlet and Finish do) and its worker is busy elsewhere
 abbrev pub meets_busy : {A : Type 0} → StepOf A → List (ℕ × Tenant) → Bool

@@ -8,8 +8,8 @@ use Rattle.sched_store.proofs.Common.{cases_eq, ne_eqb, leb-false, ltb-false, or
 use Rattle.sched_store.proofs.Common.{reserved_by, is_beyond, owner_of_account, account_of, fresh, with_new, raised_to, IsStored, IsAccountFor}
 use Rattle.sched_store.proofs.Common.{AreFramesNodes, numbers_in, AreAtMost, frame_in_trees, node_of, Reservations, IsSoundBook, HasRoom, Admits}
 use Rattle.sched_store.proofs.Common.{KeepsOtherAccounts, HasRoomFor, CanRaise, Raises, empty_of}
-use Rattle.number_index.proofs.Edits.{said-inserted_own, said-inserted_other}
-use Rattle.sched_store.proofs.Lookups.{within-reserve, Frames, Trees, Owns, none_or_some, Entries, reservations-found, tenant-found, length-numbers, numbers-inserted, no-ledger}
+use Rattle.number_index.proofs.Edits.{said-inserted-own, said-inserted-other}
+use Rattle.sched_store.proofs.Lookups.{within-reserve, Frames, Trees, Owns, none-or-some, Entries, reservations-found, tenant-found, length-numbers, numbers-inserted, no-ledger}
 use Rattle.std.proofs.lemmas.Bool.Decides.{nat_tests}
 use Rattle.std.proofs.lemmas.List.Folds.{sum_by-replicate}
 use Rattle.sched_rules.specs.Lone.{is_lower}
@@ -142,9 +142,9 @@ module _ (parts : Parts) (trees : Trees) (ledger : JobLedger) (book : Reservatio
       let first : ledger.0 ≡ number = ap (λ (l : JobLedger). l.0) is.ledger_is in
       let none : ledger.1 ≡ [] = ap (λ (l : JobLedger). l.1) is.ledger_is in
       let others : SameOthers parts after number =
-      λ other a differs. rw (said-inserted_other owner_of_ledger (λ (l : JobLedger). l.1) [] other ledger parts.ledgers (λ e. differs (sym e ∙ first)), frames other) refl in
+      λ other a differs. rw (said-inserted-other owner_of_ledger (λ (l : JobLedger). l.1) [] other ledger parts.ledgers (λ e. differs (sym e ∙ first)), frames other) refl in
       let missing = no-ledger number parts.ledgers parts.book.accounts stored.ledgers (newer-missing parts.newest number parts.book.accounts stored.taken is.newer) in
-      let jobs : jobs_of (inserted owner_of_ledger ledger parts.ledgers) number ≡ [] = ap (jobs_of (inserted owner_of_ledger ledger parts.ledgers)) (sym first) ∙ said-inserted_own owner_of_ledger (λ (l : JobLedger). l.1) [] ledger parts.ledgers (ap (λ (n : ℕ). is_there n parts.ledgers) first ∙ missing) ∙ none in
+      let jobs : jobs_of (inserted owner_of_ledger ledger parts.ledgers) number ≡ [] = ap (jobs_of (inserted owner_of_ledger ledger parts.ledgers)) (sym first) ∙ said-inserted-own owner_of_ledger (λ (l : JobLedger). l.1) [] ledger parts.ledgers (ap (λ (n : ℕ). is_there n parts.ledgers) first ∙ missing) ∙ none in
       let mine : tenant_from after number (fresh quota) ≡ admitted_with quota = rw (jobs, is.frames) refl in
       let tenants = tenants-pushed parts after parts.newest number (fresh quota) parts.book.accounts stored.taken is.newer others ∙ ap (λ (t : Tenant). tenants_from parts parts.book.accounts ++ (number, t) ∷ []) mine in
       let whole = ap (tenants_from after) accounts-after ∙ tenants in
@@ -174,7 +174,7 @@ pub record CanBeRaised (parts : Parts) (number : ℕ) (quota : Quota) : Type 0 w
 
 pub can-be-raised : (parts : Parts) (number : ℕ) (quota : Quota) {core : CoreState} → IsStored parts → shared_of parts ≡ core → IsAboveOwn (tenant_in core.tenants number) quota →
     is_beyond (reservations_in core) (reserved_by (tenant_in core.tenants number)) quota ≡ false → CanBeRaised parts number quota
-can-be-raised parts number quota stored is own_above own_room = grind (arith, none_or_some (account_of number parts.book.accounts), tenant-found, not-lower, not-beyond, reservations-found, within-reserve)
+can-be-raised parts number quota stored is own_above own_room = grind (arith, none-or-some (account_of number parts.book.accounts), tenant-found, not-lower, not-beyond, reservations-found, within-reserve)
 
 -- so the book allows it
 pub book-raises : (parts : Parts) (number : ℕ) (quota : Quota) → CanBeRaised parts number quota → CanRaise parts.book number quota

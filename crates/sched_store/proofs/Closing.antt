@@ -16,23 +16,23 @@ abbrev pub closed : (Frame ℕ → Bool) → Frames → List ℕ
 closed keep frames = values_of (filter (λ frame. not (keep frame)) frames)
 
 module _ (m n : ℕ) (numbers : List ℕ) where
-  contains_first : m ≡ n → Contains (m ∷ numbers) n
-  contains_first same = (0, omega arith, same)
+  contains-first : m ≡ n → Contains (m ∷ numbers) n
+  contains-first same = (0, omega arith, same)
 
-  contains_later : Contains numbers n → Contains (m ∷ numbers) n
-  contains_later among = (suc among.0, omega (arith, among.1), among.2)
+  contains-later : Contains numbers n → Contains (m ∷ numbers) n
+  contains-later among = (suc among.0, omega (arith, among.1), among.2)
 
 -- the node of a frame that goes is among them
 pub gone-listed : (keep : Frame ℕ → Bool) (frames : Frames) (serial : ℕ) (frame : Frame ℕ) → frame_at frames serial ≡ Some frame → keep frame ≡ false → Contains (closed keep frames) frame.value
 gone-listed keep [] serial frame at goes = absurd cc
 gone-listed keep (x ∷ xs) serial frame at goes =
     elim (cases_Bool (eqb x.serial serial)) [
-      | inl same ↦ grind (arith, contains_first)
+      | inl same ↦ grind (arith, contains-first)
       | inr other ↦ (
           let later = gone-listed keep xs serial frame (rw other at at) goes in
           elim (cases_Bool (keep x)) [
             | inl stays ↦ rw stays later
-            | inr out ↦ rw out (contains_later x.value frame.value (closed keep xs) later)
+            | inr out ↦ rw out (contains-later x.value frame.value (closed keep xs) later)
           ])
     ]
 
@@ -163,7 +163,7 @@ module _ (nodes : Nodes) (trees after : Trees) (number : ℕ) (keep : Frame ℕ 
 
   -- frames and open nodes still belong to one another
   pub cut-belongs : AreFramesNodes (without nodes (closing trees number keep)) after
-  cut-belongs = record { nodes_of_frames = belongs; once = once; no_other = no_other }
+  cut-belongs = record { nodes_of_frames = belongs; once = once; no_other = no-other }
     where
       numbers : List ℕ
       numbers = closing trees number keep
@@ -186,8 +186,8 @@ module _ (nodes : Nodes) (trees after : Trees) (number : ℕ) (keep : Frame ℕ 
       once owner serial other_owner other_serial node these those =
           belong.once owner serial other_owner other_serial node (was-there owner serial node these) (was-there other_owner other_serial node those)
 
-      no_other : (node : ℕ) → IsOpen (without nodes numbers) node → HasFrame after node
-      no_other node open_still =
+      no-other : (node : ℕ) → IsOpen (without nodes numbers) node → HasFrame after node
+      no-other node open_still =
           let has = belong.no_other node (still-open nodes numbers node (node_at nodes node) refl open_still) in
           let found = node-frame (frame_in_trees trees has.number has.serial) node has.there in
           elim (stays-or-closed trees after number keep is has.number has.serial found.0 found.1.0) [

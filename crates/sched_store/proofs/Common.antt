@@ -12,7 +12,7 @@ pub use Rattle.cactus_stack.specs.Nodes.{HasAllChildren, HasNoChild, IsOpen, IsS
 pub use Rattle.cactus_stack.specs.Nodes.{node_parent, node_words, padded, parent_of_node, total_charge, with_node, with_node_words, without, words_of_node}
 pub use Rattle.frame_tree.proofs.TreeChanges.{AllBelow-filter, child-further-under, filter-found, frame_at-stays, tree-aborted, tree-without}
 pub use Rattle.frame_tree.proofs.TreeLaws.{IsPlaced, IsTop, IsUnder, above-missing, below-found, children-by-paths, found-each, found-path, found-serial}
-pub use Rattle.frame_tree.proofs.TreeLaws.{found-there, frame_at-left, frame_at-push, frame_at_other-push, placed, there-found, tree-induction, tree-rising}
+pub use Rattle.frame_tree.proofs.TreeLaws.{found-there, frame_at-left, frame_at-push, frame_at-other-push, placed, there-found, tree-induction, tree-rising}
 pub use Rattle.frame_tree.proofs.TreeLaws.{under-there}
 pub use Rattle.frame_tree.specs.Frames.{AllBelow, Frame, HasValue, IsReadyAt, IsTree, TenantTree, aborted, children_of, entry_of_frame, first_of_two, frame_at}
 pub use Rattle.frame_tree.specs.Frames.{frames_under, frames_without, goes_under, has_frame, has_parent, name_of, names_of, new_frame, newest_ready_of}
@@ -30,7 +30,7 @@ pub use Rattle.sched_rules.specs.Trees.{is_root, job_at, job_under, number_from,
 pub use Rattle.sched_rules.specs.Views.{left_in_core, live_of, ready_count, words_of_frame}
 pub use Rattle.sched_rules.specs.declared.job.Job.{Job}
 pub use Rattle.sched_rules.specs.declared.job.Job.TheVariants.{Cancelled, Done, Live, Spent}
-pub use Rattle.tenant_quota.proofs.Edits.{AllEntries-map, AllEntries-of, sum_by-le_with}
+pub use Rattle.tenant_quota.proofs.Edits.{AllEntries-map, AllEntries-of, sum_by-le-with}
 pub use Rattle.tenant_quota.specs.Accounts.{AllEntries, IsRising, IsWithinReserve, account_of, charged_by, charged_segments, credited_by, fresh, left_in}
 pub use Rattle.tenant_quota.specs.Accounts.{owner_of_account, raised_to, reserved_segments, ticked, with_changed, with_new}
 pub use Rattle.tenant_quota.specs.Quota.{IsAbove, Quota}

@@ -6,7 +6,7 @@ use Rattle.sched_store.proofs.Common.{Tenant, charged_for, CoreState, without_te
 use Rattle.sched_store.proofs.Common.{without_ledger, Parts, with_words_of_nodes, tenants_from, shared_of, IsStored, IsAccountFor, numbers_in}
 use Rattle.sched_store.proofs.Common.{AreAtMost, remove_by_number}
 use Rattle.tenant_quota.specs.Accounts.{owner_of_account, account_of, without as without_account, AllEntries, IsRising, charged_segments}
-use Rattle.number_index.proofs.Edits.{said-without_other, all-without}
+use Rattle.number_index.proofs.Edits.{said-without-other, all-without}
 use Rattle.sched_store.proofs.Steps.{SameOthers}
 use Rattle.sched_store.proofs.Lookups.{within-reserve, Frames, Trees, tree_in, Owns, numbers-without}
 use Rattle.sched_store.proofs.Closing.{IsCut, closed, closing, cut-belongs, cut-sized, cut-places, cut-words, cut-trees, TakesChildren, closing-open, closing-once, closing-children, cut-frees}
@@ -149,7 +149,7 @@ module _ (parts : Parts) (nodes : Nodes) (trees : Trees) (ledgers : List JobLedg
       let after = departed parts nodes trees ledgers book in
       let others : SameOthers parts after number =
       λ other a differs. (
-      let jobs : jobs_of ledgers other ≡ jobs_of parts.ledgers other = ap (λ (ls : List JobLedger). jobs_of ls other) is.jobs ∙ said-without_other owner_of_ledger (λ (l : JobLedger). l.1) [] other number parts.ledgers (λ e. differs (sym e)) in
+      let jobs : jobs_of ledgers other ≡ jobs_of parts.ledgers other = ap (λ (ls : List JobLedger). jobs_of ls other) is.jobs ∙ said-without-other owner_of_ledger (λ (l : JobLedger). l.1) [] other number parts.ledgers (λ e. differs (sym e)) in
       rw (jobs, leave-words other differs) refl) in
       let tenants = tenants-without parts after number parts.book.accounts stored.book.rising others in
       rw is.released.whole (ap (λ (entries : List (ℕ × Tenant)). with-entries entries) tenants)

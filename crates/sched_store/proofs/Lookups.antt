@@ -50,9 +50,9 @@ with_words parts o = option_map (map_value (node_words parts.nodes)) o
 abbrev pub Owns : Parts → ℕ → Account → Type 0
 Owns parts number account = account_of number parts.book.accounts ≡ Some account
 
-pub none_or_some : {A : Type 0} (o : Option A) → (o ≡ None) ⊎ ((a : A) × (o ≡ Some a))
-none_or_some None = inl refl
-none_or_some (Some a) = inr (a, refl)
+pub none-or-some : {A : Type 0} (o : Option A) → (o ≡ None) ⊎ ((a : A) × (o ≡ Some a))
+none-or-some None = inl refl
+none-or-some (Some a) = inr (a, refl)
 
 -- what is true of each account, along the list of accounts
 pub lower-missing : (number : ℕ) (entries : List (ℕ × Account)) → AllEntries (λ later. number < later.0) entries → account_of number entries ≡ None
@@ -141,7 +141,7 @@ module _ (parts : Parts) (stored : IsStored parts) where
   -- its jobs are those of its ledger
 
   pub jobs-found : (number : ℕ) → jobs_in (shared_of parts) number ≡ jobs_of parts.ledgers number
-  jobs-found number = ap jobs_kept (tenant-found parts number) ∙ elim (none_or_some (account_of number parts.book.accounts)) [
+  jobs-found number = ap jobs_kept (tenant-found parts number) ∙ elim (none-or-some (account_of number parts.book.accounts)) [
     | inl none ↦ rw none (sym (said-lacks owner_of_ledger (λ (l : JobLedger). l.1) [] number parts.ledgers (no-ledger number parts.ledgers parts.book.accounts stored.ledgers none)))
     | inr own ↦ rw own.1 refl
   ]
@@ -303,7 +303,7 @@ module _ (parts : Parts) (stored : IsStored parts) where
 -- a frame that is there
 module _ (parts : Parts) (stored : IsStored parts) (name : FrameId) (is : IsSome (named (shared_of parts) name)) where
   pub there-frame : (frame : Frame ℕ) × (framed parts name ≡ Some frame)
-  there-frame = elim (none_or_some (framed parts name)) [
+  there-frame = elim (none-or-some (framed parts name)) [
     | inl none ↦ absurd (false≢true (rw (named-found parts stored name ∙ ap (with_words parts) none) at is))
     | inr found ↦ found
   ]

@@ -5,7 +5,7 @@ use Rattle.sched_store.proofs.Common.{shared_of, cases_eq, false≢true, and_par
 use Rattle.sched_store.proofs.Common.{length-append, length-replicate, charged_by, charged_segments, left_in, Reservations, ChangesOnly}
 use Rattle.sched_store.proofs.Common.{IsSoundBook, opened_of, frames_of, KeepsOtherFrames, places_of, IsParentIn, serial_of, IsStored, AreFramesNodes, AreSized}
 use Rattle.sched_store.proofs.Common.{frame_in_trees, node_of, node_above, Frame, frame_at, has_parent, parent_of, path_under, AllBelow, IsTree}
-use Rattle.sched_store.proofs.Common.{new_frame, name_of, found-there, below-found, frame_at-push, frame_at_other-push, frame_at-left}
+use Rattle.sched_store.proofs.Common.{new_frame, name_of, found-there, below-found, frame_at-push, frame_at-other-push, frame_at-left}
 use Rattle.sched_store.proofs.Common.{under-there, there-found, Nodes, Node, node_at, node_words, words_of_node, parent_of_node as node_parent_of, with_node}
 use Rattle.sched_store.proofs.Common.{IsOpen, IsUnused, padded, charge, charge_of, total_charge}
 use Rattle.frame_tree.proofs.TreeValues.{tree-new_frame, parent_of-path_under, append-map_values, path_in-map_values, has_frame-map_values}
@@ -14,7 +14,7 @@ use Rattle.std.proofs.lemmas.List.Sums.{sum_by-set}
 use Rattle.sched_store.proofs.Words.{with_words_of_nodes-same}
 use Rattle.sched_store.proofs.States.{charged-cons}
 use Rattle.sched_store.proofs.Steps.{TenantStep, other-tenants, Stepped, stepped, left-account}
-use Rattle.sched_store.proofs.Lookups.{Frames, Trees, each-frame, tree_in, Owns, none_or_some, frames-found, tenant-found}
+use Rattle.sched_store.proofs.Lookups.{Frames, Trees, each-frame, tree_in, Owns, none-or-some, frames-found, tenant-found}
 
 -- what is opened: the tenant's next serial, under a parent, with these words
 pub record OpensFrame (old : Parts) (nodes : Nodes) (trees : Trees) (book : Reservations) (number : ℕ) (parent : Option ℕ) (above : Option ℕ) (words : List ℕ) (size home node : ℕ) (account : Account) : Type 0 where
@@ -59,7 +59,7 @@ module _ (nodes : Nodes) (n : ℕ) where
 module _ (old new : Trees) (added : Frame ℕ) (number : ℕ) (frames : frames_of new number ≡ frames_of old number ++ added ∷ []) where
   added-cases : KeepsOtherFrames old new number → AllBelow added.serial (frames_of old number) → (m s : ℕ) →
       ((m ≡ number) × (s ≡ added.serial)) ⊎ (frame_in_trees new m s ≡ frame_in_trees old m s)
-  added-cases kept above m s = grind (arith, frame_at_other-push)
+  added-cases kept above m s = grind (arith, frame_at-other-push)
 
   added-here : AllBelow added.serial (frames_of old number) → frame_in_trees new number added.serial ≡ Some added
   added-here above = rw frames (frame_at-push (frames_of old number) added above)
@@ -77,7 +77,7 @@ above-kept frames others None there = refl
 above-kept frames others (Some p) there = ap node_of (frame_at-left frames others p there)
 
 above-there : (frames : Frames) (serial : ℕ) (frame : Frame ℕ) → IsTree frames → frame_at frames serial ≡ Some frame → has_parent frames (parent_of frame.path) ≡ true
-above-there frames serial frame tree there = elim (none_or_some (parent_of frame.path)) [
+above-there frames serial frame tree there = elim (none-or-some (parent_of frame.path)) [
   | inl none ↦ rw none refl
   | inr own ↦ rw own.1 (under-there frames serial own.0 frame tree there own.1)
 ]

@@ -7,9 +7,9 @@ use Rattle.sched_store.proofs.Common.{with_words_of_nodes, tenants_from, shared_
 use Rattle.sched_store.proofs.Common.{frame_in_trees, AreFramesNodes, ArePlaces, node_of, node_above, cases_Bool, true≢false, false≢true, eq-eqb, eqb-true}
 use Rattle.sched_store.proofs.Common.{or_cases, or_left, or_right, false_from_ne_true, cases_eq}
 use Rattle.sched_rules.specs.Views.{named}
-use Rattle.sched_store.proofs.Lookups.{Frames, Trees, family, framed, tree_in, with_words, entry_in, Owns, none_or_some, named-found, found, nothing-found, there-frame}
+use Rattle.sched_store.proofs.Lookups.{Frames, Trees, family, framed, tree_in, with_words, entry_in, Owns, none-or-some, named-found, found, nothing-found, there-frame}
 use Rattle.frame_tree.specs.declared.names.State.{State}
-use Rattle.frame_tree.proofs.TreeValues.{tree-with_state, with_state-alike, AllBelow-alike, with_state-map_values, frame_at-with_state, frame_at_other-with_state}
+use Rattle.frame_tree.proofs.TreeValues.{tree-with_state, with_state-alike, AllBelow-alike, with_state-map_values, frame_at-with_state, frame_at-other-with_state}
 use Rattle.sched_rules.specs.Lone.{in_state}
 use Rattle.sched_store.proofs.Steps.{TenantStep, other-tenants, changed-nothing, Stepped, stepped}
 
@@ -26,7 +26,7 @@ entries-busy parts (entry ∷ entries) worker number account there busy = grind 
 module _ (parts : Parts) (stored : IsStored parts) where
   -- a tenant with a frame has an account
   pub frame-account : (number serial : ℕ) (frame : Frame ℕ) → frame_in_trees parts.trees number serial ≡ Some frame → (a : Account) × (Owns parts number a)
-  frame-account number serial frame there = elim (none_or_some (account_of number parts.book.accounts)) [
+  frame-account number serial frame there = elim (none-or-some (account_of number parts.book.accounts)) [
     | inl none ↦ absurd (let found = rw (stored.nothing number none) at there in cc found)
     | inr own ↦ own
   ]
@@ -86,7 +86,7 @@ pub record HeldThere (parts : Parts) (worker : ℕ) (name : FrameId) : Type 0 wh
 
 module _ (parts : Parts) (stored : IsStored parts) (worker : ℕ) where
   pub holds-there : (name : FrameId) → holds worker (named (shared_of parts) name) ≡ true → HeldThere parts worker name
-  holds-there name held = elim (none_or_some (framed parts name)) [
+  holds-there name held = elim (none-or-some (framed parts name)) [
     | inl none ↦ absurd (false≢true (rw (named-found parts stored name ∙ ap (with_words parts) none) at held))
     | inr found ↦ record { frame = found.0; there = found.1; held = sym (holds-found parts stored worker name found.0 found.1) ∙ held }
   ]
@@ -174,7 +174,7 @@ pub record SetsState (old new : Trees) (name : FrameId) (state : State) : Type 0
 -- either it is this frame, or it is as it was
 pub state-cases : (old new : Trees) (name : FrameId) (state : State) → SetsState old new name state → (number serial : ℕ) →
     ((number ≡ name.tenant) × (serial ≡ name.serial)) ⊎ (frame_in_trees new number serial ≡ frame_in_trees old number serial)
-state-cases old new name state sets number serial = grind (arith, frame_at_other-with_state)
+state-cases old new name state sets number serial = grind (arith, frame_at-other-with_state)
 
 module _ (old new : Trees) (name : FrameId) (state : State) (frame : Frame ℕ) (sets : SetsState old new name state)
     (there : frame_in_trees old name.tenant name.serial ≡ Some frame) where

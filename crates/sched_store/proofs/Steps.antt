@@ -8,11 +8,11 @@ use Rattle.sched_store.proofs.Common.{KeepsOtherTenants, Reservations, changed, 
 use Rattle.sched_store.proofs.Common.{tenants_from, shared_of, jobs_of, numbers_of, JobLedger, owner_of_ledger, is_there, with_jobs, IsStored, IsAccountFor}
 use Rattle.sched_store.proofs.Common.{AreFramesNodes, AreSized, ArePlaces, numbers_in, frame_in_trees, owner_of_account, account_of, with_changed}
 use Rattle.sched_store.proofs.Common.{charged_segments, AllEntries, IsRising, ticked, left_in}
-use Rattle.number_index.proofs.Edits.{with-same, said-with_own, said-with_other, length-with, all-with}
-use Rattle.sched_store.proofs.Lookups.{within-reserve, Frames, Trees, tree_in, with_words, Owns, Entries, none_or_some, numbers-with, ledger-there, tenant-there, left-found, named-found, tenant-found}
+use Rattle.number_index.proofs.Edits.{with-same, said-with-own, said-with-other, length-with, all-with}
+use Rattle.sched_store.proofs.Lookups.{within-reserve, Frames, Trees, tree_in, with_words, Owns, Entries, none-or-some, numbers-with, ledger-there, tenant-there, left-found, named-found, tenant-found}
 use Rattle.sched_rules.specs.Lone.{counted}
-use Rattle.tenant_quota.proofs.Standing.{some_of}
-use Rattle.frame_tree.proofs.Finds.{none_of_length}
+use Rattle.tenant_quota.proofs.Standing.{some-of}
+use Rattle.frame_tree.proofs.Finds.{none-of-length}
 
 -- a number, and what is beside it changed
 abbrev with_second : {X : Type 0} → (X → X) → ℕ × X → ℕ × X
@@ -26,17 +26,17 @@ SameOthers old new number = (other : ℕ) (a : Account) → other ≢ number →
 
 account-changed : (n : ℕ) (f : Account → Account) (entries : Entries) → account_of n (with_changed n f entries) ≡ option_map f (account_of n entries)
 account-changed n f entries =
-    said-with_own owner_of_account (λ e. Some e.1) None (option_map f) n (with_second f) entries (λ e own. own) (λ e. refl) (λ lacks. refl)
+    said-with-own owner_of_account (λ e. Some e.1) None (option_map f) n (with_second f) entries (λ e own. own) (λ e. refl) (λ lacks. refl)
 
-account-changed_other : (m n : ℕ) (f : Account → Account) (entries : Entries) → m ≢ n → account_of m (with_changed n f entries) ≡ account_of m entries
-account-changed_other m n f entries differs = grind (arith, said-with_other)
+account-changed-other : (m n : ℕ) (f : Account → Account) (entries : Entries) → m ≢ n → account_of m (with_changed n f entries) ≡ account_of m entries
+account-changed-other m n f entries differs = grind (arith, said-with-other)
 
 -- a change that changes nothing
 pub changed-nothing : (book : Reservations) (n : ℕ) → book ≡ changed book n (λ a. a)
-changed-nothing book n = ap (λ (entries : Entries). at_entries entries) (sym (with-same owner_of_account n book.accounts))
+changed-nothing book n = ap (λ (entries : Entries). at-entries entries) (sym (with-same owner_of_account n book.accounts))
   where
-    at_entries : Entries → Reservations
-    at_entries entries = record book { accounts = entries }
+    at-entries : Entries → Reservations
+    at-entries entries = record book { accounts = entries }
 
 -- a table that keeps all places
 pub other-tenants : {old new : Trees} {number : ℕ} → KeepsOtherFrames old new number → KeepsOtherTenants old new number
@@ -67,7 +67,7 @@ module _ (old new : Parts) (number : ℕ) where
   account-after f account step = grind (arith, account-changed)
 
   other-after : (f : Account → Account) (account : Account) → TenantStep old new number f account → (other : ℕ) → other ≢ number → account_of other new.book.accounts ≡ account_of other old.book.accounts
-  other-after f account step other differs = grind (arith, account-changed_other)
+  other-after f account step other differs = grind (arith, account-changed-other)
 
   keeps-account : (other : ℕ) (account : Account) → KeepsOtherTenants old.trees new.trees number → other ≢ number →
       with_words_of_nodes new.nodes (frames_of old.trees other) ≡ tree_in old other →
@@ -142,10 +142,10 @@ step-shared old new number f account change stored step own =
     λ other a differs. rw (step.jobs other differs, step.trees.frames other differs, step.words other differs) refl in
     let tenants = tenants-changed old new number f change old.book.accounts stored.book.rising others
     (λ a there. let same : account ≡ a = cc (step.there, there) in rw (← same) own) in
-    rw (step.newest, step.book) (ap (λ (entries : List (ℕ × Tenant)). on_entries entries) tenants)
+    rw (step.newest, step.book) (ap (λ (entries : List (ℕ × Tenant)). on-entries entries) tenants)
   where
-    on_entries : List (ℕ × Tenant) → CoreState
-    on_entries entries = record { totals = record { segments = old.book.segments; nodes = old.book.nodes }; newest = old.newest; tenants = entries }
+    on-entries : List (ℕ × Tenant) → CoreState
+    on-entries entries = record { totals = record { segments = old.book.segments; nodes = old.book.nodes }; newest = old.newest; tenants = entries }
 
 -- what such a step comes to
 pub record Stepped (old new : Parts) (number : ℕ) (change : Tenant → Tenant) : Type 0 where
@@ -162,7 +162,7 @@ stepped change stored step own = record { stored = step-stored _ _ _ _ _ stored 
 
 module _ (parts : Parts) (number : ℕ) where
   pub there-account : IsSome (tenant_in (shared_of parts).tenants number) → (a : Account) × (Owns parts number a)
-  there-account is = some_of (account_of number parts.book.accounts) (sym (tenant-there parts number) ∙ is)
+  there-account is = some-of (account_of number parts.book.accounts) (sym (tenant-there parts number) ∙ is)
 
   -- the same of a core that the parts show
   pub there-account-in : {core : CoreState} → shared_of parts ≡ core → IsSome (tenant_in core.tenants number) → (a : Account) × (Owns parts number a)
@@ -174,7 +174,7 @@ module _ (parts : Parts) (stored : IsStored parts) (number : ℕ) (P : Left → 
   book-left = let Q : Option Left → Type 0 = λ left. IsSomeAnd left P in subst Q (left-found parts stored number) is
 
   pub left-account : (a : Account) × ((Owns parts number a) × P (left_in a))
-  left-account = elim (none_or_some (account_of number parts.book.accounts)) [
+  left-account = elim (none-or-some (account_of number parts.book.accounts)) [
     | inl none ↦ absurd (rw none at book-left)
     | inr own ↦ (own.0, (own.1, rw own.1 at book-left))
   ]
@@ -198,10 +198,10 @@ module _ (old : Parts) (book : Reservations) (number : ℕ) (account : Account) 
 
 jobs-with_jobs : (n : ℕ) (change : List Job → List Job) (ledgers : List JobLedger) → is_there n ledgers ≡ true → jobs_of (with_jobs n change ledgers) n ≡ change (jobs_of ledgers n)
 jobs-with_jobs n change ledgers there =
-    said-with_own owner_of_ledger (λ (l : JobLedger). l.1) [] change n (with_second change) ledgers (λ l own. own) (λ l. refl) (λ lacks. absurd (false≢true (sym lacks ∙ there)))
+    said-with-own owner_of_ledger (λ (l : JobLedger). l.1) [] change n (with_second change) ledgers (λ l own. own) (λ l. refl) (λ lacks. absurd (false≢true (sym lacks ∙ there)))
 
-jobs_other-with_jobs : (n m : ℕ) (change : List Job → List Job) (ledgers : List JobLedger) → m ≢ n → jobs_of (with_jobs n change ledgers) m ≡ jobs_of ledgers m
-jobs_other-with_jobs n m change ledgers differs = said-with_other owner_of_ledger (λ (l : JobLedger). l.1) [] m n (with_second change) ledgers (λ e. differs (sym e)) (λ l own. own)
+jobs-other-with_jobs : (n m : ℕ) (change : List Job → List Job) (ledgers : List JobLedger) → m ≢ n → jobs_of (with_jobs n change ledgers) m ≡ jobs_of ledgers m
+jobs-other-with_jobs n m change ledgers differs = said-with-other owner_of_ledger (λ (l : JobLedger). l.1) [] m n (with_second change) ledgers (λ e. differs (sym e)) (λ l own. own)
 
 -- the tenant with its jobs changed so
 abbrev pub jobs_changed : (List Job → List Job) → Tenant → Tenant
@@ -211,7 +211,7 @@ module _ (old : Parts) (number : ℕ) (account : Account) (change : List Job →
   jobs-step : TenantStep old (record old { ledgers = with_jobs number change old.ledgers }) number (λ a. a) account
   jobs-step =
       steady-step old old.book (with_jobs number change old.ledgers) number (λ a. a) account stored there stored.book (changed-nothing old.book number) refl
-      (stored.accounts number account there) (numbers-with owner_of_ledger number (with_second change) old.ledgers (λ l. refl)) (λ other differs. jobs_other-with_jobs number other change old.ledgers differs)
+      (stored.accounts number account there) (numbers-with owner_of_ledger number (with_second change) old.ledgers (λ l. refl)) (λ other differs. jobs-other-with_jobs number other change old.ledgers differs)
 
   pub jobs-change : (ledgers : List JobLedger) → ledgers ≡ with_jobs number change old.ledgers → Stepped old (record old { ledgers = ledgers }) number (jobs_changed change)
   jobs-change ledgers is =
@@ -246,9 +246,9 @@ counted-none parts (entry ∷ entries) none tenant account there = grind (arith,
 
 -- where none is counted no tenant has one
 pub nobody-ready : (parts : Parts) → IsStored parts → ready_count (tenants_from parts parts.book.accounts) ≡ 0 → (tenant : ℕ) → ready_frames (frames_of parts.trees tenant) ≡ []
-nobody-ready parts stored none tenant = elim (none_or_some (account_of tenant parts.book.accounts)) [
+nobody-ready parts stored none tenant = elim (none-or-some (account_of tenant parts.book.accounts)) [
   | inl missing ↦ ap ready_frames (stored.nothing tenant missing)
-  | inr own ↦ none_of_length (ready_frames (frames_of parts.trees tenant)) (counted-none parts parts.book.accounts none tenant own.0 own.1)
+  | inr own ↦ none-of-length (ready_frames (frames_of parts.trees tenant)) (counted-none parts parts.book.accounts none tenant own.0 own.1)
 ]
 
 -- the words of all frames are at most 16 for each segment that is charged
@@ -288,7 +288,7 @@ module _ (parts : Parts) (stored : IsStored parts) (tenant : ℕ) where
 
   -- they are few
   pub words-few : sum_by (words_counted parts) (names_of tenant (frames_of parts.trees tenant)) ≤ 65536
-  words-few = elim (none_or_some (account_of tenant parts.book.accounts)) [
+  words-few = elim (none-or-some (account_of tenant parts.book.accounts)) [
     | inl missing ↦ (let none = ap (λ (xs : Frames). sum_by (words_counted parts) (names_of tenant xs)) (stored.nothing tenant missing) in omega (arith, none))
     | inr own ↦
         (let within = within-reserve parts stored tenant own.0 own.1 in
@@ -301,7 +301,7 @@ module _ (parts : Parts) (stored : IsStored parts) (tenant : ℕ) where
   -- what a tenant that is there has alive
   pub live-found : (count words : ℕ) → is_some (tenant_in (shared_of parts).tenants tenant) ≡ true → count ≡ length (frames_of parts.trees tenant) → words ≡ sum_by (words_counted parts) (names_of tenant (frames_of parts.trees tenant)) → Some (count, words) ≡ live_of (shared_of parts) tenant
   live-found count words some counted summed =
-      let own = some_of (account_of tenant parts.book.accounts) (sym (tenant-there parts tenant) ∙ some) in
+      let own = some-of (account_of tenant parts.book.accounts) (sym (tenant-there parts tenant) ∙ some) in
       let found = tenant-found parts tenant ∙ ap (λ (o : Option Account). option_map (tenant_from parts tenant) o) own.1 in
       let long = counted ∙ sym (length-with_words_of_nodes parts.nodes (frames_of parts.trees tenant)) in
       rw (found, long, summed ∙ words-named) refl

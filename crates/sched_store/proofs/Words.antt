@@ -1,6 +1,6 @@
 -- The stack's nodes as they come, change and go, and what they are charged.
 use Rattle.std.proofs.Common.{◌≡◌, ◌≢◌, ℕ, zero, suc, ◌<◌, ◌≤◌, ◌+◌, List, [], ◌∷◌, length, Option, Some, None, IsSome, refl, ap, arith, get_or-set_other, get_or-set_same, eqb, sym, subst, ◌∙◌, inl, inr, false, drop, get_or, add-one, drop-cons, ◌-◌, ◌++◌, replicate, Result, Ok, Err, IsOk, IsErr}
-use Rattle.sched_store.proofs.Common.{set, Account, FrameId, frames_of, on_tenant, words_under, TenantHasLeft, AllEntries-map, sum_by-le_with}
+use Rattle.sched_store.proofs.Common.{set, Account, FrameId, frames_of, on_tenant, words_under, TenantHasLeft, AllEntries-map, sum_by-le-with}
 use Rattle.sched_store.proofs.Common.{Frame, frame_at, HasValue, found-serial, tree-rising, Parts, with_words_of_nodes, shared_of}
 use Rattle.sched_store.proofs.Common.{Reservations, changed, IsSoundBook, ChangesOnly, map_value, AllAboveSerial, AreSerialsRising, Each, length-set, drop_all}
 use Rattle.sched_store.proofs.Common.{length-append, length-replicate, AreSized, IsStored, AreFramesNodes, frame_in_trees, node_of, cases_Bool}
@@ -321,7 +321,7 @@ module _ (parts : Parts) (stored : IsStored parts) where
       let own = left-account parts stored number (λ left. (segments ≤ left.segments) × (nodes ≤ left.nodes)) has in
       let within = AllEntries-map (λ e. IsWithinReserve e.1) (λ e. e.1.charged ≤ e.1.reserve.segments) (λ e w. w.charged_within) parts.book.accounts stored.book.within in
       let sums : charged_segments parts.book.accounts + (own.0.reserve.segments - own.0.charged) ≤ reserved_segments parts.book.accounts =
-      sum_by-le_with (λ e. e.1.charged) (λ e. e.1.reserve.segments) number own.0 parts.book.accounts own.1.0 within in
+      sum_by-le-with (λ e. e.1.charged) (λ e. e.1.reserve.segments) number own.0 parts.book.accounts own.1.0 within in
       let enough : segments ≤ own.0.reserve.segments - own.0.charged = own.1.1.0 in
       omega (arith, sums, enough, stored.charges, stored.segments, stored.book.segments_reserved)
 

@@ -43,27 +43,27 @@ module _ (E : El) {M : Type 1} {𝓤 : Ura M} (𝓛 : Logic 𝓤) (block : ℕ) 
   abbrev At : ℕ → Place E → Fml
   At = place_owned (R E) block
 
-  pub taken_out : (places : List (Place E)) (i byte : ℕ) → i < length places
+  pub taken-out : (places : List (Place E)) (i byte : ℕ) → i < length places
       → ent 𝓤 (sem 𝓛 (Row byte places)) (sep 𝓤 (sem 𝓛 (At (i * size + byte) (get_or places i None))) (sem 𝓛 (Others E block i byte places)))
   unfolding Others
-  taken_out [] i byte within = absurd (omega arith)
-  taken_out (place ∷ places) zero byte within = qed 𝓛 (‵ (Row byte (place ∷ places)) ∷ []) ∵
+  taken-out [] i byte within = absurd (omega arith)
+  taken-out (place ∷ places) zero byte within = qed 𝓛 (‵ (Row byte (place ∷ places)) ∷ []) ∵
       fsplit ! $ rewrite ! 0 (λ (at : ℕ). ‵ (At at place)) (first-byte size byte) refl $ done !
-  taken_out (place ∷ places) (suc i) byte within = qed 𝓛 (‵ (Row byte (place ∷ places)) ∷ []) ∵
+  taken-out (place ∷ places) (suc i) byte within = qed 𝓛 (‵ (Row byte (place ∷ places)) ∷ []) ∵
       fsplit ! $ move ! (1 ∷ []) $
-      use1 𝓛 (‵ (At (i * size + (byte + size)) (get_or places i None)) ⊛ ‵ (Others E block i (byte + size) places)) (taken_out places i (byte + size) (omega arith)) $ split ! $
+      use1 𝓛 (‵ (At (i * size + (byte + size)) (get_or places i None)) ⊛ ‵ (Others E block i (byte + size) places)) (taken-out places i (byte + size) (omega arith)) $ split ! $
       rewrite ! 0 (λ (at : ℕ). ‵ (At at (get_or places i None))) (later-byte i size byte) refl $
       move ! (2 ∷ 1 ∷ []) $ fjoin ! $ move ! (1 ∷ []) $ done !
 
-  pub put_back : (places : List (Place E)) (i byte : ℕ) (place : Place E) → i < length places
+  pub put-back : (places : List (Place E)) (i byte : ℕ) (place : Place E) → i < length places
       → ent 𝓤 (sep 𝓤 (sem 𝓛 (At (i * size + byte) place)) (sem 𝓛 (Others E block i byte places))) (sem 𝓛 (Row byte (set places i place)))
   unfolding Others
-  put_back [] i byte place within = absurd (omega arith)
-  put_back (old ∷ places) zero byte place within = qed 𝓛 (‵ (At (0 * size + byte) place) ∷ ‵ (Row (byte + size) places) ∷ []) ∵
+  put-back [] i byte place within = absurd (omega arith)
+  put-back (old ∷ places) zero byte place within = qed 𝓛 (‵ (At (0 * size + byte) place) ∷ ‵ (Row (byte + size) places) ∷ []) ∵
       rewrite ! 0 (λ (at : ℕ). ‵ (At at place)) (sym (first-byte size byte)) refl $ fjoin ! $ done !
-  put_back (old ∷ places) (suc i) byte place within = qed 𝓛 (‵ (At (suc i * size + byte) place) ∷ ‵ (Others E block (suc i) byte (old ∷ places)) ∷ []) ∵
+  put-back (old ∷ places) (suc i) byte place within = qed 𝓛 (‵ (At (suc i * size + byte) place) ∷ ‵ (Others E block (suc i) byte (old ∷ places)) ∷ []) ∵
       rewrite ! 0 (λ (at : ℕ). ‵ (At at place)) (sym (later-byte i size byte)) refl $ move ! (1 ∷ []) $ fsplit ! $ move ! (2 ∷ 1 ∷ []) $
-      join ! $ use1 𝓛 (‵ (Row (byte + size) (set places i place))) (put_back places i (byte + size) place (omega arith)) $ move ! (1 ∷ 0 ∷ []) $ fjoin ! $ done !
+      join ! $ use1 𝓛 (‵ (Row (byte + size) (set places i place))) (put-back places i (byte + size) place (omega arith)) $ move ! (1 ∷ 0 ∷ []) $ fjoin ! $ done !
 
   module _ (κ : Lft) where
     pub seen : (places : List (Place E)) (i byte : ℕ) → i < length places

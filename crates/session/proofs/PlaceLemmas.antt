@@ -11,8 +11,8 @@ with_one b x = in_places (slice_set b.places b.count x) (b.count + 1)
 
 -- what a table holds with one entry more, where there is room
 module _ (bounds : List Bound) (x : Bound) (room : length bounds < 64) where
-  held_with_one : with_one (bounds_held bounds) x ≡ bounds_held (bounds ++ x ∷ [])
-  held_with_one =
+  held-with_one : with_one (bounds_held bounds) x ≡ bounds_held (bounds ++ x ∷ [])
+  held-with_one =
       let rest = 63 - length bounds in
       let more = length-append bounds (x ∷ []) in
       let one_more : 64 - length bounds ≡ suc rest = omega (arith, room) in
@@ -24,12 +24,12 @@ module _ (bounds : List Bound) (x : Bound) (room : length bounds < 64) where
       ∙ ap (λ k. (bounds ++ x ∷ []) ++ replicate k no_bound) one_less)
       (sym more)
 
-  is_held_with_one : IsHeld (with_one (bounds_held bounds) x)
-  is_held_with_one =
+  is_held-with_one : IsHeld (with_one (bounds_held bounds) x)
+  is_held-with_one =
       let all = bounds ++ x ∷ [] in
       let more = length-append bounds (x ∷ []) in
       let few : length all ≤ 64 = omega (arith, more, room) in
-      subst IsHeld (sym held_with_one) (record { same = ap bounds_held (take-append_seam all (replicate (64 - length all) no_bound)); few = few })
+      subst IsHeld (sym held-with_one) (record { same = ap bounds_held (take-append_seam all (replicate (64 - length all) no_bound)); few = few })
 
-pub one_more_held : (b : Inside) (x : Bound) → IsHeld b → length (take b.count b.places) < 64 → IsHeld (record { places = slice_set b.places b.count x; count = b.count + 1 })
-one_more_held b x h room = subst (λ z. IsHeld (with_one z x)) h.same (is_held_with_one (take b.count b.places) x room)
+pub one_more-held : (b : Inside) (x : Bound) → IsHeld b → length (take b.count b.places) < 64 → IsHeld (record { places = slice_set b.places b.count x; count = b.count + 1 })
+one_more-held b x h room = subst (λ z. IsHeld (with_one z x)) h.same (is_held-with_one (take b.count b.places) x room)

@@ -1,13 +1,13 @@
 -- Sessions over an office that keeps its asks.
 use Rattle.session.proofs.Common.{◌≡◌, List, [], ◌∷◌, ap, subst, Result, Leads, ReadAnswer, WriteAnswer, End, SessionFault, Call, OfficeReply, Called, Session, calls_for, Asked, asks_after, KeepsAsks, AllTrue, TrueSession}
-use Rattle.session.proofs.DoneLemmas.{each_done}
+use Rattle.session.proofs.DoneLemmas.{each-done}
 
 -- calls through which the asks are led are true
-pub all_true : (asks : List Asked) (made : List (Call × OfficeReply)) (asks' : List Asked) → Leads (Called KeepsAsks) asks made asks' → AllTrue asks made
-all_true asks [] asks' h = tt
-all_true asks (made ∷ more) asks' h =
+pub all-true : (asks : List Asked) (made : List (Call × OfficeReply)) (asks' : List Asked) → Leads (Called KeepsAsks) asks made asks' → AllTrue asks made
+all-true asks [] asks' h = tt
+all-true asks (made ∷ more) asks' h =
     let led = subst (λ z. Leads (Called KeepsAsks) z more asks') h.1.0 h.2 in
-    (h.1.1, all_true (asks_after asks made.0 made.1) more asks' led, h.1.2, h.1.3)
+    (h.1.1, all-true (asks_after asks made.0 made.1) more asks' led, h.1.2, h.1.3)
 
 module _ {O : Type 0} (does : O → Call → OfficeReply → O → Type 0) (asks : O → List Asked)
     (keeps : (from : O) (call : Call) (reply : OfficeReply) (to : O) → does from call reply to → KeepsAsks (asks from) call reply (asks to)) where
@@ -17,9 +17,9 @@ module _ {O : Type 0} (does : O → Call → OfficeReply → O → Type 0) (asks
   asks-led from (made ∷ more) to h = (asks h.0, keeps from made.0 made.1 h.0 h.1, asks-led h.0 more to h.2)
 
   -- a session, seen by the asks of its office, of which there are none at first
-  pub true_session : {S K : Type 0} {gives : S → ReadAnswer → S → Type 0} {takes : K → WriteAnswer → K → Type 0} {s s' : S} {k k' : K} {o o' : O} {r : Result End SessionFault} →
+  pub true-session : {S K : Type 0} {gives : S → ReadAnswer → S → Type 0} {takes : K → WriteAnswer → K → Type 0} {s s' : S} {k k' : K} {o o' : O} {r : Result End SessionFault} →
       asks o ≡ [] → Session gives takes does s k o s' k' o' r → TrueSession gives takes s k s' k' r
-  true_session {o = o} {o'} new x =
+  true-session {o = o} {o'} new x =
       let led = subst (λ z. Leads (Called KeepsAsks) z (calls_for x.answered x.replies) (asks o')) new (asks-led o (calls_for x.answered x.replies) o' x.made) in
       record {
         asks = asks o';
@@ -36,5 +36,5 @@ module _ {O : Type 0} (does : O → Call → OfficeReply → O → Type 0) (asks
           writes = x.writes;
           written = x.written;
         };
-        dones = each_done x.answered x.replies (all_true [] (calls_for x.answered x.replies) (asks o') led);
+        dones = each-done x.answered x.replies (all-true [] (calls_for x.answered x.replies) (asks o') led);
       }

@@ -15,14 +15,14 @@ module _ (a b : Amount) where
   same-is_same same = grind arith
 
 module _ (a b d : Amount) where
-  pub plus_swap : plus a (plus b d) ≡ plus b (plus a d)
-  plus_swap = grind arith
+  pub plus-swap : plus a (plus b d) ≡ plus b (plus a d)
+  plus-swap = grind arith
 
-  pub plus_group : plus a (plus b d) ≡ plus (plus a b) d
-  plus_group = grind arith
+  pub plus-group : plus a (plus b d) ≡ plus (plus a b) d
+  plus-group = grind arith
 
-  pub within_trans : IsAmountWithin a b → IsAmountWithin b d → IsAmountWithin a d
-  within_trans p q = grind arith
+  pub within-trans : IsAmountWithin a b → IsAmountWithin b d → IsAmountWithin a d
+  within-trans p q = grind arith
 
   -- more of both is no less
   pub within-plus : IsAmountWithin b d → IsAmountWithin (plus a b) (plus a d)
@@ -31,11 +31,11 @@ module _ (a b d : Amount) where
 pub within-both : (a b d e : Amount) → IsAmountWithin a b → IsAmountWithin d e → IsAmountWithin (plus a d) (plus b e)
 within-both a b d e p q = grind arith
 
-pub within_same : (a : Amount) → IsAmountWithin a a
-within_same a = grind arith
+pub within-same : (a : Amount) → IsAmountWithin a a
+within-same a = grind arith
 
-pub within_nothing : (a : Amount) → IsAmountWithin nothing a
-within_nothing a = grind arith
+pub within-nothing : (a : Amount) → IsAmountWithin nothing a
+within-nothing a = grind arith
 
 pub same-self : (a : Amount) → is_same a a ≡ true
 same-self a = grind arith

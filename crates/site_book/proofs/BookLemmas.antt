@@ -10,9 +10,9 @@ module _ (who : Who) (session : ℕ) where
   pub place-there : (gs : List Held) → (grant_of who session gs ≡ None → ⊥) → grant_place who session gs < length gs
   place-there gs some = elim (cases_lt (grant_place who session gs) (length gs)) [ inl less ↦ less | inr past ↦ absurd (some (place-none who session gs past)) ]
 
-  pub length-with_ask : (ask : Quota) (gs : List Held) → length (grants_raised who session ask gs) ≡ length gs
-  length-with_ask ask [] = refl
-  length-with_ask ask (g ∷ gs) = grind (arith, length-with_ask ask gs)
+  pub length-with-ask : (ask : Quota) (gs : List Held) → length (grants_raised who session ask gs) ≡ length gs
+  length-with-ask ask [] = refl
+  length-with-ask ask (g ∷ gs) = grind (arith, length-with-ask ask gs)
 
 -- what stands at the place that was found, and what a removal and a write there do
 module _ (gs read : List Held) (who : Who) (session i : ℕ) (same : read ≡ gs) (is : i ≡ grant_place who session read) where
@@ -77,8 +77,8 @@ module _ (plan : PlanOf) (gs : List Held) (book : BookOf) (view : viewed plan gs
     few-seats = subst (λ (b : BookOf). b.plan.totals.sessions ≤ 64) view (few-sessions plan kept.fit)
 
 -- a push that succeeded
-pub pushed_is : {E : Type 0} (r : Result (Unit {0}) E) (u : Unit {0}) (l more es : List Held) → r ≡ Ok u → l ≡ (if is_ok r then more else es) → l ≡ more
-pushed_is r u l more es is pushed = pushed ∙ ap (λ x. if is_ok x then more else es) is
+pub pushed-is : {E : Type 0} (r : Result (Unit {0}) E) (u : Unit {0}) (l more es : List Held) → r ≡ Ok u → l ≡ (if is_ok r then more else es) → l ≡ more
+pushed-is r u l more es is pushed = pushed ∙ ap (λ x. if is_ok x then more else es) is
 
 -- why a session isn't raised, by the tests in their order
 

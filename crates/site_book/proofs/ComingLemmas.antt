@@ -11,44 +11,44 @@ pub record IsEnded (i : Option Present) (n : ℕ) : Type 0 where
 -- of one for whom all guests have too much
 
 module _ (r : Refusal) (w : Option Refusal) (i : Option Present) where
-  not_enters : unless_idle r w i ≡ Enters → ⊥
-  not_enters e = grind arith
+  not-enters : unless_idle r w i ≡ Enters → ⊥
+  not-enters e = grind arith
 
-  unless_ends : (n : ℕ) (q : Refusal) → unless_idle r w i ≡ Ends n q → IsEnded i n
-  unless_ends n q e = grind arith
+  unless-ends : (n : ℕ) (q : Refusal) → unless_idle r w i ≡ Ends n q → IsEnded i n
+  unless-ends n q e = grind arith
 
-  unless_refused : (q : Refusal) → unless_idle r w i ≡ Refused q → r ≡ q
-  unless_refused q e = grind arith
+  unless-refused : (q : Refusal) → unless_idle r w i ≡ Refused q → r ≡ q
+  unless-refused q e = grind arith
 
-  unless_none : unless_idle r w i ≡ Refused OverGuests → w ≡ None → i ≡ None
-  unless_none e none = grind arith
+  unless-none : unless_idle r w i ≡ Refused OverGuests → w ≡ None → i ≡ None
+  unless-none e none = grind arith
 
 -- who enters, who is to end, and who is refused
 
 module _ (o s w : Option Refusal) (i : Option Present) where
   pub only_enters : by_book o s w i ≡ Enters → o ≡ None
-  only_enters e = grind (arith, not_enters)
+  only_enters e = grind (arith, not-enters)
 
-  pub ends_idle : (n : ℕ) (q : Refusal) → by_book o s w i ≡ Ends n q → IsEnded i n
-  ends_idle n q e = grind (arith, unless_ends)
+  pub ends-idle : (n : ℕ) (q : Refusal) → by_book o s w i ≡ Ends n q → IsEnded i n
+  ends-idle n q e = grind (arith, unless-ends)
 
-  pub refused_now : (r : Refusal) → by_book o s w i ≡ Refused r → o ≡ Some r
-  refused_now r e = grind (arith, unless_refused)
+  pub refused-now : (r : Refusal) → by_book o s w i ≡ Refused r → o ≡ Some r
+  refused-now r e = grind (arith, unless-refused)
 
-  pub refused_then : (r : Refusal) → by_book o s w i ≡ Refused r → s ≡ None → ⊥
-  refused_then r e none = grind arith
+  pub refused-then : (r : Refusal) → by_book o s w i ≡ Refused r → s ≡ None → ⊥
+  refused-then r e none = grind arith
 
-  pub refused_idle : by_book o s w i ≡ Refused OverGuests → w ≡ None → i ≡ None
-  refused_idle e none = grind (arith, unless_none)
+  pub refused-idle : by_book o s w i ≡ Refused OverGuests → w ≡ None → i ≡ None
+  refused-idle e none = grind (arith, unless-none)
 
 -- who is idle
 
 module _ (q : Present) (o : Option Present) where
-  idler_one : (p : Present) → idler (Some q) o ≡ Some p → (q ≡ p) ⊎ (o ≡ Some p)
-  idler_one p e = grind arith
+  idler-one : (p : Present) → idler (Some q) o ≡ Some p → (q ≡ p) ⊎ (o ≡ Some p)
+  idler-one p e = grind arith
 
-  idler_some : idler (Some q) o ≡ None → ⊥
-  idler_some e = grind arith
+  idler-some : idler (Some q) o ≡ None → ⊥
+  idler-some e = grind arith
 
 there-later : (q p : Present) (roll : List Present) → Contains roll p → Contains (q ∷ roll) p
 there-later q p roll (k, less, at) = (suc k, omega (arith, less), at)
@@ -68,7 +68,7 @@ module _ (now most : ℕ) where
   idlest-there (q ∷ roll) p e =
       let later : idlest now most roll ≡ Some p → Contains (q ∷ roll) p × (is_idle now most p ≡ true) = λ rest. (let found = idlest-there roll p rest in (there-later q p roll found.0, found.1)) in
       elim (cases_Bool (is_idle now most q)) [
-        | inl aye ↦ (elim (idler_one q (idlest now most roll) p (rw aye at e)) [
+        | inl aye ↦ (elim (idler-one q (idlest now most roll) p (rw aye at e)) [
           | inl same ↦ ((0, omega arith, same), subst (λ (x : Present). is_idle now most x ≡ true) same aye)
           | inr rest ↦ later rest
         ])
@@ -81,7 +81,7 @@ module _ (now most : ℕ) where
   -- where nobody is idle only those go who were told to
   pub nobody-idle : (gs : List Held) (roll : List Present) → idlest now most roll ≡ None → remaining (those_idle now most) gs roll ≡ remaining those_told gs roll
   nobody-idle (g ∷ gs) (p ∷ roll) e = elim (cases_Bool (is_idle now most p)) [
-    | inl aye ↦ absurd (idler_some p (idlest now most roll) (rw aye at e))
+    | inl aye ↦ absurd (idler-some p (idlest now most roll) (rw aye at e))
     | inr nay ↦ (let rest = nobody-idle gs roll (rw nay at e) in
         elim (cases_Bool (is_some p.told)) [
           | inl told ↦ rw told rest
@@ -119,9 +119,9 @@ module _ (plan : PlanOf) where
   left-kept before gs roll kept alike = grind (arith, append-none)
 
   -- a step of the loop over all grants
-  pub told_step : (before after gs : List Held) (g : Held) (roll : List Present) (p j : Present) (told more whole : List Present) → j ≡ told_unless (stays plan before g p) p →
+  pub told-step : (before after gs : List Held) (g : Held) (roll : List Present) (p j : Present) (told more whole : List Present) → j ≡ told_unless (stays plan before g p) p →
       after ≡ with_staying (stays plan before g p) before g → more ≡ told ++ j ∷ [] → told ++ told_by plan before (g ∷ gs) (p ∷ roll) ≡ whole → more ++ told_by plan after gs roll ≡ whole
-  told_step before after gs g roll p j told more whole judged kept pushed so =
+  told-step before after gs g roll p j told more whole judged kept pushed so =
       ap (λ (l : List Present). l ++ told_by plan after gs roll) pushed
       ∙ (append_assoc told (j ∷ []) (told_by plan after gs roll) ∙ ((λ i. told ++ (judged i ∷ told_by plan (kept i) gs roll)) ∙ so))
 

@@ -1,36 +1,36 @@
 -- What a new grant, a raise and an end leave of what some grants have together.
 use Rattle.site_book.proofs.Common.{◌≡◌, ℕ, suc, ◌<◌, ◌≤◌, Bool, true, false, ◌&&◌, ◌||◌, cond, List, [], ◌∷◌, ◌++◌, length, get_or, set, ltb, Some, None, refl, arith, nat_tests, is_some, remove, Quota, Amount, Held, Part, All, Who, nothing, of_one, plus, IsAmountWithin, is_in, used_by, used, is_held_as, grant_place, grant_of, grants_without, grants_raised}
-use Rattle.site_book.proofs.AmountLemmas.{plus_swap, plus_group, within_same, within-plus, within-more}
+use Rattle.site_book.proofs.AmountLemmas.{plus-swap, plus-group, within-same, within-plus, within-more}
 
 module _ (test : Who → Bool) where
   -- of one grant more
   pub used-push : (gs : List Held) (g : Held) → used_by test (gs ++ g ∷ []) ≡ cond (test g.who) (plus (of_one g.ask) (used_by test gs)) (used_by test gs)
   used-push [] g = refl
-  used-push (h ∷ gs) g = grind (arith, used-push gs g, plus_swap)
+  used-push (h ∷ gs) g = grind (arith, used-push gs g, plus-swap)
 
   -- what all have but the one at a place
   pub used-removed : (gs : List Held) (i : ℕ) (held : Held) → i < length gs → held ≡ get_or gs i held →
       used_by test gs ≡ cond (test held.who) (plus (of_one held.ask) (used_by test (remove gs i))) (used_by test (remove gs i))
-  used-removed (g ∷ gs) (suc i) held less at = grind (arith, used-removed gs i held, plus_swap)
+  used-removed (g ∷ gs) (suc i) held less at = grind (arith, used-removed gs i held, plus-swap)
   used-removed gs i held less at = grind arith
 
   module _ (who : Who) (session : ℕ) where
     -- one grant fewer leaves no more
-    pub used-without_le : (gs : List Held) → IsAmountWithin (used_by test (grants_without who session gs)) (used_by test gs)
-    used-without_le [] = within_same nothing
-    used-without_le (g ∷ gs) = grind (arith, used-without_le gs, within-more, within_same, within-plus)
+    pub used-without-le : (gs : List Held) → IsAmountWithin (used_by test (grants_without who session gs)) (used_by test gs)
+    used-without-le [] = within-same nothing
+    used-without-le (g ∷ gs) = grind (arith, used-without-le gs, within-more, within-same, within-plus)
 
     module _ (ask : Quota) where
       -- the grant's own part, with another amount: that and all others
-      pub used-with_ask : (gs : List Held) (held : Held) → grant_of who session gs ≡ Some held → test held.who ≡ true →
+      pub used-with-ask : (gs : List Held) (held : Held) → grant_of who session gs ≡ Some held → test held.who ≡ true →
           used_by test (grants_raised who session ask gs) ≡ plus (of_one ask) (used_by test (grants_without who session gs))
-      used-with_ask [] held is own = absurd cc
-      used-with_ask (g ∷ gs) held is own = grind (arith, used-with_ask gs held, plus_swap)
+      used-with-ask [] held is own = absurd cc
+      used-with-ask (g ∷ gs) held is own = grind (arith, used-with-ask gs held, plus-swap)
 
       -- another part
-      pub used-with_ask_other : (gs : List Held) (held : Held) → grant_of who session gs ≡ Some held → test held.who ≡ false → used_by test (grants_raised who session ask gs) ≡ used_by test gs
-      used-with_ask_other [] held is other = refl
-      used-with_ask_other (g ∷ gs) held is other = grind (arith, used-with_ask_other gs held)
+      pub used-with-ask-other : (gs : List Held) (held : Held) → grant_of who session gs ≡ Some held → test held.who ≡ false → used_by test (grants_raised who session ask gs) ≡ used_by test gs
+      used-with-ask-other [] held is other = refl
+      used-with-ask-other (g ∷ gs) held is other = grind (arith, used-with-ask-other gs held)
 
 pub within-push : (part : Part) (gs : List Held) (g : Held) (limit : Amount) → IsAmountWithin (used part gs) limit → (is_in part g.who ≡ true → IsAmountWithin (plus (of_one g.ask) (used part gs)) limit) →
     IsAmountWithin (used part (gs ++ g ∷ [])) limit
@@ -78,7 +78,7 @@ module _ (who : Who) (session : ℕ) where
   there-is (g ∷ gs) = grind (arith, there-is gs, nat_tests)
 
 split-step : (s t u : Bool) (one a b d : Amount) → s ≡ (t || u) → (t && u) ≡ false → a ≡ plus b d → cond s (plus one a) a ≡ plus (cond t (plus one b) b) (cond u (plus one d) d)
-split-step s t u one a b d both apart rest = grind (arith, plus_group, plus_swap)
+split-step s t u one a b d both apart rest = grind (arith, plus-group, plus-swap)
 
 -- a split of a test in two
 pub used-split : (f g h : Who → Bool) (gs : List Held) → ((w : Who) → f w ≡ (g w || h w)) → ((w : Who) → (g w && h w) ≡ false) → used_by f gs ≡ plus (used_by g gs) (used_by h gs)

@@ -3,7 +3,7 @@ use Rattle.site_book.proofs.Common.{◌≡◌, ℕ, Bool, true, false, not, ◌&
 use Rattle.site_book.proofs.NameLemmas.{same-is}
 use Rattle.site_book.proofs.BudgetLemmas.{IsPart}
 use Rattle.site_book.proofs.Keepings.{comes-in}
-use Rattle.site_book.proofs.Views.{used-theirs, grant-theirs, without-theirs, without-others, with_ask-theirs, with_ask-others, push-theirs, push-others}
+use Rattle.site_book.proofs.Views.{used-theirs, grant-theirs, without-theirs, without-others, with-ask-theirs, with-ask-others, push-theirs, push-others}
 
 -- who shares a budget with one of them is one of them
 abbrev pub IsWhole : (Who → Bool) → Type 0
@@ -17,7 +17,7 @@ module _ (is_one : Who → Bool) where
   -- an event that stays
 
   taken-theirs : (book : BookOf) (event : BookEvent) → is_event_kept is_one event None ≡ true → taken (their_book is_one book) event ≡ their_book is_one (taken book event)
-  taken-theirs book event own = grind (arith, push-theirs, with_ask-theirs, without-theirs)
+  taken-theirs book event own = grind (arith, push-theirs, with-ask-theirs, without-theirs)
 
   kept-answer : (book : BookOf) (event : BookEvent) (answer : Option Refusal) → answer_of_book book event ≡ answer → is_event_kept is_one event answer ≡ true →
       answer_of_book (their_book is_one book) event ≡ answer → book_after (their_book is_one book) event ≡ their_book is_one (book_after_answer book event answer)
@@ -25,7 +25,7 @@ module _ (is_one : Who → Bool) where
 
   -- one that doesn't
   other-answer : (book : BookOf) (event : BookEvent) (answer : Option Refusal) → is_event_kept is_one event answer ≡ false → their_book is_one (book_after_answer book event answer) ≡ their_book is_one book
-  other-answer book event answer other = grind (arith, push-others, with_ask-others, without-others)
+  other-answer book event answer other = grind (arith, push-others, with-ask-others, without-others)
 
   module _ (whole : IsWhole is_one) where
     part-theirs : (part : Part) (who : Who) (gs : List Held) (test : Amount → Bool) → IsPart part → is_one who ≡ true → (is_in part who && test (used part (grants_of is_one gs))) ≡ (is_in part who && test (used part gs))

@@ -1,13 +1,13 @@
 -- Each event leaves all budgets kept.
 use Rattle.site_book.proofs.Common.{◌≡◌, ℕ, ◌≤◌, true, false, List, [], ◌∷◌, ◌++◌, length, Option, Some, None, refl, ap, ◌∙◌, inl, inr, ◌⊎◌, arith, cases_Bool, and_parts, and_from, and_right, is_none, Quota, Held, Part, Own, Network, Guests, All, Refusal, Who, is_guest, network_of, nothing, IsAmountWithin, PlanOf, limit_of, sums_fit, is_in, used, grant_of, grants_without, grants_raised, BookOf, BookEvent, Opens, Raises, Closes, Replans, why_over, why_no_raise, is_over, part_over, are_within, why_not_replan, answer_of_book, taken, book_after_answer, book_after, HasBudgetFor, IsKept}
-use Rattle.site_book.proofs.AmountLemmas.{within-test, test-within, within_trans, within_nothing, same-is_same, same-self}
+use Rattle.site_book.proofs.AmountLemmas.{within-test, test-within, within-trans, within-nothing, same-is_same, same-self}
 use Rattle.site_book.proofs.NameLemmas.{same-is, in-own}
-use Rattle.site_book.proofs.GrantLemmas.{within-push, used-without_le, used-with_ask, used-with_ask_other, found-own, used-all}
+use Rattle.site_book.proofs.GrantLemmas.{within-push, used-without-le, used-with-ask, used-with-ask-other, found-own, used-all}
 use Rattle.site_book.proofs.BudgetLemmas.{IsPart, in-network, allowed, passes, grow-from}
 use Rattle.site_book.proofs.Totals.{all-within, few-sessions}
 
 pub kept-new : (plan : PlanOf) → sums_fit plan ≡ true → IsKept plan []
-kept-new plan fit = record { fit = fit; within = λ part. within_nothing (limit_of plan part) }
+kept-new plan fit = record { fit = fit; within = λ part. within-nothing (limit_of plan part) }
 
 module _ (plan : PlanOf) (gs : List Held) where
   pub kept-of : sums_fit plan ≡ true → ((part : Part) → IsPart part → IsAmountWithin (used part gs) (limit_of plan part)) → IsKept plan gs
@@ -34,8 +34,8 @@ module _ (plan : PlanOf) (gs : List Held) (who : Who) (session : ℕ) where
     kept-grow held kept is has =
         let same : who ≡ held.who = same-is who held.who (and_parts _ _ (found-own who session gs held is)).0 in
         kept-of plan (grants_raised who session ask gs) kept.fit (λ part is_part. elim (cases_Bool (is_in part held.who)) [
-          | inl aye ↦ rw (used-with_ask (is_in part) who session ask gs held is aye) (passes plan who ask (grants_without who session gs) has part is_part (ap (is_in part) same ∙ aye))
-          | inr nay ↦ rw (used-with_ask_other (is_in part) who session ask gs held is nay) (kept.within part)
+          | inl aye ↦ rw (used-with-ask (is_in part) who session ask gs held is aye) (passes plan who ask (grants_without who session gs) has part is_part (ap (is_in part) same ∙ aye))
+          | inr nay ↦ rw (used-with-ask-other (is_in part) who session ask gs held is nay) (kept.within part)
         ])
 
     pub kept-raise : (found : Option Held) → IsKept plan gs → grant_of who session gs ≡ found → why_no_raise plan who session ask gs found ≡ None → IsKept plan (grants_raised who session ask gs)
@@ -43,7 +43,7 @@ module _ (plan : PlanOf) (gs : List Held) (who : Who) (session : ℕ) where
     kept-raise (Some held) kept is none = kept-grow held kept is (grow-from plan who session ask gs held none).left
 
   pub kept-close : IsKept plan gs → IsKept plan (grants_without who session gs)
-  kept-close kept = grind (arith, kept-of, within_trans, used-without_le)
+  kept-close kept = grind (arith, kept-of, within-trans, used-without-le)
 
 -- another plan
 
@@ -75,16 +75,16 @@ some-within plan all (g ∷ gs) part is within =
     ]
 
 pub within-plan : (plan : PlanOf) (gs : List Held) → are_within plan gs gs ≡ true → (part : Part) → IsPart part → IsAmountWithin (used part gs) (limit_of plan part)
-within-plan plan gs within part is = grind (arith, some-within, within_nothing)
+within-plan plan gs within part is = grind (arith, some-within, within-nothing)
 
 -- what is within a plan lets it in
 
 module _ (plan : PlanOf) (all : List Held) (within : (part : Part) → IsAmountWithin (used part all) (limit_of plan part)) where
-  not_over : (part : Part) (who : Who) → is_over plan part who all ≡ false
-  not_over part who = rw (test-within (used part all) (limit_of plan part) (within part)) (and_right (is_in part who) false refl)
+  not-over : (part : Part) (who : Who) → is_over plan part who all ≡ false
+  not-over part who = rw (test-within (used part all) (limit_of plan part) (within part)) (and_right (is_in part who) false refl)
 
   none-part : (who : Who) → is_none (part_over plan all who) ≡ true
-  none-part who = rw (not_over (Own who) who, not_over (Network (network_of who)) who, not_over Guests who) refl
+  none-part who = rw (not-over (Own who) who, not-over (Network (network_of who)) who, not-over Guests who) refl
 
   are-within : (gs : List Held) → are_within plan all gs ≡ true
   are-within [] = refl

@@ -1,6 +1,6 @@
 -- What holds after each list of events.
 use Rattle.site_book.proofs.Common.{◌≡◌, ℕ, true, List, [], ◌∷◌, ◌++◌, Option, Some, None, refl, ap, ◌∙◌, subst, arith, Quota, Amount, Held, All, Refusal, Who, of_one, plus, IsAmountWithin, PlanOf, used, grant_of, grants_without, grants_raised, BookOf, BookEvent, why_over, why_no_raise, answer_of_book, book_after_answer, book_after, book_after_events, answers, Name, names_without, open_after, still_open, names_granted, IsKept}
-use Rattle.site_book.proofs.GrantLemmas.{used-push, used-with_ask}
+use Rattle.site_book.proofs.GrantLemmas.{used-push, used-with-ask}
 use Rattle.site_book.proofs.BudgetLemmas.{grow-from}
 use Rattle.site_book.proofs.Keepings.{comes-in, kept-after, kept-open, kept-grow}
 
@@ -27,7 +27,7 @@ module _ (plan : PlanOf) (gs : List Held) (who : Who) where
   room-raise session ask None kept is none = absurd cc
   room-raise session ask (Some held) kept is none =
       let grown = kept-grow plan gs who session ask held kept is (grow-from plan who session ask gs held none).left in
-      subst (λ (a : Amount). IsAmountWithin a plan.totals) (used-with_ask (λ w. true) who session ask gs held is refl) (grown.within All)
+      subst (λ (a : Amount). IsAmountWithin a plan.totals) (used-with-ask (λ w. true) who session ask gs held is refl) (grown.within All)
 
 -- sessions that are open
 
@@ -40,12 +40,12 @@ module _ (who : Who) (session : ℕ) where
   names-without [] = refl
   names-without (g ∷ gs) = grind (arith, names-without gs)
 
-  pub names-with_ask : (ask : Quota) (gs : List Held) → names_granted (grants_raised who session ask gs) ≡ names_granted gs
-  names-with_ask ask [] = refl
-  names-with_ask ask (g ∷ gs) = grind (arith, names-with_ask ask gs)
+  pub names-with-ask : (ask : Quota) (gs : List Held) → names_granted (grants_raised who session ask gs) ≡ names_granted gs
+  names-with-ask ask [] = refl
+  names-with-ask ask (g ∷ gs) = grind (arith, names-with-ask ask gs)
 
 names-answer : (book : BookOf) (event : BookEvent) (answer : Option Refusal) → answer_of_book book event ≡ answer → names_granted (book_after_answer book event answer).grants ≡ open_after (names_granted book.grants) event answer
-names-answer book event answer is = grind (arith, names-push, names-with_ask, names-without)
+names-answer book event answer is = grind (arith, names-push, names-with-ask, names-without)
 
 pub names-run : (book : BookOf) (events : List BookEvent) → names_granted (book_after_events book events).grants ≡ still_open (names_granted book.grants) events (answers book events)
 names-run book [] = refl

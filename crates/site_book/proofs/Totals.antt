@@ -1,6 +1,6 @@
 -- Where each part is within its budget, and the budgets fit, all sessions together are within the totals.
 use Rattle.site_book.proofs.Common.{◌≡◌, ℕ, suc, ◌+◌, ◌-◌, ◌≤◌, Bool, true, false, ◌&&◌, ◌||◌, leb, eqb, List, [], ◌∷◌, get_or, refl, sym, subst, inl, inr, zero-add, add-zero, arith, cases_Bool, and_parts, leb-true, le-leb, eq-eqb, Amount, Held, Part, Own, Guests, All, Who, Named, V4, V6, same_who, is_guest, nothing, plus, sum_of, is_amount_within, IsAmountWithin, PlanOf, limit_of, sums_fit, is_in, used_by, used}
-use Rattle.site_book.proofs.AmountLemmas.{within-test, within_trans, within_same, within-more, within-both, plus_swap}
+use Rattle.site_book.proofs.AmountLemmas.{within-test, within-trans, within-same, within-more, within-both, plus-swap}
 use Rattle.site_book.proofs.GrantLemmas.{used-split, used-alike}
 use Rattle.site_book.proofs.BudgetLemmas.{IsPart}
 
@@ -18,20 +18,20 @@ out-first : (part : Part) (g : Held) (gs : List Held) → IsAmountWithin (used p
 out-first part g gs none = grind arith
 
 used-tail : (part : Part) (g : Held) (gs : List Held) → IsAmountWithin (used part gs) (used part (g ∷ gs))
-used-tail part g gs = grind (arith, within-more, within_same)
+used-tail part g gs = grind (arith, within-more, within-same)
 
 module _ (k : ℕ) where
-  place_split : (n : ℕ) → leb k n ≡ (eqb k n || leb (suc k) n)
-  place_split n = grind arith
+  place-split : (n : ℕ) → leb k n ≡ (eqb k n || leb (suc k) n)
+  place-split n = grind arith
 
-  place_apart : (n : ℕ) → (eqb k n && leb (suc k) n) ≡ false
-  place_apart n = grind arith
+  place-apart : (n : ℕ) → (eqb k n && leb (suc k) n) ≡ false
+  place-apart n = grind arith
 
   from-split : (w : Who) → from_place k w ≡ (is_in (Own (Named k)) w || from_place (suc k) w)
-  from-split w = grind (arith, place_split)
+  from-split w = grind (arith, place-split)
 
   from-apart : (w : Who) → (is_in (Own (Named k)) w && from_place (suc k) w) ≡ false
-  from-apart w = grind (arith, place_apart)
+  from-apart w = grind (arith, place-apart)
 
   -- nobody is named from a place on: then only guests are left
   from-guests : (w : Who) → ((n : ℕ) → same_who (Named (k + n)) w ≡ false) → from_place k w ≡ is_guest w
@@ -44,7 +44,7 @@ module _ (k : ℕ) where
 
   none-named : (gs : List Held) → ((n : ℕ) → IsAmountWithin (used (Own (Named (k + n))) gs) nothing) → used_by (from_place k) gs ≡ used Guests gs
   none-named [] none = refl
-  none-named (g ∷ gs) none = grind (arith, none-named gs, from-guests, out-first, within_trans, used-tail)
+  none-named (g ∷ gs) none = grind (arith, none-named gs, from-guests, out-first, within-trans, used-tail)
 
   next : (n : ℕ) → k + suc n ≡ suc k + n
   next n = omega arith
@@ -57,7 +57,7 @@ module _ (gs : List Held) (guests : Amount) (few : IsAmountWithin (used Guests g
       let rest = bound cs (suc k) (λ n. subst (λ m. IsAmountWithin (used (Own (Named m)) gs) (get_or cs n nothing)) (next k n) (own (suc n))) in
       let both = within-both _ _ _ _ first rest in
       let split = used-split (from_place k) (is_in (Own (Named k))) (from_place (suc k)) gs (from-split k) (from-apart k) in
-      rw split (subst (IsAmountWithin _) (plus_swap c guests (sum_of cs)) both)
+      rw split (subst (IsAmountWithin _) (plus-swap c guests (sum_of cs)) both)
 
 module _ (plan : PlanOf) where
   sums-within : sums_fit plan ≡ true → (leb plan.totals.sessions 64 ≡ true) × (is_amount_within (plus plan.guests (sum_of plan.customers)) plan.totals ≡ true)
@@ -68,7 +68,7 @@ module _ (plan : PlanOf) where
       let budgets = λ (n : ℕ). subst (λ m. IsAmountWithin (used (Own (Named m)) gs) (get_or plan.customers n nothing)) (sym (zero-add n)) (parts (Own (Named n)) tt) in
       let all = bound gs plan.guests (parts Guests tt) plan.customers 0 budgets in
       let same = used-alike (is_in All) (from_place 0) gs from-all in
-      rw same (within_trans _ _ _ all (within-test _ _ (sums-within fit).1))
+      rw same (within-trans _ _ _ all (within-test _ _ (sums-within fit).1))
 
   pub few-sessions : sums_fit plan ≡ true → plan.totals.sessions ≤ 64
   few-sessions fit = leb-true _ _ (sums-within fit).0

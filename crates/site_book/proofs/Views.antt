@@ -28,15 +28,15 @@ module _ (is_one : Who → Bool) (who : Who) (session : ℕ) where
     without-theirs [] = refl
     without-theirs (g ∷ gs) = grind (arith, without-theirs gs, held-is)
 
-    pub with_ask-theirs : (ask : Quota) (gs : List Held) → grants_of is_one (grants_raised who session ask gs) ≡ grants_raised who session ask (grants_of is_one gs)
-    with_ask-theirs ask [] = refl
-    with_ask-theirs ask (g ∷ gs) = grind (arith, with_ask-theirs ask gs, held-is)
+    pub with-ask-theirs : (ask : Quota) (gs : List Held) → grants_of is_one (grants_raised who session ask gs) ≡ grants_raised who session ask (grants_of is_one gs)
+    with-ask-theirs ask [] = refl
+    with-ask-theirs ask (g ∷ gs) = grind (arith, with-ask-theirs ask gs, held-is)
 
   module _ (other : is_one who ≡ false) where
     pub without-others : (gs : List Held) → grants_of is_one (grants_without who session gs) ≡ grants_of is_one gs
     without-others [] = refl
     without-others (g ∷ gs) = grind (arith, without-others gs, held-is)
 
-    pub with_ask-others : (ask : Quota) (gs : List Held) → grants_of is_one (grants_raised who session ask gs) ≡ grants_of is_one gs
-    with_ask-others ask [] = refl
-    with_ask-others ask (g ∷ gs) = grind (arith, with_ask-others ask gs, held-is)
+    pub with-ask-others : (ask : Quota) (gs : List Held) → grants_of is_one (grants_raised who session ask gs) ≡ grants_of is_one gs
+    with-ask-others ask [] = refl
+    with-ask-others ask (g ∷ gs) = grind (arith, with-ask-others ask gs, held-is)

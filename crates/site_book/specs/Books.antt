@@ -36,11 +36,6 @@ abbrev pub first_refusal : List (Bool × Refusal) → Option Refusal
 first_refusal [] = None
 first_refusal (test ∷ tests) = if test.0 then Some test.1 else first_refusal tests
 
--- the first refusal, or else the next
-abbrev pub or_next : Option Refusal → Option Refusal → Option Refusal
-or_next None next = next
-or_next (Some refusal) next = Some refusal
-
 -- whether so much more than what the part has is beyond what it may have, where the customer is one of it
 abbrev pub is_beyond_part : PlanOf → Part → Who → Quota → Amount → Bool
 is_beyond_part plan part who ask has = is_in part who && not (is_amount_within (plus (of_one ask) has) (limit_of plan part))

@@ -4,7 +4,7 @@ pub use Rattle.std.proofs.Common.{length-append, refl, rules, subst, sym, true, 
 pub use Rattle.std.proofs.lemmas.Bool.{and_parts, cases_Bool, eq-eqb, eqb-true, false≢true, le-ltb, lt-leb, ne_eqb, or_from}
 pub use Rattle.std.proofs.lemmas.List.Sums.{sum_by-cons}
 pub use Rattle.std.specs.Option.{is_some}
-pub use Rattle.desk_rules.proofs.Refused.{ask_refused}
+pub use Rattle.desk_rules.proofs.Refused.{ask-refused}
 pub use Rattle.desk_rules.specs.Asked.{ask_refusals}
 pub use Rattle.frame_tree.specs.Frames.{IsReadyAt}
 pub use Rattle.hall.specs.Halls.{HallOf, IsDecided}
@@ -29,9 +29,9 @@ pub use Rattle.sched_rules.specs.declared.step.DidOf.{DidOf}
 pub use Rattle.sched_rules.specs.declared.step.DidOf.TheVariants.{Left}
 pub use Rattle.sched_rules.specs.declared.step.StepOf.{StepOf}
 pub use Rattle.sched_rules.specs.declared.step.StepOf.TheVariants.{Admit, AdmitMore, Leave}
-pub use Rattle.site_book.proofs.AmountLemmas.{plus_swap}
+pub use Rattle.site_book.proofs.AmountLemmas.{plus-swap}
 pub use Rattle.site_book.proofs.ComingLemmas.{only_enters}
-pub use Rattle.site_book.proofs.RunLemmas.{names-with_ask}
+pub use Rattle.site_book.proofs.RunLemmas.{names-with-ask}
 pub use Rattle.site_book.specs.Amounts.{IsAmountWithin, nothing, of_one, plus}
 pub use Rattle.site_book.specs.Books.{BookOf, Closes, Opens, Raises, taken, why_no_raise}
 pub use Rattle.site_book.specs.Comings.{stays, told_by, told_unless, with_staying}

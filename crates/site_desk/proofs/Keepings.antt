@@ -1,7 +1,7 @@
 -- Each call leaves the grants the hall's tenants.
 use Rattle.site_desk.proofs.Common.{◌≡◌, ℕ, ◌+◌, ◌<◌, ◌≤◌, inl, inr, true, false, List, [], ◌∷◌, ◌++◌, Option, Some, None, Result, Ok, Err, refl, ap, sym, ◌∙◌, subst, arith, cases_Bool, is_some, AreRising, Quota, Refusal, StepOf, Admit, AdmitMore, Leave, DidOf, Tenant, admitted_with, is_lower, tenant_of, tenant_in, with_outcome, reservations_in, is_full, is_beyond, AreNumbersGiven, tenant_in-new, IsTaken, Leaf, LeafAnswer, jamboree, HallOf, IsDecided, Amount, Held, All, Lower, Who, of_one, plus, IsAmountWithin, used, grant_of, grants_without, BookOf, Opens, Raises, Closes, taken, why_no_raise, IsBooked, TookInHall, is_within_seat, Seat, seats_in_book, seats_in_hall, number_of}
 use Rattle.site_book.specs.declared.refusal.Refusal.{Refusal as BookRefusal}
-use Rattle.site_desk.proofs.SeatLemmas.{set_seat, drop_seats, seat_at, amount_of, hall-same, hall-new, hall-set, hall-drop, IsThere, hall-at, book-push, book-set, book-drop, book-at, taken-upto, rising-push, rising-set, rising-drop, book-amount, used-found, not_full, not_beyond}
+use Rattle.site_desk.proofs.SeatLemmas.{set_seat, drop_seats, seat_at, amount_of, hall-same, hall-new, hall-set, hall-drop, IsThere, hall-at, book-push, book-set, book-drop, book-at, taken-upto, rising-push, rising-set, rising-drop, book-amount, used-found, not-full, not-beyond}
 use Rattle.site_desk.proofs.HallSteps.{went, admit-outcome, more-outcome, leave-outcome, stayed, moved}
 
 abbrev Step : Type 0
@@ -101,7 +101,7 @@ all-seats : (hall : HallOf) (book : BookOf) → IsBooked hall book → used All 
 all-seats hall book is = book-amount book.grants ∙ ap amount_of is.seated
 
 pub has-room : (hall : HallOf) (book : BookOf) (q : Quota) → IsBooked hall book → book.plan.totals.sessions ≤ 64 → IsAmountWithin (plus (of_one q) (used All book.grants)) book.plan.totals → is_full (reservations_in hall.shared) q ≡ false
-has-room hall book q is few room = not_full hall.shared q (used All book.grants) book.plan.totals (all-seats hall book is) room few is.segments is.nodes
+has-room hall book q is few room = not-full hall.shared q (used All book.grants) book.plan.totals (all-seats hall book is) room few is.segments is.nodes
 
 -- what a raise that the book doesn't refuse has
 pub record MayRaise (hall : HallOf) (book : BookOf) (who : Who) (n : ℕ) (q : Quota) : Type 0 where
@@ -121,12 +121,12 @@ raise-by hall book who n q (Some held) is at none room =
       found = at;
       tenant = there.tenant;
       at = there.at;
-      more = ap (λ (r : Quota). is_lower r q) there.reserve ∙ not_lower held none;
-      room = ap (λ (r : Quota). is_beyond (reservations_in hall.shared) r q) there.reserve ∙ not_beyond hall.shared held.ask q (used All book.grants) (used All (grants_without who n book.grants)) book.plan.totals (all-seats hall book is) (used-found who n book.grants held at) room is.segments is.nodes;
+      more = ap (λ (r : Quota). is_lower r q) there.reserve ∙ not-lower held none;
+      room = ap (λ (r : Quota). is_beyond (reservations_in hall.shared) r q) there.reserve ∙ not-beyond hall.shared held.ask q (used All book.grants) (used All (grants_without who n book.grants)) book.plan.totals (all-seats hall book is) (used-found who n book.grants held at) room is.segments is.nodes;
     }
   where
-    not_lower : (held : Held) → why_no_raise book.plan who n q book.grants (Some held) ≡ None → is_lower held.ask q ≡ false
-    not_lower held none = elim (cases_Bool (is_lower held.ask q)) [
+    not-lower : (held : Held) → why_no_raise book.plan who n q book.grants (Some held) ≡ None → is_lower held.ask q ≡ false
+    not-lower held none = elim (cases_Bool (is_lower held.ask q)) [
       | inl aye ↦ (let some : ◌≡◌ {A = Option BookRefusal} (Some Lower) None = rw aye at none in absurd cc)
       | inr nay ↦ nay
     ]

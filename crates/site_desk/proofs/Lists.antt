@@ -1,5 +1,5 @@
 -- Who is listed is who has a grant, after each call.
-use Rattle.site_desk.proofs.Common.{◌≡◌, ℕ, ◌<◌, ◌≤◌, ◌&&◌, inl, inr, Bool, true, false, cond, eqb, List, [], ◌∷◌, ◌++◌, length, refl, ap, sym, ◌∙◌, subst, arith, length-append, cases_Bool, Quota, Held, Who, same_who, is_held_as, grants_without, BookOf, Opens, Raises, Closes, taken, Name, names_granted, PlanOf, Mark, Spoke, Waits, Told as told_to, Present, Whom, is_meant, is_present_as, marked, marked_all, marked_if, names_present, newcomer, without_present, stays, told_by, told_unless, with_staying, Turned, ByBook, OldTenant, OutOfMemory, BookedOf, IsRaise, IsListed, names-with_ask}
+use Rattle.site_desk.proofs.Common.{◌≡◌, ℕ, ◌<◌, ◌≤◌, ◌&&◌, inl, inr, Bool, true, false, cond, eqb, List, [], ◌∷◌, ◌++◌, length, refl, ap, sym, ◌∙◌, subst, arith, length-append, cases_Bool, Quota, Held, Who, same_who, is_held_as, grants_without, BookOf, Opens, Raises, Closes, taken, Name, names_granted, PlanOf, Mark, Spoke, Waits, Told as told_to, Present, Whom, is_meant, is_present_as, marked, marked_all, marked_if, names_present, newcomer, without_present, stays, told_by, told_unless, with_staying, Turned, ByBook, OldTenant, OutOfMemory, BookedOf, IsRaise, IsListed, names-with-ask}
 use Rattle.std.specs.Prelude.{Result, Ok, Err}
 
 abbrev name_of : Present → Name
@@ -79,7 +79,7 @@ listed_open book book' roll who n now q is entered =
 
 listed-raise : (book book' : BookOf) (roll : List Present) (who : Who) (n : ℕ) (q : Quota) → IsListed book roll → book' ≡ taken book (Raises who n q) → IsListed book' roll
 listed-raise book book' roll who n q is raised =
-    is ∙ (sym (names-with_ask who n q book.grants) ∙ ap (λ (b : BookOf). names_granted b.grants) (sym raised))
+    is ∙ (sym (names-with-ask who n q book.grants) ∙ ap (λ (b : BookOf). names_granted b.grants) (sym raised))
 
 pub listed_close : (book book' : BookOf) (roll : List Present) (who : Who) (n : ℕ) → IsListed book roll → book' ≡ taken book (Closes who n) → IsListed book' (without_present who n roll)
 listed_close book book' roll who n is closed =

@@ -1,5 +1,5 @@
 -- Seats, by a book's grants and by a hall's tenants.
-use Rattle.site_desk.proofs.Common.{◌≡◌, ℕ, ◌+◌, ◌<◌, ◌≤◌, inl, inr, true, false, cond, eqb, List, [], ◌∷◌, ◌++◌, length, Option, Some, None, refl, ap, sym, ◌∙◌, subst, arith, cases_Bool, eqb-true, eq-eqb, ne_eqb, and_parts, or_from, lt-leb, le-ltb, sum_by-cons, AreAbove, AreRising, Quota, reserved_segments, reserved_nodes, Account, Tenant, account_in, CoreState, tenant_in, with_tenant, without_tenant, accounts_in, reservations_in, is_full, is_beyond, AreNumbersTaken, Amount, Held, All, Who, same_who, nothing, of_one, plus, IsAmountWithin, used, is_held_as, grant_of, grants_without, grants_raised, plus_swap, Seat, seats_in_book, seats_in_hall, number_of}
+use Rattle.site_desk.proofs.Common.{◌≡◌, ℕ, ◌+◌, ◌<◌, ◌≤◌, inl, inr, true, false, cond, eqb, List, [], ◌∷◌, ◌++◌, length, Option, Some, None, refl, ap, sym, ◌∙◌, subst, arith, cases_Bool, eqb-true, eq-eqb, ne_eqb, and_parts, or_from, lt-leb, le-ltb, sum_by-cons, AreAbove, AreRising, Quota, reserved_segments, reserved_nodes, Account, Tenant, account_in, CoreState, tenant_in, with_tenant, without_tenant, accounts_in, reservations_in, is_full, is_beyond, AreNumbersTaken, Amount, Held, All, Who, same_who, nothing, of_one, plus, IsAmountWithin, used, is_held_as, grant_of, grants_without, grants_raised, plus-swap, Seat, seats_in_book, seats_in_hall, number_of}
 
 abbrev Entries : Type 0
 Entries = List (ℕ × Tenant)
@@ -78,17 +78,17 @@ held-number : (who : Who) (n : ℕ) (g : Held) → is_held_as who n g ≡ true �
 held-number who n g aye = eqb-true n g.session (and_parts (same_who who g.who) (eqb n g.session) aye).1
 
 -- a session that is found isn't below all
-not_above : (who : Who) (n : ℕ) (gs : List Held) (held : Held) → grant_of who n gs ≡ Some held → AreAbove number_of n (seats_in_book gs) → ⊥
-not_above who n [] held is above = cc
-not_above who n (g ∷ gs) held is above = elim (cases_Bool (is_held_as who n g)) [
+not-above : (who : Who) (n : ℕ) (gs : List Held) (held : Held) → grant_of who n gs ≡ Some held → AreAbove number_of n (seats_in_book gs) → ⊥
+not-above who n [] held is above = cc
+not-above who n (g ∷ gs) held is above = elim (cases_Bool (is_held_as who n g)) [
   | inl aye ↦ (let number = held-number who n g aye in let more : n < g.session = above.0 in omega (arith, number, more))
-  | inr nay ↦ not_above who n gs held (rw nay at is) above.1
+  | inr nay ↦ not-above who n gs held (rw nay at is) above.1
 ]
 
 -- where the first is another's its number isn't that of the session that is found behind it
 other-number : (who : Who) (n : ℕ) (g : Held) (gs : List Held) (held : Held) → grant_of who n gs ≡ Some held → AreAbove number_of g.session (seats_in_book gs) → eqb g.session n ≡ false
 other-number who n g gs held is above = elim (cases_Bool (eqb g.session n)) [
-  | inl aye ↦ absurd (not_above who n gs held is (subst (λ m. AreAbove number_of m (seats_in_book gs)) (eqb-true g.session n aye) above))
+  | inl aye ↦ absurd (not-above who n gs held is (subst (λ m. AreAbove number_of m (seats_in_book gs)) (eqb-true g.session n aye) above))
   | inr nay ↦ nay
 ]
 
@@ -192,21 +192,21 @@ pub used-found : (who : Who) (n : ℕ) (gs : List Held) (held : Held) → grant_
 used-found who n [] held is = absurd cc
 used-found who n (g ∷ gs) held is = elim (cases_Bool (is_held_as who n g)) [
   | inl aye ↦ (let both : Some g ≡ Some held = rw aye at is in let same : g ≡ held = cc in rw aye (ap (λ (h : Held). plus (of_one h.ask) (used All gs)) same))
-  | inr nay ↦ (let rest = used-found who n gs held (rw nay at is) in rw nay (ap (plus (of_one g.ask)) rest ∙ plus_swap (of_one g.ask) (of_one held.ask) (used All (grants_without who n gs))))
+  | inr nay ↦ (let rest = used-found who n gs held (rw nay at is) in rw nay (ap (plus (of_one g.ask)) rest ∙ plus-swap (of_one g.ask) (of_one held.ask) (used All (grants_without who n gs))))
 ]
 
 -- room
 
-pub not_full : (shared : CoreState) (q : Quota) (all totals : Amount) → all ≡ amount_of (seats_in_hall shared.tenants) → IsAmountWithin (plus (of_one q) all) totals → totals.sessions ≤ 64 → totals.segments ≤ shared.totals.segments → totals.nodes ≤ shared.totals.nodes → is_full (reservations_in shared) q ≡ false
-not_full shared q all totals is room few segments nodes =
+pub not-full : (shared : CoreState) (q : Quota) (all totals : Amount) → all ≡ amount_of (seats_in_hall shared.tenants) → IsAmountWithin (plus (of_one q) all) totals → totals.sessions ≤ 64 → totals.segments ≤ shared.totals.segments → totals.nodes ≤ shared.totals.nodes → is_full (reservations_in shared) q ≡ false
+not-full shared q all totals is room few segments nodes =
     let accounts = accounts_in shared.tenants in
     let long : length accounts ≡ all.sessions = hall-sessions shared.tenants ∙ ap (λ (a : Amount). a.sessions) (sym is) in
     let segment_sum : reserved_segments accounts ≡ all.segments = hall-segments shared.tenants ∙ ap (λ (a : Amount). a.segments) (sym is) in
     let node_sum : reserved_nodes accounts ≡ all.nodes = hall-nodes shared.tenants ∙ ap (λ (a : Amount). a.nodes) (sym is) in
     or_from _ _ (or_from _ _ (lt-leb 64 (length accounts) (omega (arith, long, room.sessions, few))) (le-ltb shared.totals.segments (reserved_segments accounts + q.segments) (omega (arith, segment_sum, room.segments, segments)))) (le-ltb shared.totals.nodes (reserved_nodes accounts + q.nodes) (omega (arith, node_sum, room.nodes, nodes)))
 
-pub not_beyond : (shared : CoreState) (own q : Quota) (all others totals : Amount) → all ≡ amount_of (seats_in_hall shared.tenants) → all ≡ plus (of_one own) others → IsAmountWithin (plus (of_one q) others) totals → totals.segments ≤ shared.totals.segments → totals.nodes ≤ shared.totals.nodes → is_beyond (reservations_in shared) own q ≡ false
-not_beyond shared own q all others totals is parts room segments nodes =
+pub not-beyond : (shared : CoreState) (own q : Quota) (all others totals : Amount) → all ≡ amount_of (seats_in_hall shared.tenants) → all ≡ plus (of_one own) others → IsAmountWithin (plus (of_one q) others) totals → totals.segments ≤ shared.totals.segments → totals.nodes ≤ shared.totals.nodes → is_beyond (reservations_in shared) own q ≡ false
+not-beyond shared own q all others totals is parts room segments nodes =
     let accounts = accounts_in shared.tenants in
     let segment_sum : reserved_segments accounts ≡ own.segments + others.segments = hall-segments shared.tenants ∙ ap (λ (a : Amount). a.segments) (sym is ∙ parts) in
     let node_sum : reserved_nodes accounts ≡ own.nodes + others.nodes = hall-nodes shared.tenants ∙ ap (λ (a : Amount). a.nodes) (sym is ∙ parts) in

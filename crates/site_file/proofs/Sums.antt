@@ -1,6 +1,5 @@
 -- How much the lines that pass cost together.
-use Rattle.std.proofs.Common.{◌≡◌, ℕ, suc, zero, ◌+◌, ◌*◌, ◌≤◌, inl, inr, true, false, leb, List, [], ◌∷◌, refl, ap, sym, ◌∙◌, arith}
-use Rattle.std.specs.Prelude.{max}
+use Rattle.std.proofs.Common.{◌≡◌, ℕ, suc, ◌+◌, ◌*◌, ◌≤◌, inl, inr, true, leb, List, [], ◌∷◌, arith}
 use Rattle.std.proofs.lemmas.Bool.{cases_Bool}
 use Rattle.site_file.specs.declared.rate.Rate.{Rate}
 use Rattle.site_file.specs.Rates.{AreWithin, after_line, may_pass, passed}

@@ -32,18 +32,18 @@ module _ {O : Type 0} (does : O → Call → OfficeReply → O → Type 0) (gree
   welcomed Unknown quota from seated text to seated' h e = refused 30 from seated text to seated' h e
   welcomed Crowded quota from seated text to seated' h e = refused 14 from seated text to seated' h e
 
-  greeted_so : (passes : Bool) (greeted : Greeted) (quota : Quota) (from : O) (seated : Bool) (text : List ℕ) (to : O) (seated' : Bool) → IsGreeted does greeted passes quota from seated text to seated' → here from ≡ seated → here to ≡ seated'
-  greeted_so true greeted quota from seated text to seated' h e = welcomed greeted quota from seated text to seated' h e
-  greeted_so false greeted quota from seated text to seated' h e = refused 31 from seated text to seated' h e
+  greeted-so : (passes : Bool) (greeted : Greeted) (quota : Quota) (from : O) (seated : Bool) (text : List ℕ) (to : O) (seated' : Bool) → IsGreeted does greeted passes quota from seated text to seated' → here from ≡ seated → here to ≡ seated'
+  greeted-so true greeted quota from seated text to seated' h e = welcomed greeted quota from seated text to seated' h e
+  greeted-so false greeted quota from seated text to seated' h e = refused 31 from seated text to seated' h e
 
   raised : (passes : Bool) (quota : Quota) (from : O) (seated : Bool) (text : List ℕ) (to : O) (seated' : Bool) → IsRaised does passes quota from seated text to seated' → here from ≡ seated → here to ≡ seated'
   raised true quota from seated text to seated' h e = turned (Makes (Reserve quota)) from seated text to seated' h e
   raised false quota from seated text to seated' h e = refused 31 from seated text to seated' h e
 
   -- a line keeps it that the clerk knows whether a tenant is there
-  pub site_turned : (asked : SiteRequest) (from : O) (seated : Bool) (text : List ℕ) (to : O) (seated' : Bool) → SiteTurned does greets pays informs asked from seated text to seated' → here from ≡ seated → here to ≡ seated'
-  site_turned (Greets token quota) from seated text to seated' h e =
-      greeted_so h.2 h.0 quota h.3 seated text to seated' h.6 (paid h.1 h.2 h.3 h.5 ∙ met from token h.0 h.1 h.4 ∙ e)
-  site_turned (Raises quota) from seated text to seated' h e = raised h.0 quota h.1 seated text to seated' h.3 (paid from h.0 h.1 h.2 ∙ e)
-  site_turned Informs from seated text to seated' h e = informed from h.0 to h.1 ∙ e ∙ sym h.2
-  site_turned (Plain asked) from seated text to seated' h e = turned asked from seated text to seated' h e
+  pub site-turned : (asked : SiteRequest) (from : O) (seated : Bool) (text : List ℕ) (to : O) (seated' : Bool) → SiteTurned does greets pays informs asked from seated text to seated' → here from ≡ seated → here to ≡ seated'
+  site-turned (Greets token quota) from seated text to seated' h e =
+      greeted-so h.2 h.0 quota h.3 seated text to seated' h.6 (paid h.1 h.2 h.3 h.5 ∙ met from token h.0 h.1 h.4 ∙ e)
+  site-turned (Raises quota) from seated text to seated' h e = raised h.0 quota h.1 seated text to seated' h.3 (paid from h.0 h.1 h.2 ∙ e)
+  site-turned Informs from seated text to seated' h e = informed from h.0 to h.1 ∙ e ∙ sym h.2
+  site-turned (Plain asked) from seated text to seated' h e = turned asked from seated text to seated' h e

@@ -5,7 +5,7 @@ unfoldable pub use Rattle.std.specs.Fmt.{digits}
 pub use Rattle.std.specs.Option.{is_some, option_map}
 pub use Rattle.std.specs.Prelude.{Contains, IfErr}
 pub use Rattle.std.specs.Str.{bytes_eq}
-pub use Rattle.desk_office.proofs.SeatLemmas.{asked_at-map, refused_by, same_asks, says, told_of, told_to, unasked}
+pub use Rattle.desk_office.proofs.SeatLemmas.{asked_at-map, refused-by, same-asks, says, told-of, told-to, unasked}
 pub use Rattle.desk_office.specs.Offices.{ask_of, told_answer}
 pub use Rattle.desk_rules.specs.Asked.{IsShown, cancel_refusals, seat_asked_at}
 pub use Rattle.desk_rules.specs.declared.asked.SeatAsked.{SeatAsked}

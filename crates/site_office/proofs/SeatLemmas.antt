@@ -1,13 +1,13 @@
 -- What a seat shows of its jobs, as a session has it.
-use Rattle.site_office.proofs.Common.{◌≡◌, ℕ, map, false, Option, Some, None, refl, sym, subst, ap, ◌∙◌, Result, Ok, Err, Contains, IfErr, is_some, Outcome, Refusal, NoJob, refusal_number, Quota, Cancel, Reserve, Reserved, Ended, Told as ToldOf, Refused, reply_of, Asked, asked_at, IsJobReply, KeepsAsks, SaysTrue, Standing, SeatAsked, cancel_refusals, IsShown, seat_asked_at, ask_of, told_answer, asked_at-map, told_of, says, refused_by, unasked, SiteSeatOf, raise_refusals, asks_of_seat}
+use Rattle.site_office.proofs.Common.{◌≡◌, ℕ, map, false, Option, Some, None, refl, sym, subst, ap, ◌∙◌, Result, Ok, Err, Contains, IfErr, is_some, Outcome, Refusal, NoJob, refusal_number, Quota, Cancel, Reserve, Reserved, Ended, Told as ToldOf, Refused, reply_of, Asked, asked_at, IsJobReply, KeepsAsks, SaysTrue, Standing, SeatAsked, cancel_refusals, IsShown, seat_asked_at, ask_of, told_answer, asked_at-map, told-of, says, refused-by, unasked, SiteSeatOf, raise_refusals, asks_of_seat}
 use Rattle.std.specs.Prelude.{List}
 
 -- what the seat that is there shows of a job
-pub seat_shows : (here : Option SiteSeatOf) (seat : SiteSeatOf) (job : ℕ) (answer : Result Outcome Refusal) (said : Result Standing Refusal) → here ≡ Some seat → IsShown (seat_asked_at seat.asked job) answer → said ≡ told_answer answer
+pub seat-shows : (here : Option SiteSeatOf) (seat : SiteSeatOf) (job : ℕ) (answer : Result Outcome Refusal) (said : Result Standing Refusal) → here ≡ Some seat → IsShown (seat_asked_at seat.asked job) answer → said ≡ told_answer answer
     → SaysTrue (asks_of_seat here) (reply_of (ToldOf job) said) × IsJobReply job (asked_at (asks_of_seat here) job) (reply_of (ToldOf job) said)
-seat_shows here seat job answer said is shown says_so =
+seat-shows here seat job answer said is shown says_so =
     let tells : IsJobReply job (asked_at (map ask_of seat.asked) job) (reply_of (ToldOf job) (told_answer answer)) =
-    subst (λ o. IsJobReply job o (reply_of (ToldOf job) (told_answer answer))) (sym (asked_at-map seat.asked job)) (told_of job (seat_asked_at seat.asked job) answer shown) in
+    subst (λ o. IsJobReply job o (reply_of (ToldOf job) (told_answer answer))) (sym (asked_at-map seat.asked job)) (told-of job (seat_asked_at seat.asked job) answer shown) in
     subst (λ o. SaysTrue (asks_of_seat o) (reply_of (ToldOf job) said) × IsJobReply job (asked_at (asks_of_seat o) job) (reply_of (ToldOf job) said)) (sym is)
     (subst (λ t. SaysTrue (map ask_of seat.asked) (reply_of (ToldOf job) t) × IsJobReply job (asked_at (map ask_of seat.asked) job) (reply_of (ToldOf job) t)) (sym says_so) (says seat.asked job answer shown, tells))
 
@@ -17,21 +17,21 @@ cancels : (asks : List SeatAsked) (job : ℕ) (answer : Result (Unit {0}) Refusa
 cancels asks job (Ok done) none refused = (refl, tt, (tt, λ h. absurd (cc (none (unasked (seat_asked_at asks job) (sym (asked_at-map asks job) ∙ h))))), refl)
 cancels asks job (Err refusal) none refused =
     let missing : seat_asked_at asks job ≡ None → refusal ≡ NoJob = λ h. cc (none h) in
-    (refl, tt, (refused_by cancel_refusals refusal refused, λ h. ap (λ r. Refused (refusal_number r)) (missing (unasked (seat_asked_at asks job) (sym (asked_at-map asks job) ∙ h)))), tt)
+    (refl, tt, (refused-by cancel_refusals refusal refused, λ h. ap (λ r. Refused (refusal_number r)) (missing (unasked (seat_asked_at asks job) (sym (asked_at-map asks job) ∙ h)))), tt)
 
 -- what becomes of the asks by it
-pub seat_cancels : (here : Option SiteSeatOf) (seat : SiteSeatOf) (job : ℕ) (answer : Result (Unit {0}) Refusal) → here ≡ Some seat
+pub seat-cancels : (here : Option SiteSeatOf) (seat : SiteSeatOf) (job : ℕ) (answer : Result (Unit {0}) Refusal) → here ≡ Some seat
     → (seat_asked_at seat.asked job ≡ None → answer ≡ Err NoJob) → IfErr answer (Contains cancel_refusals) → KeepsAsks (asks_of_seat here) (Cancel job) (reply_of (λ _. Ended job) answer) (asks_of_seat here)
-seat_cancels here seat job answer is none refused =
+seat-cancels here seat job answer is none refused =
     subst (λ o. KeepsAsks (asks_of_seat o) (Cancel job) (reply_of (λ _. Ended job) answer) (asks_of_seat o)) (sym is) (cancels seat.asked job answer none refused)
 
 -- asks stay where a reservation is raised, or refused
 pub raises : (asks : List Asked) (quota : Quota) (answer : Result (Unit {0}) Refusal) → IfErr answer (Contains raise_refusals)
     → KeepsAsks asks (Reserve quota) (reply_of (λ _. Reserved quota) answer) asks
 raises asks quota (Ok done) refused = (refl, tt, tt, refl)
-raises asks quota (Err refusal) refused = (refl, tt, refused_by raise_refusals refusal refused, tt)
+raises asks quota (Err refusal) refused = (refl, tt, refused-by raise_refusals refusal refused, tt)
 
 -- nothing is there
-pub none_of : {X : Type 0} (o : Option X) → is_some o ≡ false → o ≡ None
-none_of None h = refl
-none_of (Some x) h = absurd (cc h)
+pub none-of : {X : Type 0} (o : Option X) → is_some o ≡ false → o ≡ None
+none-of None h = refl
+none-of (Some x) h = absurd (cc h)

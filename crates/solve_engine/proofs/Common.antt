@@ -43,7 +43,7 @@ pub use Rattle.pool_rules.specs.declared.turn.Holding.{Holding}
 pub use Rattle.pool_rules.specs.declared.turn.Holding.TheVariants.{Computing, GivingUp, Next, Nothing}
 pub use Rattle.protocol.specs.Texts.{error_text, value_text, visited_text}
 pub use Rattle.sched_rules.proofs.Isolation.{IsTaken, shared-after-taken, step-taken}
-pub use Rattle.sched_rules.proofs.Tenants.{tenant_in-with_outcome, tenant_in_other-with_outcome}
+pub use Rattle.sched_rules.proofs.Tenants.{tenant_in-with_outcome, tenant_in-other-with_outcome}
 pub use Rattle.sched_rules.specs.Cores.{CoreOf, CoreState, shared_by_nobody, shared_with, tenant_in}
 pub use Rattle.sched_rules.specs.Functions.{Functions}
 pub use Rattle.sched_rules.specs.Headline.{AreNumbersGiven, IsOneStep}

@@ -1,5 +1,5 @@
 -- What a search keeps: it begins by an admission and a Submit, and goes on by a worker's steps.
-use Rattle.solve_engine.proofs.Common.{◌≡◌, ◌≢◌, ℕ, inl, inr, false, eqb, ltb, [], ◌∷◌, ◌++◌, Option, Some, None, Result, Ok, Err, refl, ap, sym, ◌∙◌, arith, cases_Bool, eqb-true, eqb-false, nat_tests, Quota, IsWithinLimits, Refusal, StepOf, Admit, Submit, DidOf, Admitted, Tenant, admitted_with, left, Outcome, lone, lone_step, lone_refusal, refusal_in, submitted, tenant_of, answer_of, CoreState, CoreOf, shared_by_nobody, shared_with, tenant_in, IsOneStep, AreNumbersGiven, tenant_in-with_outcome, tenant_in_other-with_outcome, IsTaken, step-taken, shared-after-taken, IsRunning, runs-on, submits, Leaf, LeafAnswer, jamboree, root_words, IsSearch, Jamboree, HasRun, HasReserved, Task, WorksOn, IsWork, Keeps, IsNewCore}
+use Rattle.solve_engine.proofs.Common.{◌≡◌, ◌≢◌, ℕ, inl, inr, false, eqb, ltb, [], ◌∷◌, ◌++◌, Option, Some, None, Result, Ok, Err, refl, ap, sym, ◌∙◌, arith, cases_Bool, eqb-true, eqb-false, nat_tests, Quota, IsWithinLimits, Refusal, StepOf, Admit, Submit, DidOf, Admitted, Tenant, admitted_with, left, Outcome, lone, lone_step, lone_refusal, refusal_in, submitted, tenant_of, answer_of, CoreState, CoreOf, shared_by_nobody, shared_with, tenant_in, IsOneStep, AreNumbersGiven, tenant_in-with_outcome, tenant_in-other-with_outcome, IsTaken, step-taken, shared-after-taken, IsRunning, runs-on, submits, Leaf, LeafAnswer, jamboree, root_words, IsSearch, Jamboree, HasRun, HasReserved, Task, WorksOn, IsWork, Keeps, IsNewCore}
 use Rattle.solve_engine.proofs.Staying.{Stays, step-stays}
 use Rattle.solve_engine.proofs.Asking.{StepSearches, step-asks, submit-asks, nothing-asked}
 
@@ -30,7 +30,7 @@ module _ (grain : ℕ) (before : CoreState) (step : StepOf LeafAnswer) where
       let is : after ≡ shared = one.left ∙ shared-after-taken (jamboree grain) before step did t in
       let entries : tenant_in after.tenants 1 ≡ tenant_in shared.tenants 1 = ap (λ (s : CoreState). tenant_in s.tenants 1) is in (
         (λ own. entries ∙ ap (λ n. tenant_in shared.tenants n) (sym own) ∙ tenant_in-with_outcome (tenant_of step) t.outcome.0 before.tenants),
-        (λ other. entries ∙ tenant_in_other-with_outcome 1 (tenant_of step) t.outcome.0 before.tenants other),
+        (λ other. entries ∙ tenant_in-other-with_outcome 1 (tenant_of step) t.outcome.0 before.tenants other),
       )
 
   -- the tenant stays, whoever's the worker's step is

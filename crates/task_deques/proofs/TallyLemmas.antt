@@ -13,30 +13,30 @@ pub total-set : (f : Tally → ℕ) (l : List Tally) (j : ℕ) (v w : Tally) →
 total-set f (x ∷ xs) (suc j) v w e = omega (arith, total-set f xs j v w e)
 total-set f l j v w e = grind arith
 
-pub term_le : (f : Tally → ℕ) (l : List Tally) (j : ℕ) (v : Tally) → get_elem? l j ≡ some v → f v ≤ total f l
-term_le f (x ∷ xs) (suc j) v e = omega (arith, term_le f xs j v e)
-term_le f l j v e = grind arith
+pub term-le : (f : Tally → ℕ) (l : List Tally) (j : ℕ) (v : Tally) → get_elem? l j ≡ some v → f v ≤ total f l
+term-le f (x ∷ xs) (suc j) v e = omega (arith, term-le f xs j v e)
+term-le f l j v e = grind arith
 
 -- where f is 0 of each seat with no part, and no seat has a part, it is 0 of all
-none_left : (f : Tally → ℕ) (l : List Tally) → ((j : ℕ) (u : Tally) → get_elem? l j ≡ some u → u.parts ≡ 0 → f u ≡ 0) → total (λ u. u.parts) l ≡ 0 → total f l ≡ 0
-none_left f [] idle none = refl
-none_left f (x ∷ xs) idle none = omega (arith, idle 0 x refl (omega arith), none_left f xs (λ j u e. idle (suc j) u e) (omega arith))
+none-left : (f : Tally → ℕ) (l : List Tally) → ((j : ℕ) (u : Tally) → get_elem? l j ≡ some u → u.parts ≡ 0 → f u ≡ 0) → total (λ u. u.parts) l ≡ 0 → total f l ≡ 0
+none-left f [] idle none = refl
+none-left f (x ∷ xs) idle none = omega (arith, idle 0 x refl (omega arith), none-left f xs (λ j u e. idle (suc j) u e) (omega arith))
 
 -- the seat with all parts has the whole
 pub alone : (f : Tally → ℕ) (l : List Tally) (j : ℕ) (v : Tally) → get_elem? l j ≡ some v → total (λ u. u.parts) l ≡ v.parts → ((j : ℕ) (u : Tally) → get_elem? l j ≡ some u → u.parts ≡ 0 → f u ≡ 0) → total f l ≡ f v
 alone f [] j v e all idle = absurd (some-ne-none v (sym e))
 alone f (x ∷ xs) zero v e all idle =
     let same = some-injective x v e in
-    omega (arith, ap f same, none_left f xs (λ j u d. idle (suc j) u d) (omega (arith, ap (λ (u : Tally). u.parts) same)))
+    omega (arith, ap f same, none-left f xs (λ j u d. idle (suc j) u d) (omega (arith, ap (λ (u : Tally). u.parts) same)))
 alone f (x ∷ xs) (suc j) v e all idle =
-    let least = term_le (λ u. u.parts) xs j v e in
+    let least = term-le (λ u. u.parts) xs j v e in
     omega (arith, idle 0 x refl (omega arith), alone f xs j v e (omega arith) (λ k u d. idle (suc k) u d))
 
-pub idle_set : (l : List Tally) (j : ℕ) (w : Tally) → (w.parts ≡ 0 → (w.pushed ≡ []) × (w.taken ≡ [])) → IdleIsEmpty l → IdleIsEmpty (set l j w)
-idle_set l j w mine others k u e none = grind (arith, at_set)
+pub idle-set : (l : List Tally) (j : ℕ) (w : Tally) → (w.parts ≡ 0 → (w.pushed ≡ []) × (w.taken ≡ [])) → IdleIsEmpty l → IdleIsEmpty (set l j w)
+idle-set l j w mine others k u e none = grind (arith, at_set)
 
-pub idle_snoc : (l : List Tally) (w : Tally) → (w.parts ≡ 0 → (w.pushed ≡ []) × (w.taken ≡ [])) → IdleIsEmpty l → IdleIsEmpty (l ++ w ∷ [])
-idle_snoc l w mine others k u e none = grind (arith, at_snoc)
+pub idle-snoc : (l : List Tally) (w : Tally) → (w.parts ≡ 0 → (w.pushed ≡ []) × (w.taken ≡ [])) → IdleIsEmpty l → IdleIsEmpty (l ++ w ∷ [])
+idle-snoc l w mine others k u e none = grind (arith, at_snoc)
 
 pub weigh-one : (xs : List Task) → weigh (λ _. 1) xs ≡ length xs
 weigh-one [] = refl

@@ -15,5 +15,5 @@ module _ (P : ℕ × Account → Type 0) where
   AllEntries-of t a es is all = edits.all-of P owner_of_account t (t, a) es (entry-of t a es is) all
 
 -- what one entry has of h beyond g lies within what all together have
-pub sum_by-le_with : (g h : ℕ × Account → ℕ) (t : ℕ) (a : Account) (es : Entries) → account_of t es ≡ Some a → AllEntries (λ e. g e ≤ h e) es → sum_by g es + (h (t, a) - g (t, a)) ≤ sum_by h es
-sum_by-le_with g h t a es is all = edits.sum_by-le_with g h owner_of_account t (t, a) es (entry-of t a es is) all
+pub sum_by-le-with : (g h : ℕ × Account → ℕ) (t : ℕ) (a : Account) (es : Entries) → account_of t es ≡ Some a → AllEntries (λ e. g e ≤ h e) es → sum_by g es + (h (t, a) - g (t, a)) ≤ sum_by h es
+sum_by-le-with g h t a es is all = edits.sum_by-le-with g h owner_of_account t (t, a) es (entry-of t a es is) all

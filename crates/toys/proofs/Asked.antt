@@ -1,5 +1,5 @@
 -- `Counted::asked` at a call. Assumes `Logic`.
---     Asks, at_asked, asked_goes, asked_gives      its contract, what it is handed, and the allocator that it shows, if there is one
+--     Asks, at_asked, asked-goes, asked-gives      its contract, what it is handed, and the allocator that it shows, if there is one
 use Rattle.toys.proofs.Common.{◌≡◌, refl, ap, ◌∙◌, List, [], ◌∷◌, ◌++◌, Option, Some, None, IfSome, Bor, T, lit<, Ura, Callee, a_type, named, Val, vptr, of_list, has_ty, WT, SProp, ent, sep, ex, guard, emp, id⊢, Lft, Share, Fml, ftrue, fsep, Memory, Routine, Logic, sem, ◌⊑◌, Fun, fact, fact_i, ‵, raw, ◌⊛◌, some, later, given, ◌$◌, ◌∵◌, !, qed, move, keep, use0, use1, split, join, pick, learn, fsplit, fjoin, fpick, feq_l, feq_i, check, show, await, updating, now as at_once, done, live, RattleType, hidden_shr, layout, layouts, param, ShrRef, shr_vals, only, nothing, Contract, triple_of, Al, seen}
 use Rattle.std.specs.contracts.option.Option as O
 use Rattle.toys.specs.contracts.counting.Counted as L
@@ -41,8 +41,8 @@ module _ (Z : Al) {M : Type 1} {𝓤 : Ura M} (𝓛 : Logic 𝓤) (at_mem : Memo
     abbrev pub Told : Option (Bor Z.row.Denot) → Type 0
     Told o = IfSome o (λ h. h.now ≡ r.now.inner)
 
-    pub asked_goes : ρ ⊑ Z.row.lives → ent 𝓤 (sep 𝓤 (sem 𝓛 (hidden_shr (L.the_row (param 0 Z.row)) κ r.now r.ref_ptr.0 r.ref_ptr.1)) Tokens) (Asks.pre at_asked)
-    asked_goes le = qed 𝓛 (‵ (hidden_shr (L.the_row (param 0 Z.row)) κ r.now r.ref_ptr.0 r.ref_ptr.1) ∷ raw Tokens ∷ []) ∵
+    pub asked-goes : ρ ⊑ Z.row.lives → ent 𝓤 (sep 𝓤 (sem 𝓛 (hidden_shr (L.the_row (param 0 Z.row)) κ r.now r.ref_ptr.0 r.ref_ptr.1)) Tokens) (Asks.pre at_asked)
+    asked-goes le = qed 𝓛 (‵ (hidden_shr (L.the_row (param 0 Z.row)) κ r.now r.ref_ptr.0 r.ref_ptr.1) ∷ raw Tokens ∷ []) ∵
         feq_i ! (List Val) (shr_vals r) (shr_vals r) refl $ fjoin ! $ nothing ! $ move ! (1 ∷ 0 ∷ []) $ fjoin ! $ move ! (1 ∷ 0 ∷ []) $ join ! $
         nothing ! $ use0 𝓛 (raw (fact 𝓤 (ρ ⊑ Z.row.lives))) (fact_i 𝓤 (ρ ⊑ Z.row.lives) (emp 𝓤) le) $ join ! $ move ! (1 ∷ 0 ∷ []) $ done !
 
@@ -55,8 +55,8 @@ module _ (Z : Al) {M : Type 1} {𝓤 : Ura M} (𝓛 : Logic 𝓤) (at_mem : Memo
     abbrev pub Found : Val → Option (Bor Z.row.Denot) → SProp 𝓤
     Found v o = guard 𝓤 ((v ≡ shown_val o) × Told o) (sep 𝓤 (sem 𝓛 (seen_if Z κ o)) Tokens)
 
-    pub asked_gives : (v : Val) → ent 𝓤 (Asks.post at_asked v) (H.⇛ (ex 𝓤 (Found v)))
-    asked_gives v = qed 𝓛 (raw (Asks.post at_asked v) ∷ []) ∵ updating ! $
+    pub asked-gives : (v : Val) → ent 𝓤 (Asks.post at_asked v) (H.⇛ (ex 𝓤 (Found v)))
+    asked-gives v = qed 𝓛 (raw (Asks.post at_asked v) ∷ []) ∵ updating ! $
         use1 𝓛 (later (some (λ (o : Option (Bor Z.row.Denot)). (raw Tokens ⊛ ‵ ((Shown Z κ).own_val o (v ∷ []))) ⊛ some (λ (ws : Unit {0} × Unit {0}). ‵ (fsep ftrue ftrue) ⊛ given (Told o) (‵ ftrue))))) (id⊢ 𝓤 _) $ await ! tt $ pick ! (λ o.
         split ! $ split ! $ move ! (1 ∷ []) $ use1 𝓛 (given (v ≡ shown_val o) (‵ (seen_if Z κ o))) (opened o v) $ learn ! (λ e. move ! (2 ∷ []) $ pick ! (λ ws. split ! $ move ! (1 ∷ []) $ learn ! (λ k.
         at_once ! $ show ! (Found v) o $ check ! (e, k) $ keep ! (2 ∷ 3 ∷ []) $ done !))))

@@ -1,4 +1,4 @@
-use Rattle.jamboree.proofs.Common.{sym, ◌∙◌, may_be_child, is_formed, returns as to_return, act_of, frame_in, frame_with, entries_of}
+use Rattle.jamboree.proofs.Common.{sym, ◌∙◌, may_be_child, returns as to_return, act_of, frame_in, frame_with, entries_of}
 use Rattle.std.proofs.Common.{Some}
 use Rattle.jamboree.proofs.SightLemmas.{by-form}
 use Rattle.jamboree.proofs.procedure.plan_below.Goals as goal

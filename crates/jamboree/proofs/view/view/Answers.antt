@@ -1,4 +1,4 @@
-use Rattle.jamboree.proofs.Common.{◌∙◌, arith, head_of, entries_of}
+use Rattle.jamboree.proofs.Common.{arith, head_of}
 use Rattle.std.proofs.Common.{refl}
 use Rattle.jamboree.proofs.ViewLemmas.{formed-parts}
 use Rattle.jamboree.proofs.view.view.Goals as goal

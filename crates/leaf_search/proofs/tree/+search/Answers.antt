@@ -1,5 +1,5 @@
-use Rattle.leaf_search.proofs.Common.{rules, ◌≡◌, true, false, neg_ℤ, ◌-◌, sym, ◌∙◌, ap, arith, int_max, ints, clamps, cells, goes_down, final_value, minimax, Counted, minimax-deeper, minimax-over}
-use Rattle.leaf_search.proofs.WindowLemmas.{child_of, Searched-turn, IsSearching-cut, IsSearching-bound, IsSearching-real, IsSearching-next, exact_bound, some_left, none_left}
+use Rattle.leaf_search.proofs.Common.{rules, ◌≡◌, neg_ℤ, ◌-◌, sym, ◌∙◌, ap, arith, int_max, ints, clamps, cells, goes_down, final_value, minimax, Counted, minimax-deeper, minimax-over}
+use Rattle.leaf_search.proofs.WindowLemmas.{child-of, Searched-turn, IsSearching-cut, IsSearching-bound, IsSearching-real, IsSearching-next, exact-bound, some-left, none-left}
 use Rattle.leaf_search.proofs.tree.+search.Goals as goal
 
 pub score_of-search_below-child-requires : goal.score_of-search_below-child-requires
@@ -18,7 +18,7 @@ score_of-returns-then-best-window t c =
     let board = cells c.args.board in
     let searching = c.loop-choice.invariant.searching in
     let e = c.search_below-child.ensures in
-    let child = child_of c.args.depth board c.in-Some.choice c.plies.ensures.value c.after.ensures c.of_child.ensures.alpha c.of_child.ensures.beta e.bound e.within in
+    let child = child-of c.args.depth board c.in-Some.choice c.plies.ensures.value c.after.ensures c.of_child.ensures.alpha c.of_child.ensures.beta e.bound e.within in
     let score = c.with-best.ensures.score in
     record {
       bound = rw (minimax-deeper c.args.depth board c.requires.deep)
@@ -32,7 +32,7 @@ score_of-loop-choice-preserved t c =
     let beta_is : c.of_child.result.beta ≡ neg_ℤ (int_max c.args.window.alpha c.loop-choice.best.score) =
     c.of_child.ensures.beta ∙ ap (λ b. neg_ℤ (int_max c.args.window.alpha b)) (omega (arith, ints, searching.least, searching.greatest)) in
     Searched-turn c.loop-choice.invariant c.in-Some.ensures.cases
-    (child_of c.args.depth (cells c.args.board) c.in-Some.choice c.plies.ensures.value c.after.ensures c.of_child.ensures.alpha beta_is
+    (child-of c.args.depth (cells c.args.board) c.in-Some.choice c.plies.ensures.value c.after.ensures c.of_child.ensures.alpha beta_is
     c.search_below-child.ensures.bound c.search_below-child.ensures.within)
     c.with-best.ensures.score (omega (arith, ints))
 
@@ -40,7 +40,7 @@ pub score_of-returns : goal.score_of-returns
 score_of-returns t c =
     let board = cells c.args.board in
     let searching = c.loop-choice.invariant.searching in
-    let some = some_left board c.new-left.ensures c.is_empty.ensures c.if-is_empty.false in
+    let some = some-left board c.new-left.ensures c.is_empty.ensures c.if-is_empty.false in
     record {
       bound = rw (minimax-deeper c.args.depth board c.requires.deep) (IsSearching-bound searching c.in_default.ensures.cases some (final_value board));
       within = (IsSearching-real searching c.in_default.ensures.cases some, searching.greatest);
@@ -51,11 +51,11 @@ pub score_of-returns-then-is_empty-clause-bound : goal.score_of-returns-then-is_
 score_of-returns-then-is_empty-clause-bound t c =
     let board = cells c.args.board in
     let score_is : final_value board ≡ c.entered.result.score = omega (arith, ints, ap (λ (s : Counted). s.score) c.entered.ensures, c.final_value.ensures.value) in
-    exact_bound _ _ _ _ (minimax-over c.args.depth board (none_left board c.new-left.ensures c.is_empty.ensures c.if-is_empty.true) ∙ score_is)
+    exact-bound _ _ _ _ (minimax-over c.args.depth board (none-left board c.new-left.ensures c.is_empty.ensures c.if-is_empty.true) ∙ score_is)
 
 -- a leaf
 pub search_below-returns-clause-bound : goal.search_below-returns-clause-bound
 search_below-returns-clause-bound t c =
     let none : c.args.depth ≡ 0 = omega arith in
     let score_is : c.entered.result ≡ c.entered-2.result.score = omega (arith, ints, ap (λ (s : Counted). s.score) c.entered-2.ensures) in
-    exact_bound _ _ _ _ (ap (λ d. minimax d (cells c.args.weighed.board)) none ∙ sym c.entered.ensures.value ∙ score_is)
+    exact-bound _ _ _ _ (ap (λ d. minimax d (cells c.args.weighed.board)) none ∙ sym c.entered.ensures.value ∙ score_is)

@@ -1,27 +1,27 @@
-use Rattle.leaf_search.proofs.Common.{◌≡◌, true, false, neg_ℤ, sym, ◌∙◌, ap, arith, int_max, ints, clamps, cells, final_value, Scored, minimax-deeper, best_choice-deeper, minimax-over, best_choice-over}
-use Rattle.leaf_search.proofs.WindowLemmas.{IsTakenIn, greater, still_chosen, child_of, IsSearching-turn, IsSearching-cut, IsSearching-next, IsSearching-real, IsSearching-bound, IsSearching-best, exact_bound, some_left, none_left}
+use Rattle.leaf_search.proofs.Common.{◌≡◌, neg_ℤ, sym, ◌∙◌, ap, arith, int_max, ints, clamps, cells, final_value, Scored, minimax-deeper, best_choice-deeper, minimax-over, best_choice-over}
+use Rattle.leaf_search.proofs.WindowLemmas.{IsTakenIn, greater, still-chosen, child-of, IsSearching-turn, IsSearching-cut, IsSearching-next, IsSearching-real, IsSearching-bound, IsSearching-best, exact-bound, some-left, none-left}
 use Rattle.leaf_search.proofs.tree.best_of.Goals as goal
 
 pub after-requires : goal.after-requires
 after-requires c = IsSearching-next c.loop-choice.invariant c.in-Some.ensures.cases
 
 -- the child's score is taken in where the search ends
-taken_in : (c : goal.Then-best-window) → IsTakenIn c.loop-choice.best.score c.search_below-child.result.score c.loop-choice.best.choice c.in-Some.choice c.take_in.new.self.score c.take_in.new.self.choice
-taken_in c = record { better = c.take_in.ensures.better; kept = c.take_in.ensures.kept }
+taken-in : (c : goal.Then-best-window) → IsTakenIn c.loop-choice.best.score c.search_below-child.result.score c.loop-choice.best.choice c.in-Some.choice c.take_in.new.self.score c.take_in.new.self.choice
+taken-in c = record { better = c.take_in.ensures.better; kept = c.take_in.ensures.kept }
 
 pub returns-then-best-window : goal.returns-then-best-window
 returns-then-best-window c =
     let board = cells c.args.weighed.board in
     let s = c.loop-choice.invariant in
     let e = c.search_below-child.ensures in
-    let child = child_of c.args.depth board c.in-Some.choice c.plies.ensures.value c.after.ensures c.of_child.ensures.alpha c.of_child.ensures.beta e.bound e.within in
-    let score = greater (taken_in c) in
+    let child = child-of c.args.depth board c.in-Some.choice c.plies.ensures.value c.after.ensures c.of_child.ensures.alpha c.of_child.ensures.beta e.bound e.within in
+    let score = greater (taken-in c) in
     record {
       bound = rw (minimax-deeper c.args.depth board c.requires)
           (IsSearching-cut s c.in-Some.ensures.cases (final_value board) c.args.window.open child score (omega (arith, ints)));
       choice = λ higher lower. absurd (omega (arith, ints));
       within = (omega (arith, ints, clamps, e.within.1), omega (arith, ints, clamps, e.within.0, s.greatest));
-      chosen = still_chosen (taken_in c) _ s.chosen (IsSearching-next s c.in-Some.ensures.cases);
+      chosen = still-chosen (taken-in c) _ s.chosen (IsSearching-next s c.in-Some.ensures.cases);
     }
 
 pub loop-choice-preserved : goal.loop-choice-preserved
@@ -29,7 +29,7 @@ loop-choice-preserved c =
     let beta_is : c.of_child.result.beta ≡ neg_ℤ (int_max c.args.window.alpha c.loop-choice.best.score) =
     c.of_child.ensures.beta ∙ ap (λ b. neg_ℤ (int_max c.args.window.alpha b)) (omega (arith, ints, c.loop-choice.invariant.least, c.loop-choice.invariant.greatest)) in
     IsSearching-turn c.loop-choice.invariant c.in-Some.ensures.cases
-    (child_of c.args.depth (cells c.args.weighed.board) c.in-Some.choice c.plies.ensures.value c.after.ensures c.of_child.ensures.alpha beta_is
+    (child-of c.args.depth (cells c.args.weighed.board) c.in-Some.choice c.plies.ensures.value c.after.ensures c.of_child.ensures.alpha beta_is
     c.search_below-child.ensures.bound c.search_below-child.ensures.within)
     (record { better = c.take_in.ensures.better; kept = c.take_in.ensures.kept }) (omega (arith, ints))
 
@@ -38,7 +38,7 @@ returns c =
     let board = cells c.args.weighed.board in
     let s = c.loop-choice.invariant in
     let end = c.in_default.ensures.cases in
-    let some = some_left board c.new-left.ensures c.is_empty.ensures c.if-is_empty.false in
+    let some = some-left board c.new-left.ensures c.is_empty.ensures c.if-is_empty.false in
     record {
       bound = rw (minimax-deeper c.args.depth board c.requires) (IsSearching-bound s end some (final_value board));
       choice = λ higher lower. rw (best_choice-deeper c.args.depth board c.requires, minimax-deeper c.args.depth board c.requires)
@@ -52,10 +52,10 @@ pub returns-then-is_empty-clause-bound : goal.returns-then-is_empty-clause-bound
 returns-then-is_empty-clause-bound c =
     let board = cells c.args.weighed.board in
     let score_is : final_value board ≡ c.entered.result.score = omega (arith, ints, ap (λ (s : Scored). s.score) c.entered.ensures, c.final_value.ensures.value) in
-    exact_bound _ _ _ _ (minimax-over c.args.depth board (none_left board c.new-left.ensures c.is_empty.ensures c.if-is_empty.true) ∙ score_is)
+    exact-bound _ _ _ _ (minimax-over c.args.depth board (none-left board c.new-left.ensures c.is_empty.ensures c.if-is_empty.true) ∙ score_is)
 
 pub returns-then-is_empty-clause-choice : goal.returns-then-is_empty-clause-choice
 returns-then-is_empty-clause-choice c higher lower =
     let board = cells c.args.weighed.board in
-    let over = none_left board c.new-left.ensures c.is_empty.ensures c.if-is_empty.true in
+    let over = none-left board c.new-left.ensures c.is_empty.ensures c.if-is_empty.true in
     ap (λ (s : Scored). s.choice) c.entered.ensures ∙ sym (best_choice-over c.args.depth board over)

@@ -1,4 +1,4 @@
-use Rattle.leaf_search.proofs.Common.{◌≡◌, ◌↔◌, Bool, IsTrue, true, false, [], sym, ◌∙◌, ap, arith, ints, Board, cells, choices, minimax, minimax_leaf_there, minimax-over}
+use Rattle.leaf_search.proofs.Common.{◌≡◌, ◌↔◌, Bool, IsTrue, true, false, [], sym, ◌∙◌, ap, arith, ints, Board, cells, choices, minimax, minimax-leaf-there, minimax-over}
 use Rattle.leaf_search.proofs.tree.entered.Goals as goal
 
 -- where the game is over
@@ -10,12 +10,12 @@ returns-then-is_over-clause-value c =
     omega (arith, ints, value)
 
 -- where it goes on
-goes_on : (board b : Board) (over : Bool) → b ≡ board → IsTrue over ↔ (choices (cells b) ≡ []) → over ≡ false → choices (cells board) ≡ [] → ⊥
-goes_on board b over same exactly denied none = let told : over ≡ true = exactly.1 (ap (λ x. choices (cells x)) same ∙ none) in cc
+goes-on : (board b : Board) (over : Bool) → b ≡ board → IsTrue over ↔ (choices (cells b) ≡ []) → over ≡ false → choices (cells board) ≡ [] → ⊥
+goes-on board b over same exactly denied none = let told : over ≡ true = exactly.1 (ap (λ x. choices (cells x)) same ∙ none) in cc
 
 pub returns-clause-value : goal.returns-clause-value
 returns-clause-value c =
     let board = c.args.weighed.board in
-    let on = goes_on board c.of-mobility.result.board c.is_over.result c.of-mobility.ensures c.is_over.ensures c.if-is_over.false in
-    let value : c.eval.result ≡ minimax 0 (cells board) = c.eval.ensures.value ∙ sym (minimax_leaf_there (cells board) on) in
+    let on = goes-on board c.of-mobility.result.board c.is_over.result c.of-mobility.ensures c.is_over.ensures c.if-is_over.false in
+    let value : c.eval.result ≡ minimax 0 (cells board) = c.eval.ensures.value ∙ sym (minimax-leaf-there (cells board) on) in
     omega (arith, ints, value)

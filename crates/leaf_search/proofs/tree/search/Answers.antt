@@ -1,5 +1,5 @@
 use Rattle.leaf_search.proofs.Common.{◌≡◌, sym, ◌∙◌, ap, subst, arith, IfSome, Contains, ints, cells, choices, minimax, best_choice-leaf, Scored}
-use Rattle.leaf_search.proofs.WindowLemmas.{exact_bound}
+use Rattle.leaf_search.proofs.WindowLemmas.{exact-bound}
 use Rattle.leaf_search.proofs.tree.search.Goals as goal
 
 pub returns-then-depth-gt0-clause-chosen : goal.returns-then-depth-gt0-clause-chosen
@@ -11,7 +11,7 @@ returns-clause-bound c =
     let none : c.args.depth ≡ 0 = omega arith in
     let score_is : c.entered.result ≡ c.entered-2.result.score = omega (arith, ints, ap (λ (s : Scored). s.score) c.entered-2.ensures) in
     let value_is = ap (λ b. minimax 0 (cells b)) (sym c.of-weighed.ensures) ∙ sym c.entered.ensures.value in
-    exact_bound _ _ _ _ (ap (λ d. minimax d (cells c.args.board)) none ∙ value_is ∙ score_is)
+    exact-bound _ _ _ _ (ap (λ d. minimax d (cells c.args.board)) none ∙ value_is ∙ score_is)
 
 pub returns-clause-choice : goal.returns-clause-choice
 returns-clause-choice c higher lower =

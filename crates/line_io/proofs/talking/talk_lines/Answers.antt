@@ -1,11 +1,11 @@
 use Rattle.line_io.proofs.Common.{◌≡◌, ◌∙◌, refl, sym, ap, Ok, not, Bool, true, false, true≢false, err_from_is_err_and, not-true}
 use Rattle.line_io.proofs.Whole.{read-gave, read-ended}
-use Rattle.line_io.proofs.Talks.{Talking-start, Talking-more, Talk-read_failed, Talk-stopped, Talk-write_failed, Talk-ended, Talk-last_failed}
+use Rattle.line_io.proofs.Talks.{Talking-start, Talking-more, Talk-read-failed, Talk-stopped, Talk-write-failed, Talk-ended, Talk-last-failed}
 use Rattle.line_io.proofs.talking.talk_lines.Goals as goal
 
-not_false : (b : Bool) → false ≡ not b → b ≡ true
-not_false true e = refl
-not_false false e = absurd (true≢false (sym e))
+not-false : (b : Bool) → false ≡ not b → b ≡ true
+not-false true e = refl
+not-false false e = absurd (true≢false (sym e))
 
 pub loop-init : goal.loop-init
 loop-init g c =
@@ -14,13 +14,13 @@ loop-init g c =
 pub returns-in_err-count : goal.returns-in_err-count
 returns-in_err-count g c =
     let p = err_from_is_err_and c.from_residual.result c.from_residual.ensures.1 in
-    rw (p.1, p.2) (Talk-read_failed c.loop.invariant c.in_err-count.ensures.answer)
+    rw (p.1, p.2) (Talk-read-failed c.loop.invariant c.in_err-count.ensures.answer)
 
 pub returns-in_err-talk_last : goal.returns-in_err-talk_last
 returns-in_err-talk_last g c =
     let p = err_from_is_err_and c.from_residual-in_err-talk_last.result c.from_residual-in_err-talk_last.ensures.1 in
     let ended = read-ended g.S.Source.gives _ _ _ _ c.if-count-eq0.true c.in_ok-count.ensures.answer in
-    rw (p.1, p.2) (Talk-last_failed c.loop.invariant ended c.in_err-talk_last.ensures.lines)
+    rw (p.1, p.2) (Talk-last-failed c.loop.invariant ended c.in_err-talk_last.ensures.lines)
 
 pub returns-then-count-eq0 : goal.returns-then-count-eq0
 returns-then-count-eq0 g c =
@@ -31,7 +31,7 @@ pub returns-in_err-talk_block : goal.returns-in_err-talk_block
 returns-in_err-talk_block g c =
     let p = err_from_is_err_and c.from_residual-in_err-talk_block.result c.from_residual-in_err-talk_block.ensures.1 in
     let gave = read-gave g.S.Source.gives _ _ _ _ c.if-count-eq0.false c.in_ok-count.ensures.answer in
-    rw (p.1, p.2) (Talk-write_failed c.loop.invariant gave c.in_err-talk_block.ensures.lines)
+    rw (p.1, p.2) (Talk-write-failed c.loop.invariant gave c.in_err-talk_block.ensures.lines)
 
 pub returns-then-branch : goal.returns-then-branch
 returns-then-branch g c =
@@ -41,6 +41,6 @@ returns-then-branch g c =
 
 pub loop-preserved : goal.loop-preserved
 loop-preserved g c =
-    let goes_on = not_false _ (sym c.if-branch.false ∙ c.in_ok-talk_block.ensures.ended) in
+    let goes_on = not-false _ (sym c.if-branch.false ∙ c.in_ok-talk_block.ensures.ended) in
     let gave = read-gave g.S.Source.gives _ _ _ _ c.if-count-eq0.false c.in_ok-count.ensures.answer in
     Talking-more c.loop.invariant gave c.in_ok-talk_block.ensures.lines goes_on (c.in_ok-talk_block.ensures.cutter (ap Ok c.if-branch.false))

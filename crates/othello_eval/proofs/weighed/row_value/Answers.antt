@@ -1,8 +1,8 @@
 use Rattle.othello_eval.proofs.Common.{refl, sym, subst, IsWithin}
-use Rattle.othello_eval.proofs.MaskLemmas.{row_read, row_within}
+use Rattle.othello_eval.proofs.MaskLemmas.{row-read, row-within}
 use Rattle.othello_eval.proofs.weighed.row_value.Goals as goal
 
 pub returns : goal.returns
 returns c =
-    let read = row_read c.args.word c.args.row _ _ c.requires refl c.kind_of.ensures.value in
-    record { value = read; within = subst (IsWithin 300) (sym read) (row_within c.args.word c.args.row c.requires) }
+    let read = row-read c.args.word c.args.row _ _ c.requires refl c.kind_of.ensures.value in
+    record { value = read; within = subst (IsWithin 300) (sym read) (row-within c.args.word c.args.row c.requires) }

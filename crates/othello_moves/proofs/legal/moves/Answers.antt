@@ -1,8 +1,8 @@
 use Rattle.othello_moves.proofs.Common.{arith}
-use Rattle.othello_moves.proofs.LaneLemmas.{both_lines}
+use Rattle.othello_moves.proofs.LaneLemmas.{both-lines}
 use Rattle.othello_moves.proofs.legal.moves.Goals as goal
 
 pub returns : goal.returns
 returns c =
     rw (c.lower.ensures, c.raise.ensures)
-    (both_lines c.args.board.own c.args.board.opp (omega arith) (omega arith) c.args.board.disjoint)
+    (both-lines c.args.board.own c.args.board.opp (omega arith) (omega arith) c.args.board.disjoint)

@@ -1,11 +1,11 @@
-use Rattle.position_text.proofs.ReadingLemmas.{marks_of-spelled, mover_of-spelled, seen-mark_of, marks_of-bad_cell, marks_of-bad_side, mover_of-bad_side}
+use Rattle.position_text.proofs.ReadingLemmas.{marks_of-spelled, mover_of-spelled, seen-mark-of, marks_of-bad_cell, marks_of-bad_side, mover_of-bad_side}
 use Rattle.position_text.proofs.laws.readings_of_texts.Goals as goal
 
 pub returns : goal.returns
 returns c = record {
   marks = marks_of-spelled;
   mover = mover_of-spelled;
-  seen = seen-mark_of;
+  seen = seen-mark-of;
   bad_cell = marks_of-bad_cell;
   bad_side = mover_of-bad_side;
   cells_before_bad_side = marks_of-bad_side;

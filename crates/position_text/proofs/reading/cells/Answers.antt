@@ -1,5 +1,5 @@
 use Rattle.position_text.proofs.Common.{refl, sym, ◌∙◌}
-use Rattle.position_text.proofs.ReadingLemmas.{one_more, held_spelled}
+use Rattle.position_text.proofs.ReadingLemmas.{one-more, held-spelled}
 use Rattle.position_text.proofs.reading.cells.Goals as goal
 
 pub returns-in_default-clause-err : goal.returns-in_default-clause-err
@@ -10,11 +10,11 @@ returns-in_default-clause-err c = (
     len = c.requires;
     within = c.loop-square-test.true;
     unspelled = sym c.spelled.ensures ∙ c.in_default.is;
-    before = held_spelled _ _ _ _ c.loop-square.invariant;
+    before = held-spelled _ _ _ _ c.loop-square.invariant;
   },
 )
 
 pub loop-square-preserved : goal.loop-square-preserved
 loop-square-preserved c =
-    one_more _ _ _ _ _ _ c.in-Some.mark c.loop-square.invariant (sym c.spelled.ensures ∙ c.in-Some.is)
+    one-more _ _ _ _ _ _ c.in-Some.mark c.loop-square.invariant (sym c.spelled.ensures ∙ c.in-Some.is)
     c.with-discs.ensures.here c.with-discs.ensures.black c.with-discs.ensures.white

@@ -1,14 +1,14 @@
 use Rattle.position_text.proofs.Common.{arith, refl}
-use Rattle.position_text.proofs.WrittenText.{writes_none, writes_all, is_written, written_spells}
+use Rattle.position_text.proofs.WrittenText.{writes-none, writes-all, is-written, written-spells}
 use Rattle.position_text.proofs.writing.write.Goals as goal
 
 pub loop-square-init : goal.loop-square-init
-loop-square-init c = writes_none _ _ refl
+loop-square-init c = writes-none _ _ refl
 
 pub returns-clause-value : goal.returns-clause-value
 returns-clause-value c =
-    is_written _ c.args.position.now (writes_all _ _ c.loop-square.square _ (omega arith) c.byte_of-2.ensures c.loop-square.invariant)
+    is-written _ c.args.position.now (writes-all _ _ c.loop-square.square _ (omega arith) c.byte_of-2.ensures c.loop-square.invariant)
 
 pub returns-clause-spells : goal.returns-clause-spells
 returns-clause-spells c =
-    written_spells _ c.args.position.now (writes_all _ _ c.loop-square.square _ (omega arith) c.byte_of-2.ensures c.loop-square.invariant)
+    written-spells _ c.args.position.now (writes-all _ _ c.loop-square.square _ (omega arith) c.byte_of-2.ensures c.loop-square.invariant)

@@ -1,4 +1,4 @@
-use Rattle.sched_core.proofs.Common.{◌≡◌, true, refl, sym, ◌∙◌, on_tenant, without_frame, without_under, staying_with}
+use Rattle.sched_core.proofs.Common.{◌≡◌, true, refl, sym, ◌∙◌, without_frame, without_under, staying_with}
 use Rattle.sched_core.proofs.TakenStep.{begins, then-changed}
 use Rattle.sched_core.proofs.Ending.{as-change}
 use Rattle.sched_core.proofs.Deciding.{some-is}

@@ -10,7 +10,7 @@ use Rattle.core.specs.contracts.alloc.AllocError as AllocErrorType
 use Rattle.core.specs.contracts.result.Result as ResultType
 use Rattle.core.proofs.slots.Leases.{args}
 use Rattle.segment_region.proofs.Memory.{place_size, emptied}
-use Rattle.segment_region.proofs.Owners.{BaseRow, CellsRow, MarkRow, mark, mark_made, base_made, three, three_made}
+use Rattle.segment_region.proofs.Owners.{BaseRow, CellsRow, MarkRow, mark, mark-made, base-made, three, three-made}
 use Rattle.segment_region.specs.contracts.cells.Title as TitleType
 use Rattle.segment_region.specs.contracts.cells.allocate as its
 use Rattle.segment_region.proofs.cells.allocate.Statement.{statement}
@@ -92,11 +92,11 @@ module _ (E : El) (Z : Al) {M : Type 1} {𝓤 : Ura M} (𝓛 : Logic 𝓤) (at_m
       sets_last ! (agg ! (and_then ! (lit ! tt) (and_then ! (get ! refl) (no_more !)))) refl ok $
       exec ! C Λ En (after 3 (function E Z).body) (at_ret En Post) $ sets ! (of_opd ! (get ! refl)) refl ok $
       -- [the memory; the token; the lifetimes' tokens; the locals]
-      move ! (1 ∷ []) $ use0 𝓛 (‵ ((MarkRow E).own_val (tt, tt) (mark ∷ []))) (mark_made E 𝓛) $ fjoin ! $ move ! (1 ∷ []) $
+      move ! (1 ∷ []) $ use0 𝓛 (‵ ((MarkRow E).own_val (tt, tt) (mark ∷ []))) (mark-made E 𝓛) $ fjoin ! $ move ! (1 ∷ []) $
       as_written ! (ty_array (elτ E) len) b o $ use1 𝓛 (‵ (row_owned (R E) b o cells.slots)) (emptied E 𝓛 b len o) $
       flt_i ! (length cells.slots * size) (2 ^ 63) (subst (λ k. k * size < 2 ^ 63) (sym (length-replicate len None)) asked.0) $ fjoin ! $
-      use0 𝓛 (‵ ((MarkRow E).own_val (tt, tt) (mark ∷ []))) (mark_made E 𝓛) $ fjoin ! $ base_made E ! start $
-      use3 𝓛 (‵ ((Parts E Z).own_val (start, cells, title) (made ∷ []))) (three_made 𝓛 (BaseRow E) (CellsRow E) (TitleRow E Z) start cells title (word p) mark mark) $
+      use0 𝓛 (‵ ((MarkRow E).own_val (tt, tt) (mark ∷ []))) (mark-made E 𝓛) $ fjoin ! $ base-made E ! start $
+      use3 𝓛 (‵ ((Parts E Z).own_val (start, cells, title) (made ∷ []))) (three-made 𝓛 (BaseRow E) (CellsRow E) (TitleRow E Z) start cells title (word p) mark mark) $
       use1 𝓛 (‵ ((Answer E Z).own_val (Ok (start, cells, title)) (live 0 (vcons made vnil) ∷ []))) (ok_of 𝓛 (Parts E Z) AllocErrorType.the_row (start, cells, title) made) $
       returns ! (look_at ! 0 refl) $ free_all ! refl $ keep ! (0 ∷ 1 ∷ 2 ∷ []) $ by ! (exits (Ok (start, cells, title)) (live 0 (vcons made vnil)) (refl, refl, refl, refl, refl)))
       -- none: the refusal goes on

@@ -4,7 +4,7 @@ use mathlib.Core.Path.{sym, ap, ◌∙◌}
 use native.Mathlib.Omega.{arith}
 use Rattle.core.proofs.slots.Leases.{args}
 use Rattle.segment_region.proofs.Memory.{place_size, freed}
-use Rattle.segment_region.proofs.Owners.{BaseRow, CellsRow, mark, mark_had, base_had}
+use Rattle.segment_region.proofs.Owners.{BaseRow, CellsRow, mark, mark-had, base-had}
 use Rattle.segment_region.specs.contracts.cells.Title as TitleType
 use Rattle.segment_region.specs.contracts.cells.deallocate as its
 use Rattle.segment_region.proofs.cells.deallocate.Statement.{statement}
@@ -91,10 +91,10 @@ module _ (E : El) (Z : Al) {M : Type 1} {𝓤 : Ura M} (𝓛 : Logic 𝓤) (at_m
       ∷ (raw (fact 𝓤 (y.0.0.1.0 ⊑ E.row.lives)) ⊛ (raw (fact 𝓤 (y.0.0.1.1.0 ⊑ Z.row.lives)) ⊛ raw (fact 𝓤 (Asked E Z alloc.now start len cells title)))) ∷ []) ∵
       move ! (1 ∷ []) $ split ! $ drop ! $ split ! $ heard ! _ (λ lives. heard ! _ (λ asked.
       split ! $ split ! $ move ! (2 ∷ []) $ fsplit ! $ fsplit ! $ feq_l ! (λ is_alloc.
-      move ! (1 ∷ []) $ fsplit ! $ base_had E ! start y.0.4.1.0 (λ is_start.
+      move ! (1 ∷ []) $ fsplit ! $ base-had E ! start y.0.4.1.0 (λ is_start.
       fsplit ! $ fsplit ! $ feq_l ! (λ is_len. flt_l ! (λ fits.
-      fsplit ! $ fsplit ! $ mark_had E ! y.0.4.1.1.1.0 (λ is_cells.
-      move ! (1 ∷ []) $ fsplit ! $ fsplit ! $ mark_had E ! y.0.4.1.1.1.1.0 (λ is_title.
+      fsplit ! $ fsplit ! $ mark-had E ! y.0.4.1.1.1.0 (λ is_cells.
+      move ! (1 ∷ []) $ fsplit ! $ fsplit ! $ mark-had E ! y.0.4.1.1.1.1.0 (λ is_title.
       -- [what the title owns; nothing; what the cells own; the allocator; the lifetimes' tokens]
       keep ! (2 ∷ 0 ∷ 3 ∷ 4 ∷ 5 ∷ []) $
       by ! (subst (λ (ws : List Val × List Val × List Val × List Val × List Val). ent 𝓤 (⋆ 𝓛 Had) (WpFn 𝓤 H C Λ (function E Z) (ws.0 ++ (ws.1 ++ (ws.2 ++ (ws.3 ++ (ws.4 ++ []))))) Post))

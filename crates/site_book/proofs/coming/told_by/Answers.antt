@@ -1,5 +1,5 @@
 use Rattle.site_book.proofs.Common.{◌≡◌, [], ◌∷◌, ◌++◌, length, ap, sym, ◌∙◌, arith, length-append, told_by, stays}
-use Rattle.site_book.proofs.ComingLemmas.{told_step, staying-length}
+use Rattle.site_book.proofs.ComingLemmas.{told-step, staying-length}
 use Rattle.site_book.proofs.coming.told_by.Goals as goal
 
 pub loop-held-preserved : goal.loop-held-preserved
@@ -12,7 +12,7 @@ loop-held-preserved c =
     let more = staying-length (stays plan before c.in-Some.held.now c.in-Some-split_first.present.now) before c.judged.new.before.items c.in-Some.held.now c.judged.ensures.before in
     let rest = ap length c.in-Some.ensures.cases.0 in
     record {
-      told = told_step plan before c.judged.new.before.items c.in-Some.later.now c.in-Some.held.now c.in-Some-split_first.others.now c.in-Some-split_first.present.now c.judged.result told c.push.new.self.items _ c.judged.ensures.present c.judged.ensures.before c.push.ensures.items all;
+      told = told-step plan before c.judged.new.before.items c.in-Some.later.now c.in-Some.held.now c.in-Some-split_first.others.now c.in-Some-split_first.present.now c.judged.result told c.push.new.self.items _ c.judged.ensures.present c.judged.ensures.before c.push.ensures.items all;
       few = omega (arith, c.loop-held.invariant.few, ap length c.push.ensures.items ∙ length-append told (c.judged.result ∷ []), rest);
       few_before = omega (arith, c.loop-held.invariant.few_before, more, rest);
       alike = omega (arith, c.loop-held.invariant.alike, rest, ap length c.in-Some-split_first.ensures.cases.0);

@@ -1,6 +1,6 @@
 use Rattle.site_office.proofs.Common.{◌≡◌, ℕ, List, sym, ◌∙◌, LineText, Ghosts, Clerk, site_request, SiteTurned}
 use Rattle.site_office.specs.declared.reception.Reception.{Ghosts as ReceptionGhosts}
-use Rattle.site_office.proofs.ClerkLemmas.{chain-holds, leaves, site_turned}
+use Rattle.site_office.proofs.ClerkLemmas.{chain-holds, leaves, site-turned}
 use Rattle.site_office.proofs.laws.nobody_stays.Goals as goal
 
 -- how a clerk answers
@@ -14,6 +14,6 @@ returns g c = λ here called met paid informed from to source source' sink sink'
     let reception = g.O.Reception in
     let y = talk.lines in
     let knows = chain-holds (Answers-line office_of reception) (λ a. here a.office.now ≡ a.seated)
-    (λ a line text b h e. site_turned office_of.does reception.greets reception.pays reception.informs here called met paid informed (site_request a.seated line) a.office.now a.seated text b.office.now b.seated h.1 e)
+    (λ a line text b h e. site-turned office_of.does reception.greets reception.pays reception.informs here called met paid informed (site_request a.seated line) a.office.now a.seated text b.office.now b.seated h.1 e)
     from y.answered y.texts to y.answers_lead (none ∙ sym early) in
     leaves office_of.does reception.greets reception.pays reception.informs here called met paid informed to.seated to.office.now office gone knows

@@ -2,12 +2,12 @@ use Rattle.solve_engine.proofs.Common.{Result, Ok, Err, OnOk, LineFault, ReadAns
 use Rattle.solve_engine.proofs.solving.solve_bytes.Goals as goal
 
 -- what follows from a run that ended well
-at_ok : {S K : Type 0} {gives : S → ReadAnswer → S → Type 0} {takes : K → WriteAnswer → K → Type 0} {s : S} {k : K} {s' : S} {k' : K} (P : Type 0) (r : Result (Unit {0}) LineFault) →
+at-ok : {S K : Type 0} {gives : S → ReadAnswer → S → Type 0} {takes : K → WriteAnswer → K → Type 0} {s : S} {k : K} {s' : S} {k' : K} (P : Type 0) (r : Result (Unit {0}) LineFault) →
     (SolvedRun gives takes s k s' k' (Ok tt) → P) → SolvedRun gives takes s k s' k' r → OnOk r P
-at_ok P (Ok u) step run = step run
-at_ok P (Err fault) step run = tt
+at-ok P (Ok u) step run = step run
+at-ok P (Err fault) step run = tt
 
 pub returns-clause-known : goal.returns-clause-known
 returns-clause-known g c =
-    at_ok _ c.solve-result.result (λ run bytes held left holds.
+    at-ok _ c.solve-result.result (λ run bytes held left holds.
     (run.0, c.known_runs_are_exact.ensures (solve_out_unless run.0) _ _ _ _ bytes held left holds run.1)) c.solve-result.ensures

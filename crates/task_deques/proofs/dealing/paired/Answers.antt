@@ -1,5 +1,5 @@
-use Rattle.task_deques.proofs.Common.{◌≡◌, List, Some, map, ap, arith, All-pop, into_iter_items, DequeSeatIn, owner_seat, new_thief, owner_seats, thief_seats, worker_seats, beside}
-use Rattle.task_deques.proofs.SeatLemmas.{gives, gives_room}
+use Rattle.task_deques.proofs.Common.{◌≡◌, List, Some, map, ap, arith, All-pop, DequeSeatIn, owner_seat, new_thief, owner_seats, thief_seats, worker_seats, beside}
+use Rattle.task_deques.proofs.SeatLemmas.{gives, gives-room}
 use Rattle.task_deques.proofs.dealing.paired.Goals as goal
 
 pub loop-own-preserved : goal.loop-own-preserved
@@ -15,5 +15,5 @@ loop-own-preserved g c =
       popped.0,
       omega (arith, c.in-Some.ensures.steps.1, c.take_last-thieves.ensures.len, c.loop-own.invariant.2),
       omega (arith, c.in-Some.ensures.steps.1, c.push_reserved.ensures.len, c.push_reserved.ensures.capacity, c.loop-own.invariant.3),
-      rw c.push_reserved.ensures.items (gives_room at.all.items (record { own = own; thieves = row }) _ _ _ c.in-Some.ensures.steps.0 c.loop-own.invariant.4),
+      rw c.push_reserved.ensures.items (gives-room at.all.items (record { own = own; thieves = row }) _ _ _ c.in-Some.ensures.steps.0 c.loop-own.invariant.4),
     )

@@ -1,5 +1,5 @@
 use Rattle.task_deques.proofs.Common.{◌<◌, List, length, ap, ◌∙◌, arith, rules, map-set_same, DequeSeatIn, owner_seat, owner_room, with_part_cut, new_thief, owner_seats}
-use Rattle.task_deques.proofs.SeatLemmas.{owner_at, cut_at, row_push}
+use Rattle.task_deques.proofs.SeatLemmas.{owner-at, cut-at, row-push}
 use Rattle.task_deques.proofs.dealing.row.Goals as goal
 
 pub loop-place-preserved : goal.loop-place-preserved
@@ -10,9 +10,9 @@ loop-place-preserved g c =
     let before : List (DequeSeatIn g.row.A.Denot) = owner_seats c.args.owners.now.items in
     let inside : at.place < length at.owners.items = omega (arith, at.owners.ok.0, c.loop-place.invariant.4) in
     let within : at.place < length before = omega (arith, c.loop-place.invariant.5) in
-    let here = owner_at with_part_cut at.owners.items before at.place x inside c.index_mut.ensures.value c.loop-place.invariant.0 in (
-      cut_at at.owners.items before at.place x inside within c.index_mut.ensures.value c.loop-place.invariant.0 c.thief.new.self c.thief.ensures.owner,
-      rw c.push_reserved.ensures.items (row_push _ before _ _ (owner_seat x) within c.loop-place.invariant.1 (c.in_ok-thief.ensures.thief ∙ ap new_thief here)),
+    let here = owner-at with_part_cut at.owners.items before at.place x inside c.index_mut.ensures.value c.loop-place.invariant.0 in (
+      cut-at at.owners.items before at.place x inside within c.index_mut.ensures.value c.loop-place.invariant.0 c.thief.new.self c.thief.ensures.owner,
+      rw c.push_reserved.ensures.items (row-push _ before _ _ (owner_seat x) within c.loop-place.invariant.1 (c.in_ok-thief.ensures.thief ∙ ap new_thief here)),
       omega (arith, c.push_reserved.ensures.len),
       omega (arith, c.push_reserved.ensures.capacity),
       search rules,

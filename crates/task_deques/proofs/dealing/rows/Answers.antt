@@ -1,10 +1,10 @@
 use Rattle.task_deques.proofs.Common.{◌≡◌, ◌-◌, ◌+◌, ◌<◌, [], List, length, map, refl, sym, ap, ◌∙◌, arith, rules, All-map, All-same, All-push, tally, DequeSeatIn, owner_seat, with_part_cut, new_thief, owner_seats, thief_seats, fresh_with}
-use Rattle.task_deques.proofs.SeatLemmas.{fresh_same, cut_again, new_of_fresh}
+use Rattle.task_deques.proofs.SeatLemmas.{fresh-same, cut-again, new_of_fresh}
 use Rattle.task_deques.proofs.dealing.rows.Goals as goal
 
 pub loop-made-init : goal.loop-made-init
 loop-made-init g c = (
-  sym (fresh_same _ (All-map (λ (seat : DequeSeatIn g.row.A.Denot). seat.tally ≡ tally 64 [] []) owner_seat c.args.owners.now.items c.requires.fresh)),
+  sym (fresh-same _ (All-map (λ (seat : DequeSeatIn g.row.A.Denot). seat.tally ≡ tally 64 [] []) owner_seat c.args.owners.now.items c.requires.fresh)),
   λ k d inside. absurd (omega (arith, ap length c.in_ok-rows.ensures.items)),
   search rules,
   search rules,
@@ -27,7 +27,7 @@ loop-made-preserved g c =
     let less : (64 - made) - 1 ≡ 64 - (made + 1) = omega arith in
     let row = c.in_ok-row.field-0 in
     let new : thief_seats row.items ≡ map new_thief before = c.in_ok-row.ensures.thieves ∙ ap (λ (l : List (DequeSeatIn g.row.A.Denot)). map new_thief l) c.loop-made.invariant.0 ∙ new_of_fresh (64 - made) before in (
-      c.in_ok-row.ensures.owners ∙ ap (λ (l : List (DequeSeatIn g.row.A.Denot)). map with_part_cut l) c.loop-made.invariant.0 ∙ cut_again (64 - made) before ∙ ap (λ n. map (fresh_with n) before) less,
+      c.in_ok-row.ensures.owners ∙ ap (λ (l : List (DequeSeatIn g.row.A.Denot)). map with_part_cut l) c.loop-made.invariant.0 ∙ cut-again (64 - made) before ∙ ap (λ n. map (fresh_with n) before) less,
       rw c.push_reserved.ensures.items (All-push (λ r. thief_seats r.items ≡ map new_thief before) c.loop-made.rows.items row c.loop-made.invariant.1 new),
       omega (arith, c.push_reserved.ensures.len),
       omega (arith, c.push_reserved.ensures.capacity),

@@ -1,5 +1,5 @@
 use Rattle.task_deques.proofs.Common.{◌≡◌, List, map, length, ap, sym, subst, ◌∙◌, refl, arith, length-map, All-map, into_iter_items, DequeSeatIn, owner_seat, owner_seats, thief_seats, with_rows, deques}
-use Rattle.task_deques.proofs.JoinLemmas.{AreTurns, one_part, length-with_row, next_row, row_room, rows_turn}
+use Rattle.task_deques.proofs.JoinLemmas.{AreTurns, one-part, length-with_row, next-row, row-room, rows-turn}
 use Rattle.task_deques.proofs.joining.joined.Goals as goal
 
 pub loop-row-init : goal.loop-row-init
@@ -17,7 +17,7 @@ loop-row-init g c =
     )
 
 pub join_row-requires-clause-deques : goal.join_row-requires-clause-deques
-join_row-requires-clause-deques g c = (row_room _ _ _ _ (next_row _ _ _ _ _ _ c.in-Some.ensures.steps.0 c.loop-row.invariant.0)).0
+join_row-requires-clause-deques g c = (row-room _ _ _ _ (next-row _ _ _ _ _ _ c.in-Some.ensures.steps.0 c.loop-row.invariant.0)).0
 
 pub loop-row-preserved : goal.loop-row-preserved
 loop-row-preserved g c =
@@ -26,6 +26,6 @@ loop-row-preserved g c =
     let owners : List (DequeSeatIn g.row.A.Denot) = owner_seats at.owners.items in
     let after = c.join_row.new.owners in
     let count : length (owner_seats after.items) ≡ length owners = ap length c.join_row.ensures ∙ length-with_row owners (thief_seats row.items) in (
-      rows_turn owners (owner_seats after.items) _ _ _ (one_part row.items) c.join_row.ensures (next_row _ _ _ _ _ _ c.in-Some.ensures.steps.0 at.invariant.0),
+      rows-turn owners (owner_seats after.items) _ _ _ (one-part row.items) c.join_row.ensures (next-row _ _ _ _ _ _ c.in-Some.ensures.steps.0 at.invariant.0),
       omega (arith, length-map after.items owner_seat, length-map at.owners.items owner_seat, after.ok.0, at.owners.ok.0, at.invariant.1),
     )

@@ -1,5 +1,5 @@
 use Rattle.cactus_stack.proofs.Common.{◌≡◌, ◌+◌, ◌<◌, suc, length, take, refl, ◌∙◌, arith, take_all}
-use Rattle.cactus_stack.proofs.LawFacts.{without-more, still_there}
+use Rattle.cactus_stack.proofs.LawFacts.{without-more, still-there}
 use Rattle.cactus_stack.proofs.Steps.{closed, depths-stay}
 use Rattle.cactus_stack.proofs.stack.Stack.close_all.Goals as goal
 
@@ -7,7 +7,7 @@ pub free-requires-clause-is_open : goal.free-requires-clause-is_open
 free-requires-clause-is_open g c =
     let within : c.loop-node.node-index < length c.args.nodes.now = omega (arith, c.loop-node-test.true) in
     let is_open = rw (← c.node-item.is) at (c.requires.are_open c.loop-node.node-index c.node-item.result within) in
-    rw (c.loop-node.invariant.closed, c.self.view_is) (still_there c.args.self.now c.args.nodes.now c.loop-node.node-index c.node-item.result c.requires.once within c.node-item.is is_open)
+    rw (c.loop-node.invariant.closed, c.self.view_is) (still-there c.args.self.now c.args.nodes.now c.loop-node.node-index c.node-item.result c.requires.once within c.node-item.is is_open)
 
 pub loop-node-preserved : goal.loop-node-preserved
 loop-node-preserved g c =

@@ -1,5 +1,5 @@
 use Rattle.cactus_stack.proofs.Common.{◌≡◌, ◌+◌, Some, refl, sym, ap, ◌∙◌, arith, set, padded, IsUnused, with_node, IsUnder, Place}
-use Rattle.cactus_stack.proofs.Steps.{Shows, is_read, depth_in_limits, free-is, opened}
+use Rattle.cactus_stack.proofs.Steps.{Shows, is-read, depth-in_limits, free-is, opened}
 use Rattle.cactus_stack.proofs.stack.Stack.open.Goals.{in-Some, in-None, After-index_mut}
 use Rattle.cactus_stack.proofs.stack.Stack.open.Goals as goal
 
@@ -11,7 +11,7 @@ step g c =
     let under : IsUnder c.args.self.now c.self.inside.places.items c.match-parent.parent c.match-parent.depth = elim c.match-parent.branch [
       | in-Some w ↦
           (let is_open = rw w.in-Some.is at c.requires.parent_is_open in
-          let of = is_read c.self.invariant.stored c.self.view_is is_open w.index.ensures w.first.ensures w.index-in-Some.ensures in
+          let of = is-read c.self.invariant.stored c.self.view_is is_open w.index.ensures w.first.ensures w.index-in-Some.ensures in
           rw (w.parent-is, w.depth-is) (is_open, ap (λ (p : Place). p.depth + 1) of.is))
       | in-None w ↦ rw (w.parent-is, w.in-None.is) w.depth-is
     ] in
@@ -20,8 +20,8 @@ step g c =
 pub overflow_add-depth : goal.overflow_add-depth
 overflow_add-depth g c =
     let is_open = rw c.in-Some.is at c.requires.parent_is_open in
-    let of = is_read c.self.invariant.stored c.self.view_is is_open c.index.ensures c.first.ensures c.index-in-Some.ensures in
-    omega (arith, ap (λ (p : Place). p.depth) of.is, depth_in_limits c.self.invariant c.self.view_is c.in-Some.node is_open)
+    let of = is-read c.self.invariant.stored c.self.view_is is_open c.index.ensures c.first.ensures c.index-in-Some.ensures in
+    omega (arith, ap (λ (p : Place). p.depth) of.is, depth-in_limits c.self.invariant c.self.view_is c.in-Some.node is_open)
 
 pub returns-then-free_count-count-clause-refused : goal.returns-then-free_count-count-clause-refused
 returns-then-free_count-count-clause-refused g c =

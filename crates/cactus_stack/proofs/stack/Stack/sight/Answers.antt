@@ -1,12 +1,12 @@
-use Rattle.cactus_stack.proofs.Steps.{is_read, sight_of}
+use Rattle.cactus_stack.proofs.Steps.{is-read, sight-of}
 use Rattle.cactus_stack.proofs.stack.Stack.sight.Goals as goal
 
 pub of-requires : goal.of-requires
 of-requires g c =
-    let of = is_read c.self.invariant.stored c.self.view_is c.requires c.index.ensures c.first.ensures c.index-2.ensures in
-    rw (c.view.ensures, of.is) (sight_of c.self.invariant c.self.view_is c.args.node c.requires)
+    let of = is-read c.self.invariant.stored c.self.view_is c.requires c.index.ensures c.first.ensures c.index-2.ensures in
+    rw (c.view.ensures, of.is) (sight-of c.self.invariant c.self.view_is c.args.node c.requires)
 
 pub returns : goal.returns
 returns g c =
-    let of = is_read c.self.invariant.stored c.self.view_is c.requires c.index.ensures c.first.ensures c.index-2.ensures in
-    rw (c.of.ensures, c.view.ensures, of.is) (sight_of c.self.invariant c.self.view_is c.args.node c.requires).is_sight
+    let of = is-read c.self.invariant.stored c.self.view_is c.requires c.index.ensures c.first.ensures c.index-2.ensures in
+    rw (c.of.ensures, c.view.ensures, of.is) (sight-of c.self.invariant c.self.view_is c.args.node c.requires).is_sight

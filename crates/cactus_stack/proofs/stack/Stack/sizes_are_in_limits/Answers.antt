@@ -1,9 +1,9 @@
 use Rattle.cactus_stack.proofs.Common.{arith}
-use Rattle.cactus_stack.proofs.Steps.{kept_node}
+use Rattle.cactus_stack.proofs.Steps.{kept-node}
 use Rattle.cactus_stack.proofs.stack.Stack.sizes_are_in_limits.Goals as goal
 
 pub returns : goal.returns
 returns g c = record {
-  some = λ n is_open. (let it = kept_node c.self.invariant.stored c.self.view_is n is_open in omega (arith, it.some, it.len));
-  at_most = λ n is_open. (let it = kept_node c.self.invariant.stored c.self.view_is n is_open in omega (arith, it.sound.at_most, it.len));
+  some = λ n is_open. (let it = kept-node c.self.invariant.stored c.self.view_is n is_open in omega (arith, it.some, it.len));
+  at_most = λ n is_open. (let it = kept-node c.self.invariant.stored c.self.view_is n is_open in omega (arith, it.sound.at_most, it.len));
 }

@@ -1,6 +1,6 @@
 use Rattle.cactus_stack.proofs.Common.{◌≡◌, suc, ◌<◌, ◌∙◌, ◌/◌, Some, get_or, arith, chain, len_at}
-use Rattle.cactus_stack.proofs.Content.{front_of_sound, place_of_sound, place_is_taken}
-use Rattle.cactus_stack.proofs.Steps.{kept_node, stored_word}
+use Rattle.cactus_stack.proofs.Content.{front-of-sound, place-of-sound, place-is_taken}
+use Rattle.cactus_stack.proofs.Steps.{kept-node, stored-word}
 use Rattle.cactus_stack.proofs.stack.Stack.store.Goals.{After-segment_after-segment}
 use Rattle.cactus_stack.proofs.stack.Stack.store.Goals as goal
 
@@ -10,20 +10,20 @@ place g c = rw (c.view.ensures, c.first.ensures) at c.segment_after-segment.ensu
 
 pub segment_after-segment-requires : goal.segment_after-segment-requires
 segment_after-segment-requires g c =
-    let it = kept_node c.self.invariant.stored c.self.view_is c.args.node c.requires.is_open in
-    rw (c.view.ensures, c.first.ensures) (front_of_sound it.sound c.args.at (omega (arith, c.requires.in_bounds, it.len)))
+    let it = kept-node c.self.invariant.stored c.self.view_is c.args.node c.requires.is_open in
+    rw (c.view.ensures, c.first.ensures) (front-of-sound it.sound c.args.at (omega (arith, c.requires.in_bounds, it.len)))
 
 pub words_mut-requires : goal.words_mut-requires
 words_mut-requires g c =
-    let it = kept_node c.self.invariant.stored c.self.view_is c.args.node c.requires.is_open in
+    let it = kept-node c.self.invariant.stored c.self.view_is c.args.node c.requires.is_open in
     let below : c.args.at < len_at c.self.inside.places.items c.args.node = omega (arith, c.requires.in_bounds, it.len) in
-    rw (place g (goal.at.words_mut-requires g c).After-segment_after-segment ∙ place_of_sound it.sound c.args.at below)
-    (place_is_taken it.sound c.args.at below).0
+    rw (place g (goal.at.words_mut-requires g c).After-segment_after-segment ∙ place-of-sound it.sound c.args.at below)
+    (place-is_taken it.sound c.args.at below).0
 
 pub invariant_of-self : goal.invariant_of-self
 invariant_of-self g c =
-    rw c.words_mut.ensures.value (stored_word c.self.invariant c.self.view_is c.args.node c.args.word c.requires.is_open c.requires.in_bounds (place g (goal.at.invariant_of-self g c).After-segment_after-segment)).1
+    rw c.words_mut.ensures.value (stored-word c.self.invariant c.self.view_is c.args.node c.args.word c.requires.is_open c.requires.in_bounds (place g (goal.at.invariant_of-self g c).After-segment_after-segment)).1
 
 pub returns : goal.returns
 returns g c =
-    rw c.words_mut.ensures.value (stored_word c.self.invariant c.self.view_is c.args.node c.args.word c.requires.is_open c.requires.in_bounds (place g (goal.at.returns g c).After-segment_after-segment)).0
+    rw c.words_mut.ensures.value (stored-word c.self.invariant c.self.view_is c.args.node c.args.word c.requires.is_open c.requires.in_bounds (place g (goal.at.returns g c).After-segment_after-segment)).0

@@ -2,7 +2,7 @@ use Rattle.std.proofs.Common.{◌≡◌, true, refl, sym, ap, ◌∙◌, map}
 use Rattle.clap.specs.Words.{fault_of, is_simple, is_simple_and_free, subcommand_of}
 use Rattle.clap.proofs.OnLiterals.{clap_on_literals}
 use Rattle.command_line.specs.CommandLine.{asked_of, options_asked, program}
-use Rattle.command_line.proofs.FaultLemmas.{refused_outside}
+use Rattle.command_line.proofs.FaultLemmas.{refused-outside}
 use Rattle.command_line.proofs.options.Options.read.Goals as goal
 
 simple : is_simple program ≡ true
@@ -33,4 +33,4 @@ returns-in-Ok-try_get_matches_from-clause-refused g c =
     let parse = c.in-Ok-try_get_matches_from.ensures.matches (ap is_simple program_is ∙ simple) in
     let faultless = sym (ap (λ a. fault_of a words) program_is) ∙ c.in-Ok-try_get_matches_from.ensures.kinds (ap is_simple_and_free program_is ∙ free) in
     let none = sym (ap asked_of (parse.1 ∙ ap (λ a. subcommand_of a words) program_is)) ∙ c.in-Err-options_of.ensures.none in
-    refused_outside (fault_of program words) (options_asked words) c.outside.result faultless none c.outside.ensures
+    refused-outside (fault_of program words) (options_asked words) c.outside.result faultless none c.outside.ensures

@@ -1,6 +1,6 @@
 use Rattle.desk.proofs.Common.{rules, ◌≡◌, ◌<◌, ◌++◌, ◌∷◌, [], List, sym, ap, ◌∙◌, subst, refl, arith, Admit, tenant_in-new, Known, AllOwn, AreSeats, HasNoLeave, IsSeated, IsComeBy}
 use Rattle.desk.proofs.Owners.{Step, Entries}
-use Rattle.desk.proofs.Coming.{come_admitted, new_unused}
+use Rattle.desk.proofs.Coming.{come-admitted, new-unused}
 use Rattle.desk.proofs.locked_hall.LockedHall.admit.Goals as goal
 
 pub invariant_of-self-2 : goal.invariant_of-self-2
@@ -13,7 +13,7 @@ invariant_of-self-2 g c =
     let o = c.in_ok-offer.ensures in
     let number = c.next_tenant-tenant.ensures.value in
     let come : IsComeBy g.L.DeskLedger.begun after.grain after.shared c.add.new.self =
-    rw is (come_admitted before c.self.invariant.7 after m t c.args.reserve c.in_ok-offer.field-0 number o.one o.taken o.newest o.explained) in
+    rw is (come-admitted before c.self.invariant.7 after m t c.args.reserve c.in_ok-offer.field-0 number o.one o.taken o.newest o.explained) in
     search rules
 
 pub invariant_of-result : goal.invariant_of-result
@@ -38,7 +38,7 @@ returns-clause-admitted g c =
     let mine = ap (λ (l : List Step). l ++ step ∷ []) c.begin-trace.ensures.seen.1 in
     let known : Known Step = record { maker = m; seen = log ++ (m, step) ∷ []; mine = step ∷ [] } in
     let is : c.add.new.trace ≡ known = c.add.ensures.trace ∙ (λ i. record { maker = m; seen = seen i; mine = mine i }) in
-    let unused = new_unused c.self.inside.hall c.self.invariant.7 t c.next_tenant-tenant.ensures.value in
+    let unused = new-unused c.self.inside.hall c.self.invariant.7 t c.next_tenant-tenant.ensures.value in
     subst (λ (k : Known Step). IsSeated c.args.reserve (record { tenant = t; share = 1; asked = c.new.result.items; known = k })) (sym is)
     (record { before = log; seen = refl; unused = unused; unmade = c.begin-trace.ensures.fresh; mine = refl })
 

@@ -1,5 +1,5 @@
 use Rattle.desk_office.proofs.Common.{OfficeOf}
-use Rattle.desk_office.proofs.TurnLemmas.{ask_turn}
+use Rattle.desk_office.proofs.TurnLemmas.{ask-turn}
 use Rattle.desk_office.proofs.office.DeskOfficeOffice.ask.Goals as goal
 
 pub returns-in-Some : goal.returns-in-Some
@@ -7,4 +7,4 @@ returns-in-Some g c =
     let from : OfficeOf = record { seat = c.args.self.now.seat; knew = c.args.self.now.knew } in
     let asked = c.args.question.now in
     let told = c.ask.ensures in
-    ask_turn g.L.DeskLedger.begun from c.in-Some.seat c.ask.new.seat asked.position.board asked.depth asked.position.side c.ask.result c.in-Some.is asked.shallow told.asked told.full told.told told.refused
+    ask-turn g.L.DeskLedger.begun from c.in-Some.seat c.ask.new.seat asked.position.board asked.depth asked.position.side c.ask.result c.in-Some.is asked.shallow told.asked told.full told.told told.refused

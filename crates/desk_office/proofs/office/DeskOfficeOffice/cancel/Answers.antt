@@ -1,9 +1,9 @@
 use Rattle.desk_office.proofs.Common.{OfficeOf}
-use Rattle.desk_office.proofs.TurnLemmas.{cancel_turn}
+use Rattle.desk_office.proofs.TurnLemmas.{cancel-turn}
 use Rattle.desk_office.proofs.office.DeskOfficeOffice.cancel.Goals as goal
 
 pub returns-in-Some : goal.returns-in-Some
 returns-in-Some g c =
     let from : OfficeOf = record { seat = c.args.self.now.seat; knew = c.args.self.now.knew } in
     let told = c.cancel.ensures in
-    cancel_turn g.L.DeskLedger.begun from c.in-Some.seat c.cancel.new.seat c.args.job c.cancel.result c.in-Some.is told.share told.none told.told told.refused
+    cancel-turn g.L.DeskLedger.begun from c.in-Some.seat c.cancel.new.seat c.args.job c.cancel.result c.in-Some.is told.share told.none told.told told.refused

@@ -1,5 +1,5 @@
 use Rattle.frame_tree.proofs.Common.{[], refl, arith, IsSlotStore}
-use Rattle.frame_tree.proofs.SlotStores.{slots_in-length, push_store, push_slots}
+use Rattle.frame_tree.proofs.SlotStores.{slots_in-length, push-store, push-slots}
 use Rattle.frame_tree.proofs.slot_store.SlotStore.push.Goals as goal
 
 pub insert_reserved-key-requires : goal.insert_reserved-key-requires
@@ -23,10 +23,10 @@ invariant_of-self g c =
       order_room = c.self.invariant.order_room;
     } in
     let put = c.insert_reserved-key.ensures in
-    rw c.push.ensures (push_store order put.was_vacant put.updates _ _ store less c.adopt-root.ensures.above put.len put.capacity)
+    rw c.push.ensures (push-store order put.was_vacant put.updates _ _ store less c.adopt-root.ensures.above put.len put.capacity)
 
 pub returns : goal.returns
 returns g c =
     let put = c.insert_reserved-key.ensures in
-    let slots = push_slots c.self.inside.order.list put.was_vacant put.updates c.adopt-root.ensures.keys.here in
+    let slots = push-slots c.self.inside.order.list put.was_vacant put.updates c.adopt-root.ensures.keys.here in
     rw (← c.self.view_is, c.push.ensures, slots, c.adopt-root.ensures.slots, c.adopt-root.ensures.root) refl

@@ -1,8 +1,8 @@
 use Rattle.frame_tree.proofs.Common.{◌≡◌, ◌+◌, length, [], refl, arith, remove, length-remove, slots_in}
 use Rattle.frame_tree.proofs.Forest.{linked_rises}
 use Rattle.frame_tree.proofs.SlotStores.{slots_in-length}
-use Rattle.frame_tree.proofs.Keys.{are_keys}
-use Rattle.frame_tree.proofs.Cutting.{has_taken, taken_slots, taken_store, taken_knows, rises_remove, taken_read}
+use Rattle.frame_tree.proofs.Keys.{are-keys}
+use Rattle.frame_tree.proofs.Cutting.{has-taken, taken-slots, taken-store, taken-knows, rises-remove, taken-read}
 use Rattle.frame_tree.proofs.slot_store.SlotStore.take.Goals as goal
 
 pub disown-requires : goal.disown-requires
@@ -12,16 +12,16 @@ disown-requires g c =
     let within = rw (← c.self.view_is, slots_in-length slab [] order c.self.invariant.here) at c.requires.within in
     let linked = rw (← c.self.view_is) at c.requires.linked in
     let leaf = rw (← c.self.view_is) at c.requires.leaf in
-    let taken = has_taken within c.remove-key.ensures.value c.remove-gone.ensures.value c.remove-gone.ensures.updates in
+    let taken = has-taken within c.remove-key.ensures.value c.remove-gone.ensures.value c.remove-gone.ensures.updates in
     let long : length (remove order c.args.at) + 1 ≡ length order = omega (arith, length-remove order c.args.at within) in
-    let store = taken_store taken c.self.invariant.here c.self.invariant (linked_rises [] _ linked) leaf long c.remove-gone.ensures.len c.remove-gone.ensures.capacity in
-    let slots = taken_slots taken c.self.invariant.here c.self.invariant.apart (linked_rises [] _ linked) in
-    let are = are_keys _ _ _ _ store in
-    let counted = (rw (← c.self.view_is) at c.requires.counted) c.remove-gone.result.slot (taken_read taken c.self.invariant.here) in
+    let store = taken-store taken c.self.invariant.here c.self.invariant (linked_rises [] _ linked) leaf long c.remove-gone.ensures.len c.remove-gone.ensures.capacity in
+    let slots = taken-slots taken c.self.invariant.here c.self.invariant.apart (linked_rises [] _ linked) in
+    let are = are-keys _ _ _ _ store in
+    let counted = (rw (← c.self.view_is) at c.requires.counted) c.remove-gone.result.slot (taken-read taken c.self.invariant.here) in
     rw c.remove-key.ensures.left (record {
       keys = are;
-      rise = rw slots (rises_remove (slots_in slab order) c.args.at (linked_rises [] _ linked) (rw (← c.self.view_is) at c.requires.within));
-      above = taken_knows taken c.self.invariant.here linked are;
+      rise = rw slots (rises-remove (slots_in slab order) c.args.at (linked_rises [] _ linked) (rw (← c.self.view_is) at c.requires.within));
+      above = taken-knows taken c.self.invariant.here linked are;
       counted = rw slots counted;
     })
 
@@ -46,12 +46,12 @@ returns-clause-left g c =
     let order = c.self.inside.order.list in
     let within = rw (← c.self.view_is, slots_in-length slab [] order c.self.invariant.here) at c.requires.within in
     let linked = rw (← c.self.view_is) at c.requires.linked in
-    let taken = has_taken within c.remove-key.ensures.value c.remove-gone.ensures.value c.remove-gone.ensures.updates in
-    let slots = taken_slots taken c.self.invariant.here c.self.invariant.apart (linked_rises [] _ linked) in
+    let taken = has-taken within c.remove-key.ensures.value c.remove-gone.ensures.value c.remove-gone.ensures.updates in
+    let slots = taken-slots taken c.self.invariant.here c.self.invariant.apart (linked_rises [] _ linked) in
     rw (← c.self.view_is, c.remove-key.ensures.left, (rw c.remove-key.ensures.left at c.disown.ensures.slots), slots) refl
 
 pub returns-clause-value : goal.returns-clause-value
 returns-clause-value g c =
     let within = rw (← c.self.view_is, slots_in-length c.self.inside.slab [] c.self.inside.order.list c.self.invariant.here) at c.requires.within in
-    let taken = has_taken within c.remove-key.ensures.value c.remove-gone.ensures.value c.remove-gone.ensures.updates in
-    rw (← c.self.view_is) (taken_read taken c.self.invariant.here)
+    let taken = has-taken within c.remove-key.ensures.value c.remove-gone.ensures.value c.remove-gone.ensures.updates in
+    rw (← c.self.view_is) (taken-read taken c.self.invariant.here)

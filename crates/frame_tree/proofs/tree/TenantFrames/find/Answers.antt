@@ -1,12 +1,12 @@
 use Rattle.frame_tree.proofs.Common.{frames_from, [], refl, ◌∙◌, Some, ap}
 use Rattle.frame_tree.proofs.Forest.{has_frame-frames_from}
-use Rattle.frame_tree.proofs.Finds.{seen_frame}
+use Rattle.frame_tree.proofs.Finds.{seen-frame}
 use Rattle.frame_tree.proofs.TreeLaws.{missing}
 use Rattle.frame_tree.proofs.tree.TenantFrames.find.Goals as goal
 
 pub returns-in-Some-clause-entry : goal.returns-in-Some-clause-entry
 returns-in-Some-clause-entry g c =
-    let f = (seen_frame c.self.invariant.sound.linked c.in-Some.ensures.found.1).1 in
+    let f = (seen-frame c.self.invariant.sound.linked c.in-Some.ensures.found.1).1 in
     rw (← c.self.view_is, f.at, f.parent) (ap Some c.entry.ensures)
 
 pub returns-in-None-clause-entry : goal.returns-in-None-clause-entry

@@ -1,5 +1,5 @@
 use Rattle.frame_tree.proofs.Common.{IsOk, not, refl, sym, ap, ◌∙◌, arith, false≢true, length-drop}
-use Rattle.frame_tree.proofs.Places.{inserted_back}
+use Rattle.frame_tree.proofs.Places.{inserted-back}
 use Rattle.frame_tree.proofs.window.ListWindow.insert.Goals as goal
 
 pub unreachable-requires : goal.unreachable-requires
@@ -25,5 +25,5 @@ returns g c =
     let items = c.self.inside.items.items in
     let within = rw (← c.self.view_is) at c.requires.within in
     let done : IsOk c.insert.result = c.insert.ensures.succeeds (omega (arith, c.if-len-self.false, c.len.ensures, c.self.invariant.room_left)) in
-    let put = inserted_back items c.self.inside.start c.args.at c.args.element (omega (arith, within, length-drop c.self.inside.start items, c.self.invariant.within)) in
+    let put = inserted-back items c.self.inside.start c.args.at c.args.element (omega (arith, within, length-drop c.self.inside.start items, c.self.invariant.within)) in
     rw (← c.self.view_is, c.insert.ensures.items, done, put) refl

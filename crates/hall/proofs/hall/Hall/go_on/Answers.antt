@@ -1,5 +1,5 @@
 -- A taken step goes on in its tenant's journal.
-use Rattle.hall.proofs.Common.{◌≡◌, ℕ, ◌+◌, true, Option, None, ap, sym, subst, ◌∙◌, rules, is_ok, false≢true, Refusal, DidOf, CoreState, IsOneStep, AreNumbersGiven, Leaf, jamboree, IsSearch, Quota, is_appended, raise_in, HallOf, IsHall}
+use Rattle.hall.proofs.Common.{◌≡◌, ℕ, ◌+◌, true, Option, None, ap, sym, subst, ◌∙◌, rules, is_ok, false≢true, Refusal, DidOf, CoreState, AreNumbersGiven, Leaf, IsSearch, Quota, is_appended, raise_in, HallOf, IsHall}
 use Rattle.std.specs.Prelude.{Result, Ok, Err}
 use Rattle.hall.proofs.Lists.{IsAllowed}
 use Rattle.hall.proofs.Halls.{IsStepOf, on-ok, Step, GoesOn, goes-on}

@@ -1,5 +1,5 @@
 -- A raise that was taken goes on in its tenant's journal.
-use Rattle.hall.proofs.Common.{◌≡◌, ℕ, ◌+◌, true, refl, ap, sym, ◌∙◌, rules, OnOk, is_ok, false≢true, Quota, IsWithinLimits, Refusal, DidOf, AdmitMore, CoreState, IsOneStep, AreNumbersGiven, Leaf, LeafAnswer, jamboree, HallOf, IsHall}
+use Rattle.hall.proofs.Common.{◌≡◌, ℕ, ◌+◌, true, refl, ap, sym, ◌∙◌, rules, OnOk, is_ok, false≢true, Quota, IsWithinLimits, Refusal, DidOf, AdmitMore, CoreState, AreNumbersGiven, Leaf, HallOf, IsHall}
 use Rattle.std.specs.Prelude.{Result, Ok, Err}
 use Rattle.hall.proofs.Halls.{IsStepOf, on-ok, GoesOn, goes-on, is-ready}
 use Rattle.hall.proofs.hall.Hall.raise.Goals as goal

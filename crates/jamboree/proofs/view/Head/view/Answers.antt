@@ -1,5 +1,4 @@
-use Rattle.jamboree.proofs.Common.{ap, ◌∙◌, arith, is_frame}
-use Rattle.std.proofs.Common.{[], refl}
+use Rattle.jamboree.proofs.Common.{arith}
 use Rattle.jamboree.proofs.ViewLemmas.{ranged, alpha-low, below-beta, beta-high, best-low, best-high}
 use Rattle.jamboree.proofs.view.Head.view.Goals as goal
 

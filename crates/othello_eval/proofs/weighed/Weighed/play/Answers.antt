@@ -1,17 +1,17 @@
 use Rattle.othello_eval.proofs.Common.{arith, ints, cells}
-use Rattle.othello_eval.proofs.ValueLemmas.{known_within, known_bits, after_move}
+use Rattle.othello_eval.proofs.ValueLemmas.{known-within, known-bits, after-move}
 use Rattle.othello_eval.proofs.weighed.Weighed.play.Goals as goal
 
 pub turned-requires-clause-discs : goal.turned-requires-clause-discs
-turned-requires-clause-discs c = known_bits _ (known_within _ (cells c.args.self.board) c.args.self.weighed)
+turned-requires-clause-discs c = known-bits _ (known-within _ (cells c.args.self.board) c.args.self.weighed)
 
 pub invariant_of-result : goal.invariant_of-result
 invariant_of-result c =
     let board = c.args.self.board in
     let next = c.play-board.result in
-    let moved = after_move board.own board.opp next.own next.opp c.args.square board.disjoint next.disjoint c.requires.legal c.play-board.ensures in
+    let moved = after-move board.own board.opp next.own next.opp c.args.square board.disjoint next.disjoint c.requires.legal c.play-board.ensures in
     let known = c.args.self.weighed in
-    let within = known_within _ (cells board) known in
+    let within = known-within _ (cells board) known in
     let flipped = c.word_value-flipped.ensures in let weight = c.weight_of.ensures in
     record {
       weighed = omega (

@@ -1,4 +1,4 @@
-use Rattle.sched_core.proofs.Common.{not-false, refl, Answer, found-serial}
+use Rattle.sched_core.proofs.Common.{not-false, refl, found-serial}
 use Rattle.sched_core.proofs.TakenStep.{step_result-taken, then-run, step-left}
 use Rattle.sched_core.proofs.Ending.{with-named}
 use Rattle.sched_core.proofs.Acting.{IsAnswered, is-answered, computes-holds, may-hold}

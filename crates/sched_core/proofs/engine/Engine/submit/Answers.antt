@@ -1,4 +1,4 @@
-use Rattle.sched_core.proofs.Common.{◌≡◌, ◌+◌, refl, arith, err_from_is_err_and, nat_tests, Live, on_tenant, with_job, shaped-in}
+use Rattle.sched_core.proofs.Common.{◌≡◌, ◌+◌, refl, arith, err_from_is_err_and, nat_tests, Live, with_job, shaped-in}
 use Rattle.sched_core.proofs.TakenStep.{step_result-refused, step_result-taken, then-changed}
 use Rattle.sched_core.proofs.Ending.{with-there}
 use Rattle.sched_core.proofs.Beginning.{submit-opens, fresh-root}

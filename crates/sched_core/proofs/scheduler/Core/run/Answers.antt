@@ -1,4 +1,4 @@
-use Rattle.sched_core.proofs.Common.{◌≡◌, ◌∙◌, take, refl, arith, take_more}
+use Rattle.sched_core.proofs.Common.{◌∙◌, refl, arith, take_more}
 use Rattle.sched_core.proofs.Stepping.{runs-begin, runs-on, runs-out, fits-on, take-all}
 use Rattle.sched_core.proofs.scheduler.Core.run.Goals as goal
 

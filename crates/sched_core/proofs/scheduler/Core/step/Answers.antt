@@ -1,4 +1,4 @@
-use Rattle.sched_core.proofs.Stepping.{kept-still, fits-still, stays-on_err}
+use Rattle.sched_core.proofs.Stepping.{kept-still, fits-still, stays-on-err}
 use Rattle.sched_core.proofs.Fitting.{kept-fitting}
 use Rattle.sched_core.proofs.scheduler.Core.step.Goals as goal
 
@@ -38,7 +38,7 @@ pub returns-clause-one : goal.returns-clause-one
 returns-clause-one g c = rw (← c.self.view_is) c.step.ensures.one
 
 pub returns-clause-refused : goal.returns-clause-refused
-returns-clause-refused g c = rw (← c.self.view_is) (stays-on_err _ _ _ _ _ c.step.ensures.one)
+returns-clause-refused g c = rw (← c.self.view_is) (stays-on-err _ _ _ _ _ c.step.ensures.one)
 
 pub returns-clause-procedure : goal.returns-clause-procedure
 returns-clause-procedure g c = rw (← c.self.view_is) c.step.ensures.procedure

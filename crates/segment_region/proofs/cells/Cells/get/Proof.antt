@@ -3,7 +3,7 @@ use Rattle.segment_region.proofs.Common.{◌≡◌, refl, subst, ◌+◌, ◌*�
 use mathlib.Core.Path.{sym, ◌∙◌}
 use native.Mathlib.Omega.{arith}
 use Rattle.segment_region.proofs.Memory.{Place, place_size, filled-within, seen}
-use Rattle.segment_region.proofs.Owners.{BaseRow, CellsRow, Handed, IsFilledAt, base_had}
+use Rattle.segment_region.proofs.Owners.{BaseRow, CellsRow, Handed, IsFilledAt, base-had}
 use Rattle.segment_region.specs.contracts.cells.Cells.get as its
 use Rattle.segment_region.proofs.cells.Cells.get.Statement.{statement}
 use Rattle.segment_region.proofs.cells.Cells.get.Code as code
@@ -67,7 +67,7 @@ module _ (E : El) {M : Type 1} {𝓤 : Ura M} (𝓛 : Logic 𝓤) (at_mem : Memo
       ∷ (raw (fact 𝓤 (y.0.0.1.0 ⊑ E.row.lives)) ⊛ raw (fact 𝓤 (IsFilledAt E self.now start index))) ∷ []) ∵
       move ! (1 ∷ []) $ split ! $ drop ! $ heard ! _ (λ asked.
       split ! $ split ! $ move ! (2 ∷ []) $ fsplit ! $ fsplit ! $ feq_l ! (λ is_self.
-      move ! (1 ∷ []) $ fsplit ! $ base_had E ! start y.0.4.1.0 (λ is_base.
+      move ! (1 ∷ []) $ fsplit ! $ base-had E ! start y.0.4.1.0 (λ is_base.
       fsplit ! $ fsplit ! $ feq_l ! (λ is_index. flt_l ! (λ fits.
       keep ! (1 ∷ 2 ∷ 3 ∷ []) $
       by ! (subst (λ (ws : List Val × List Val × List Val). ent 𝓤 (⋆ 𝓛 Had) (WpFn 𝓤 H C Λ (function E) (ws.0 ++ (ws.1 ++ (ws.2 ++ []))) Post)) (λ j. (sym is_self j, sym is_base j, sym is_index j)) (walk asked fits)))))))

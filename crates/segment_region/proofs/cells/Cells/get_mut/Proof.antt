@@ -2,8 +2,8 @@
 use Rattle.segment_region.proofs.Common.{◌≡◌, refl, subst, ℕ, ◌+◌, ◌*◌, ◌<◌, ◌^◌, List, [], ◌∷◌, ◌++◌, length, get_or, length-set, Ura, full_share, Fn, named, w64, inst_fn, Val, vptr, vint, SProp, ent, sep, never, id⊢, Fml, GName, ftrue, fsep, fat, flft, fobs, fbor, Memory, Routine, Calls, Loops, WpFn, Logic, sem, Body as Borrowed, ◌⊑◌, Fun, fact, Item, ⋆, ‵, raw, ◌⊛◌, some, later, await, pick, at_ret, ◌$◌, ◌∵◌, !, qed, by, move, keep, drop, use1, use2, split, join, group, rewrite, fsplit, fsplit3, fjoin, fjoin3, fpack, feq_l, flt_i, flt_l, suffices, frame, done, whole, sub, stop, fld, bin, size_lit, of_opd, addr, first, blocks, exec, returns, enter, alloc_all, pass_all, free_all, look_at, take_at, give_at, get, get_in, through, sets, sets_last, env, owns, mem, cell_at, part_of, layout, Ptr, block_ptr, in_a_block, MutBor, MutRef, plain, types_at, usize, yes, no, follows, Part, lends_Part, nothing, heard, opens, says, Stays, stay_dropped, walk_of, ends_at, Goes-dropped, Goes-spent_ref, None, Some, proved_at, El, R, args, el_x, times_below, one_below, after, word, word-Good, place_owned, row_owned, places_owned, with_place}
 use mathlib.Core.Path.{sym, ◌∙◌}
 use native.Mathlib.Omega.{arith}
-use Rattle.segment_region.proofs.Memory.{Place, place_size, Others, filled-within, taken_out, put_back}
-use Rattle.segment_region.proofs.Owners.{BaseRow, CellsRow, Handed, IsFilledAt, MarkRow, base_had}
+use Rattle.segment_region.proofs.Memory.{Place, place_size, Others, filled-within, taken-out, put-back}
+use Rattle.segment_region.proofs.Owners.{BaseRow, CellsRow, Handed, IsFilledAt, MarkRow, base-had}
 use Rattle.segment_region.specs.contracts.cells.Cells.get_mut as its
 use Rattle.segment_region.proofs.cells.Cells.get_mut.Statement.{statement}
 use Rattle.segment_region.proofs.cells.Cells.get_mut.Code as code
@@ -49,7 +49,7 @@ module _ (E : El) {M : Type 1} {𝓤 : Ura M} (𝓛 : Logic 𝓤) (at_mem : Memo
     unfolding part_of
     back e within small w =
         qed 𝓛 (‵ (place_owned (R E) b (index * place_size E + o) (Some w)) ∷ ‵ Rest ∷ []) ∵ move ! (1 ∷ []) $ fsplit3 ! $ move ! (3 ∷ 0 ∷ []) $
-        use2 𝓛 (‵ (row_owned (R E) b o (new w).slots)) (put_back E 𝓛 b self.now.slots index o (Some w) within) $
+        use2 𝓛 (‵ (row_owned (R E) b o (new w).slots)) (put-back E 𝓛 b self.now.slots index o (Some w) within) $
         flt_i ! (length (new w).slots * place_size E) (2 ^ 63) (subst (λ k. k * place_size E < 2 ^ 63) (sym (length-set self.now.slots index (Some w))) small) $ fjoin ! $
         rewrite ! 0 (λ (p : Ptr). ‵ (places_owned (R E) p (new w).slots)) (sym e) refl $ move ! (1 ∷ 0 ∷ []) $ fjoin ! $ move ! (1 ∷ 0 ∷ []) $ fjoin ! $
         fpack ! (List Val) (λ us. fsep (cell_at full_share (CellsRow E).mir us rb ro) ((CellsRow E).own_val (new w) us)) vs $ done !
@@ -79,7 +79,7 @@ module _ (E : El) {M : Type 1} {𝓤 : Ura M} (𝓛 : Logic 𝓤) (at_mem : Memo
       first ! $ blocks ! $
       sets ! (bin ! (get ! refl) (size_lit ! (record { fits = size_fits })) (record { fits = byte_fits })) refl (tt, record { fits = byte_fits }) $
       sets ! (bin ! (get_in ! (fld ! refl (stop !)) (sub ! 0 refl (whole !))) (get ! refl) tt) refl (tt, tt) $
-      use1 𝓛 (‵ (place_owned (R E) b at (get_or places index None)) ⊛ ‵ (Others E b index o places)) (taken_out E 𝓛 b places index o within) $ split ! $
+      use1 𝓛 (‵ (place_owned (R E) b at (get_or places index None)) ⊛ ‵ (Others E b index o places)) (taken-out E 𝓛 b places index o within) $ split ! $
       rewrite ! 0 (λ (place : Place E). ‵ (place_owned (R E) b at place)) asked.1.1 refl $
       -- [the value; the other places; what the fields own; the cells' own cell; the open loan, in three entries; the tokens; the locals]
       sets_last ! (addr ! (through ! refl (stop !))) refl (tt, tt) $
@@ -100,7 +100,7 @@ module _ (E : El) {M : Type 1} {𝓤 : Ura M} (𝓛 : Logic 𝓤) (at_mem : Memo
       ∷ (raw (fact 𝓤 (y.0.0.1.0 ⊑ E.row.lives)) ⊛ raw (fact 𝓤 (IsFilledAt E self.now start index))) ∷ []) ∵
       move ! (1 ∷ []) $ split ! $ drop ! $ heard ! _ (λ asked.
       split ! $ split ! $ move ! (2 ∷ []) $ fsplit ! $ fsplit3 ! $ feq_l ! (λ is_self.
-      move ! (2 ∷ []) $ fsplit ! $ base_had E ! start y.0.4.1.0 (λ is_start.
+      move ! (2 ∷ []) $ fsplit ! $ base-had E ! start y.0.4.1.0 (λ is_start.
       fsplit ! $ fsplit ! $ feq_l ! (λ is_index. flt_l ! (λ fits.
       keep ! (1 ∷ 2 ∷ 3 ∷ 4 ∷ []) $
       by ! (subst (λ (ws : List Val × List Val × List Val). ent 𝓤 (⋆ 𝓛 Had) (WpFn 𝓤 H C Λ (function E) (ws.0 ++ (ws.1 ++ (ws.2 ++ []))) Post)) (λ j. (sym is_self j, sym is_start j, sym is_index j)) (walk asked fits)))))))

@@ -3,8 +3,8 @@ use Rattle.segment_region.proofs.Common.{◌≡◌, refl, subst, ℕ, ◌+◌, �
 use mathlib.Core.Path.{sym, ◌∙◌}
 use native.Mathlib.Omega.{arith}
 use lib.ListN.{set}
-use Rattle.segment_region.proofs.Memory.{place_size, Others, taken_out, forgotten, put_back}
-use Rattle.segment_region.proofs.Owners.{BaseRow, CellsRow, Handed, base_had, value_had}
+use Rattle.segment_region.proofs.Memory.{place_size, Others, taken-out, forgotten, put-back}
+use Rattle.segment_region.proofs.Owners.{BaseRow, CellsRow, Handed, base-had, value-had}
 use Rattle.segment_region.specs.contracts.cells.Cells.write as its
 use Rattle.segment_region.proofs.cells.Cells.write.Statement.{statement}
 use Rattle.segment_region.proofs.cells.Cells.write.Code as code
@@ -71,13 +71,13 @@ module _ (E : El) {M : Type 1} {𝓤 : Ura M} (𝓛 : Logic 𝓤) (at_mem : Memo
       first ! $ blocks ! $
       sets ! (bin ! (get ! refl) (size_lit ! (record { fits = size_fits })) (record { fits = byte_fits })) refl (tt, record { fits = byte_fits }) $
       sets ! (bin ! (get_in ! (fld ! refl (stop !)) (sub ! 0 refl (whole !))) (get ! refl) tt) refl (tt, tt) $
-      use1 𝓛 (‵ (place_owned (R E) b at (get_or places index None)) ⊛ ‵ (Others E b index o places)) (taken_out E 𝓛 b places index o asked.1) $ split ! $
+      use1 𝓛 (‵ (place_owned (R E) b at (get_or places index None)) ⊛ ‵ (Others E b index o places)) (taken-out E 𝓛 b places index o asked.1) $ split ! $
       use1 𝓛 (‵ (froom (elτ E) b at)) (forgotten E 𝓛 b (get_or places index None) at) $
       sets ! (of_opd ! (get ! refl)) refl good $ assigns_last ! (of_opd ! (get ! refl)) (through ! refl (stop !)) (init ! 0 refl good) $
       exec ! C Λ (env (function E).locals l) (after 1 (function E).body) (at_ret _ Post) $
       sets ! (of_opd ! (unit_lit !)) refl (tt, tt) $
       move ! (0 ∷ 7 ∷ []) $ use2 𝓛 (‵ (place_owned (R E) b at (Some item))) (part_in 𝓛 (R E) refl full_share item b at v) $
-      use2 𝓛 (‵ (row_owned (R E) b o new.slots)) (put_back E 𝓛 b places index o (Some item) asked.1) $
+      use2 𝓛 (‵ (row_owned (R E) b o new.slots)) (put-back E 𝓛 b places index o (Some item) asked.1) $
       flt_i ! (length new.slots * size) (2 ^ 63) (subst (λ k. k * size < 2 ^ 63) (sym (length-set places index (Some item))) small) $ fjoin ! $
       rewrite ! 0 (λ (p : Ptr). ‵ (places_owned (R E) p new.slots)) (sym e) refl $
       move ! (1 ∷ 0 ∷ []) $ fjoin ! $ move ! (1 ∷ 0 ∷ []) $ closes ! tt (CellsRow E) new vs rb ro $
@@ -91,9 +91,9 @@ module _ (E : El) {M : Type 1} {𝓤 : Ura M} (𝓛 : Logic 𝓤) (at_mem : Memo
       ∷ (raw (fact 𝓤 (y.0.0.1.0 ⊑ E.row.lives)) ⊛ raw (fact 𝓤 (Asked E self.now start index))) ∷ []) ∵
       move ! (1 ∷ []) $ split ! $ drop ! $ heard ! _ (λ asked.
       split ! $ split ! $ move ! (2 ∷ []) $ fsplit ! $ fsplit3 ! $ feq_l ! (λ is_self.
-      move ! (2 ∷ []) $ fsplit ! $ base_had E ! start y.0.4.1.0 (λ is_start.
+      move ! (2 ∷ []) $ fsplit ! $ base-had E ! start y.0.4.1.0 (λ is_start.
       fsplit ! $ fsplit ! $ feq_l ! (λ is_index. flt_l ! (λ fits.
-      fsplit ! $ value_had E ! item y.0.4.1.1.1.0 (λ v is_item good.
+      fsplit ! $ value-had E ! item y.0.4.1.1.1.0 (λ v is_item good.
       keep ! (0 ∷ 2 ∷ 3 ∷ 4 ∷ 5 ∷ []) $
       by ! (subst (λ (ws : List Val × List Val × List Val × List Val). ent 𝓤 (⋆ 𝓛 (Had v)) (WpFn 𝓤 H C Λ (function E) (ws.0 ++ (ws.1 ++ (ws.2 ++ (ws.3 ++ [])))) Post)) (λ j. (sym is_self j, sym is_start j, sym is_index j, sym is_item j)) (walk is_self asked fits v good))))))))
 

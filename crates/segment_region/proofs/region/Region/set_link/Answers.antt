@@ -1,10 +1,10 @@
 use Rattle.segment_region.proofs.Common.{sym}
-use Rattle.segment_region.proofs.Entries.{filled_at}
+use Rattle.segment_region.proofs.Entries.{filled-at}
 use Rattle.segment_region.proofs.Whole.{whole-write, entries-link}
 use Rattle.segment_region.proofs.region.Region.set_link.Goals as goal
 
 pub get_mut-requires : goal.get_mut-requires
-get_mut-requires g c = (sym c.self.invariant.0.0, rw c.index-at.ensures (filled_at c.self.inside.mark c.self.inside.cells.slots c.args.segment (rw c.self.view_is c.requires)))
+get_mut-requires g c = (sym c.self.invariant.0.0, rw c.index-at.ensures (filled-at c.self.inside.mark c.self.inside.cells.slots c.args.segment (rw c.self.view_is c.requires)))
 
 pub invariant_of-self : goal.invariant_of-self
 invariant_of-self g c =

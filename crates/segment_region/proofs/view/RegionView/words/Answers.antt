@@ -1,5 +1,5 @@
 use Rattle.segment_region.proofs.Common.{sym, arith}
-use Rattle.segment_region.proofs.Entries.{taken_block, words_at_place}
+use Rattle.segment_region.proofs.Entries.{taken-block, words_at-place}
 use Rattle.segment_region.proofs.view.RegionView.words.Goals as goal
 
 -- No answer names the place that is read, so that the contract decides which one it may be.
@@ -7,10 +7,10 @@ use Rattle.segment_region.proofs.view.RegionView.words.Goals as goal
 pub get-requires : goal.get-requires
 get-requires c =
     let r = c.self.inside in
-    let t = taken_block r.mark r.cells.now.slots c.args.segment (rw (← c.self.view_is) at c.requires) in
+    let t = taken-block r.mark r.cells.now.slots c.args.segment (rw (← c.self.view_is) at c.requires) in
     (sym c.self.invariant.0, c.self.invariant.1 _ (omega arith))
 
 pub returns-clause-value : goal.returns-clause-value
 returns-clause-value c =
     let r = c.self.inside in
-    rw (← c.self.view_is) (sym (words_at_place r.mark r.cells.now.slots _ c.args.segment c.get.result.now (omega arith) (rw (← c.self.view_is) at c.requires) c.get.ensures))
+    rw (← c.self.view_is) (sym (words_at-place r.mark r.cells.now.slots _ c.args.segment c.get.result.now (omega arith) (rw (← c.self.view_is) at c.requires) c.get.ensures))

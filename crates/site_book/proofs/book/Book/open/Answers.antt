@@ -1,5 +1,5 @@
 use Rattle.site_book.proofs.Common.{length, ap, sym, subst, arith, length_push, IsKept}
-use Rattle.site_book.proofs.BookLemmas.{opened, pushed_is}
+use Rattle.site_book.proofs.BookLemmas.{opened, pushed-is}
 use Rattle.site_book.proofs.Keepings.{kept-few}
 use Rattle.site_book.proofs.book.Book.open.Goals as goal
 
@@ -14,7 +14,7 @@ pub invariant_of-self : goal.invariant_of-self
 invariant_of-self c =
     let gs = c.self.inside.grants.items in
     let kept = opened _ gs c.args.self.now c.self.view_is c.self.invariant.0 c.args.who c.args.session c.args.ask c.requires in
-    let list = pushed_is _ _ _ _ _ c.unwrap.ensures c.push.ensures.items in
+    let list = pushed-is _ _ _ _ _ c.unwrap.ensures c.push.ensures.items in
     let long = ap length list in (
       subst (IsKept c.self.inside.plan) (sym list) kept,
       omega (arith, long, kept-few c.self.inside.plan _ kept),

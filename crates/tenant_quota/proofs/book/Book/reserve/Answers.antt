@@ -5,9 +5,9 @@ use Rattle.tenant_quota.proofs.book.Book.reserve.Given.{Over}
 use Rattle.tenant_quota.proofs.book.Book.reserve.Goals.{After-insert}
 use Rattle.tenant_quota.proofs.book.Book.reserve.Goals as goal
 
-has_room : (b : Reservations) (quota : Quota) (r : Rest) (segments nodes : ℕ) → IsSoundBook b → r ≡ unreserved_of b → r.tenants ≢ 0 →
+has-room : (b : Reservations) (quota : Quota) (r : Rest) (segments nodes : ℕ) → IsSoundBook b → r ≡ unreserved_of b → r.tenants ≢ 0 →
     segments ≡ quota.segments → nodes ≡ quota.nodes → segments ≤ r.segments → nodes ≤ r.nodes → HasRoom b quota
-has_room b quota r segments nodes sound rest some segments_are nodes_are enough_segments enough_nodes =
+has-room b quota r segments nodes sound rest some segments_are nodes_are enough_segments enough_nodes =
     let tenants_are = ap (λ (x : Rest). x.tenants) rest in
     let segments_rest = ap (λ (x : Rest). x.segments) rest in
     let nodes_rest = ap (λ (x : Rest). x.nodes) rest in
@@ -21,7 +21,7 @@ has_room b quota r segments nodes sound rest some segments_are nodes_are enough_
 module _ (g : Over) (c : After-insert g) where
   room : HasRoom (held_by c.self.inside) c.args.reserve
   room =
-      has_room _ c.args.reserve c.rest-rest.result _ _ c.self.invariant.sound (rw (← c.self.view_is) at c.rest-rest.ensures.rest)
+      has-room _ c.args.reserve c.rest-rest.result _ _ c.self.invariant.sound (rw (← c.self.view_is) at c.rest-rest.ensures.rest)
       c.if-rest-eq0.false c.segments-segments.ensures.value c.nodes-nodes.ensures.value c.if-rest-segments.false c.if-rest-nodes.false
 
   -- the entry of a new tenant
@@ -30,7 +30,7 @@ module _ (g : Over) (c : After-insert g) where
 
 pub insert-requires-clause-room : goal.insert-requires-clause-room
 insert-requires-clause-room g c =
-    (has_room _ c.args.reserve c.rest-rest.result _ _ c.self.invariant.sound (rw (← c.self.view_is) at c.rest-rest.ensures.rest)
+    (has-room _ c.args.reserve c.rest-rest.result _ _ c.self.invariant.sound (rw (← c.self.view_is) at c.rest-rest.ensures.rest)
     c.if-rest-eq0.false c.segments-segments.ensures.value c.nodes-nodes.ensures.value c.if-rest-segments.false c.if-rest-nodes.false).tenants
 
 pub invariant_of-self : goal.invariant_of-self

@@ -1,32 +1,32 @@
 -- A step that the tenant has left is counted in its account; without one it is refused.
 use Rattle.tenant_quota.proofs.Common.{◌≡◌, ◌≢◌, ◌+◌, sym, ◌∙◌, ap, refl, arith, put-same, Account, Left, owner_of_account, ticked, left_in, IsWithinReserve}
 use Rattle.tenant_quota.proofs.Common.{held_by}
-use Rattle.tenant_quota.proofs.Standing.{StandsFor, is_there, stands_for, others_same, within_with, IsChange, written, change_by_write, sum_by_write}
+use Rattle.tenant_quota.proofs.Standing.{StandsFor, is-there, stands-for, others-same, within-with, IsChange, written, change-by-write, sum_by-write}
 use Rattle.tenant_quota.proofs.book.Book.tick.Given.{Over}
 use Rattle.tenant_quota.proofs.book.Book.tick.Goals.{After-left}
 use Rattle.tenant_quota.proofs.book.Book.tick.Goals as goal
 
-ticked_within : (a : Account) (l : Left) → l ≡ left_in a → l.steps ≢ 0 → IsWithinReserve a → IsWithinReserve (ticked a)
-ticked_within a l is some_left within =
+ticked-within : (a : Account) (l : Left) → l ≡ left_in a → l.steps ≢ 0 → IsWithinReserve a → IsWithinReserve (ticked a)
+ticked-within a l is some_left within =
     let steps_are = ap (λ (x : Left). x.steps) is in
-    within_with a a.charged a.opened (a.ticks + 1) within.charged_within within.opened_within (omega (arith, within.ticks_within)) within
+    within-with a a.charged a.opened (a.ticks + 1) within.charged_within within.opened_within (omega (arith, within.ticks_within)) within
 
 -- the entry that was found, and the write of one more step into it
 module _ (g : Over) (c : After-left g) where
   here : StandsFor (held_by c.self.inside) c.args.tenant c.get_mut.result.now
-  here = stands_for (held_by c.self.inside) _ _ c.get_mut.ensures.value c.self.invariant.sound
+  here = stands-for (held_by c.self.inside) _ _ c.get_mut.ensures.value c.self.invariant.sound
 
   fits : c.left.result.steps ≢ 0 → IsWithinReserve (ticked c.get_mut.result.now.1)
-  fits some = ticked_within c.get_mut.result.now.1 c.left.result c.left.ensures some (here).within
+  fits some = ticked-within c.get_mut.result.now.1 c.left.result c.left.ensures some (here).within
 
   change : c.left.result.steps ≢ 0 → IsChange (held_by c.self.inside) (written (held_by c.self.inside) c.args.tenant c.get_mut.result.now ticked) c.args.tenant ticked
-  change some = change_by_write (held_by c.self.inside) _ _ c.get_mut.ensures.value ticked c.self.invariant.sound (λ x. refl) (fits some)
+  change some = change-by-write (held_by c.self.inside) _ _ c.get_mut.ensures.value ticked c.self.invariant.sound (λ x. refl) (fits some)
 
 pub get_mut-requires-clause-there : goal.get_mut-requires-clause-there
-get_mut-requires-clause-there g c = is_there (held_by c.self.inside) c.args.tenant (rw (← c.self.view_is) at c.requires)
+get_mut-requires-clause-there g c = is-there (held_by c.self.inside) c.args.tenant (rw (← c.self.view_is) at c.requires)
 
 pub left-requires : goal.left-requires
-left-requires g c = (stands_for (held_by c.self.inside) _ _ c.get_mut.ensures.value c.self.invariant.sound).within
+left-requires g c = (stands-for (held_by c.self.inside) _ _ c.get_mut.ensures.value c.self.invariant.sound).within
 
 pub invariant_of-self : goal.invariant_of-self
 invariant_of-self g c = rw (put-same owner_of_account _ _ _ c.get_mut.ensures.value) c.self.invariant
@@ -41,7 +41,7 @@ returns-then-left-eq0 g c =
       short = rw (← c.self.view_is, account) (λ _. sym steps ∙ c.if-left-eq0.true, λ _. refl);
       ticks = tt;
       sum = rw (← c.self.view_is) refl;
-      others = rw (← c.self.view_is) (others_same (held_by c.self.inside) c.args.tenant);
+      others = rw (← c.self.view_is) (others-same (held_by c.self.inside) c.args.tenant);
       err = c.self.view_is;
       sound = c.self.invariant.sound;
     })
@@ -65,7 +65,7 @@ returns g c =
       ok = rw (← c.self.view_is, (here g at).account) (λ _. omega (arith, steps, c.if-left-eq0.false), λ _. refl);
       short = rw (← c.self.view_is, (here g at).account) (λ never. absurd cc, λ out. absurd (c.if-left-eq0.false (steps ∙ out)));
       ticks = rw (← c.self.view_is) is.changes;
-      sum = rw (← c.self.view_is) (omega (arith, sum_by_write (held_by c.self.inside) _ _ c.get_mut.ensures.value (λ x. x.1.charged) ticked));
+      sum = rw (← c.self.view_is) (omega (arith, sum_by-write (held_by c.self.inside) _ _ c.get_mut.ensures.value (λ x. x.1.charged) ticked));
       others = rw (← c.self.view_is) is.others;
       err = tt;
       sound = is.sound;

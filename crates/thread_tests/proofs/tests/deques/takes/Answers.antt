@@ -1,5 +1,5 @@
-use Rattle.task_deques.proofs.SeatLemmas.{posts_same}
+use Rattle.task_deques.proofs.SeatLemmas.{posts-same}
 use Rattle.thread_tests.proofs.tests.deques.takes.Goals as goal
 
 pub returns-clause-posts : goal.returns-clause-posts
-returns-clause-posts g c = posts_same c.args.all.now.items _ c.index_mut.result.now c.take.new.self c.index_mut.ensures.value c.take.ensures.posts
+returns-clause-posts g c = posts-same c.args.all.now.items _ c.index_mut.result.now c.take.new.self c.index_mut.ensures.value c.take.ensures.posts

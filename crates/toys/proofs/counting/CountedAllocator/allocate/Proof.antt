@@ -6,7 +6,7 @@ use Rattle.toys.specs.contracts.counting.CountedAllocator.allocate.Key as key
 use Rattle.toys.proofs.counting.CountedAllocator.allocate.Statement as stated
 use Rattle.toys.proofs.counting.CountedAllocator.allocate.Code as code
 use Rattle.toys.specs.contracts.counting.Counted as L
-use Rattle.toys.proofs.Asked.{asked_key, Asks, at_asked, Told, shown_val, seen_if, Shown-typed, asked_goes, asked_gives}
+use Rattle.toys.proofs.Asked.{asked_key, Asks, at_asked, Told, shown_val, seen_if, Shown-typed, asked-goes, asked-gives}
 use Rattle.toys.proofs.counting.Counted.asked.Met as asked_met
 
 -- a value of the answer's type
@@ -97,9 +97,9 @@ module _ (Z : Al) {M : Type 1} {𝓤 : Ura M} (𝓛 : Logic 𝓤) (at_mem : Memo
         qed 𝓛 (((‵ (flft κ q) ⊛ ‵ (flft ρ s) ⊛ ‵ ftrue) ⊛ ‵ (owns (types_at (ended Z).signature.params bound.0.0) bound.0.3 bound.0.4)) ∷ (raw (fact 𝓤 (ρ ⊑ Z.row.lives)) ⊛ raw (fact 𝓤 Said)) ∷ []) ∵
         move ! (1 ∷ []) $ split ! $ heard ! (ρ ⊑ Z.row.lives) (λ le. heard ! Said (λ said. split ! $ move ! (1 ∷ []) $ fsplit ! $ fsplit ! $ keep ! (1 ∷ 3 ∷ []) $
         enter ! 𝓣.C 𝓣.Λ (here Z) vs _ $ alloc_all ! (λ l. pass_all ! refl ((tt, tt), ((tt, record { fits = fn }), ((tt, record { fits = fa }), tt))) $
-        use2 𝓛 (raw ((Asks Z 𝓛 at_mem run).pre (at_asked Z 𝓛 at_mem run κ ρ q s out r))) (asked_goes Z 𝓛 at_mem run κ ρ q s out r le) $
+        use2 𝓛 (raw ((Asks Z 𝓛 at_mem run).pre (at_asked Z 𝓛 at_mem run κ ρ q s out r))) (asked-goes Z 𝓛 at_mem run κ ρ q s out r le) $
         calls_at ! (fm_of 𝓤 H 𝓛.laws 𝓣) (Asks Z 𝓛 at_mem run) ln (at_asked Z 𝓛 at_mem run κ ρ q s out r) (and_then ! (get ! refl) (no_more !)) (λ u.
-        use1 𝓛 (later (some (λ (f : Option (Bor Z.row.Denot)). given ((u ≡ shown_val f) × Told Z 𝓛 at_mem run κ ρ q s out r f) (‵ (seen_if Z κ f) ⊛ ‵ (flft κ q) ⊛ ‵ (flft ρ s) ⊛ ‵ ftrue)))) (asked_gives Z 𝓛 at_mem run κ ρ q s out r u) $ await ! tt $ pick ! (λ f.
+        use1 𝓛 (later (some (λ (f : Option (Bor Z.row.Denot)). given ((u ≡ shown_val f) × Told Z 𝓛 at_mem run κ ρ q s out r f) (‵ (seen_if Z κ f) ⊛ ‵ (flft κ q) ⊛ ‵ (flft ρ s) ⊛ ‵ ftrue)))) (asked-gives Z 𝓛 at_mem run κ ρ q s out r u) $ await ! tt $ pick ! (λ f.
         shown fn fa le said l u f)))))
 
 pub allocate_spec : {M : Type 1} → stated.statement M
