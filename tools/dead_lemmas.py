@@ -3,7 +3,7 @@
 
 usage: tools/dead_lemmas.py [CRATE..]
 
-What the code names (src/, must-fail/), and each written answer, is used; so is what a used declaration names. The rest is listed. Names
+What the code and wrong bodies name, and each written answer, is used; so is what a used declaration names. The rest is listed. Names
 are compared as words, so a dead lemma that shares its name with a used one isn't found.
 """
 import pathlib
@@ -76,7 +76,7 @@ def dead(crates):
     files = [it for crate in every for it in files_of(crate)]
     used = set()
     for crate in every:
-        for path in [*(TOP / "crates" / crate / "src").rglob("*.rt"), *(TOP / "crates" / crate / "must-fail").rglob("*.edit")]:
+        for path in [*(TOP / "crates" / crate / "src").rglob("*.rt"), *(TOP / "crates" / crate).glob("*/*.edit")]:
             used |= names_in(re.sub(r"//.*|[:&#<>|!]", " ", path.read_text()))
     rest = []
     for file in files:

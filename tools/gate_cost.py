@@ -2,7 +2,7 @@
 """Runs the gate on a fresh clone and says where its processor seconds go.
 
 usage: tools/gate_cost.py [-e] [-k] [FOLDER]
-Clones the last commit into FOLDER (a new one under /tmp where none is given) and runs `rt ci` there. Prints a row a crate:
+Clones the last commit into FOLDER (a new one under /tmp where none is given), makes its drawn rows, and runs `rt ci` there. Prints a row a crate:
 what its proof cost, its tests with it, and its edits with the check that they begin with; then the sums, the minutes by the
 clock, and how many processors there are. -e adds each edit with its seconds. Where the toolchain keeps what earlier runs on
 this machine proved, all is proved anew, unless -k is given. The log of the gate stands in FOLDER/gate.log.
@@ -70,6 +70,7 @@ def main():
     names = [it for it in words if not it.startswith("-")]
     folder = pathlib.Path(names[0] if names else tempfile.mkdtemp(prefix="gate-")).resolve()
     subprocess.run(["git", "clone", "-q", str(HERE.parent), str(folder / "repository")], check=True)
+    subprocess.run([folder / "repository/tools/rows/make.py"], stdout=subprocess.DEVNULL, check=True)
     began, seen = time.monotonic(), {}
     with open(folder / "gate.log", "w") as log:
         told = subprocess.run(["rt", "help"], capture_output=True, text=True)

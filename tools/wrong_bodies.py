@@ -3,7 +3,7 @@
 
 usage: tools/wrong_bodies.py [CRATE..]      (all crates where none is named; status 1 where a body is told by nothing)
 
-A wrong body is a file `crates/CRATE/must-fail/NAME.edit`, or `must-fail/more/NAME.edit`: the gate tries the first, this script all. It
+A wrong body is a file `crates/CRATE/must-fail/NAME.edit`, or `wrong-bodies/NAME.edit`: the gate tries the first, this script all. It
 has a line `file: PATH`, then pairs of lines `old: TEXT` and `new: TEXT`; a line `# test: CRATE WORD` says that no clause can tell
 it, and which test must fail with it, or which text of `transcripts`; `# an equal body of this form is accepted` that a right body of the same form was tried too, as
 has to be done where the edit changes the form of a function whose proof is written by hand.
@@ -32,7 +32,7 @@ TESTED = re.compile(r"^# test: (\w+) (\S+)$", re.M)
 
 def edits_of(folder):
     """The wrong bodies of a crate, those that the gate tries first."""
-    return [edit for name in ("must-fail", "must-fail/more") for edit in sorted((folder / name).glob("*.edit"))]
+    return [edit for name in ("must-fail", "wrong-bodies") for edit in sorted((folder / name).glob("*.edit"))]
 
 
 def goal_of(line):
