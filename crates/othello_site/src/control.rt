@@ -1,5 +1,5 @@
 //! The operator's socket: STATS, END, DRAIN and RELOAD.
-use crate::links::{MOST_BYTES, Received};
+use crate::links::{MOST_BYTES, Received, first_line};
 use crate::paths::Paths;
 use crate::reloading::{Unread, reload};
 use crate::shared::Shared;
@@ -163,6 +163,7 @@ fn converse<R: Paths + AllocGlobal + Clock + Wait>(
     let mut received = Received::new();
     for _ in 0..MOST_BYTES {
         if let Some(line) = first_line(received.bytes()) {
+            let line = line.trim_ascii();
             let command = read_command(line);
             log_command(rt, shared, line);
             return match answer(rt, shared, command) {
@@ -179,12 +180,6 @@ fn converse<R: Paths + AllocGlobal + Clock + Wait>(
         received.grow(count);
     }
     None
-}
-
-/// The first line, without its end; `None` where it isn't whole yet.
-fn first_line(bytes: &[u8]) -> Option<&[u8]> {
-    let end = bytes.iter().position(|byte| *byte == b'\n')?;
-    Some(bytes.get(..end)?.trim_ascii())
 }
 
 /// Says a command's line of the log. It has letters, digits and few signs alone.

@@ -262,3 +262,9 @@ impl Received {
         MOST_BYTES.saturating_sub(self.size)
     }
 }
+
+/// The first line, without its end; `None` where it isn't whole yet.
+pub(crate) fn first_line(bytes: &[u8]) -> Option<&[u8]> {
+    let end = bytes.iter().position(|byte| *byte == LF)?;
+    bytes.get(..end)
+}

@@ -31,6 +31,8 @@ fn end_gone<R: Clock + Wait>(rt: &R, shared: &Shared) {
         if let Some((hall, session)) = gone {
             let mut register = shared.register(rt);
             register.counts.gone = register.counts.gone.saturating_add(1);
+            // (its answer to the WAIT can't be written, and its log line says why)
+            register.shut(hall, session, Told::Gone);
             drop(register);
             let _ = tell(rt, shared, hall, Whom::One(session), Told::Gone);
         }

@@ -1,5 +1,5 @@
 //! Health and metrics by HTTP.
-use crate::links::{MOST_BYTES, Received};
+use crate::links::{MOST_BYTES, Received, first_line};
 use crate::shared::Shared;
 use crate::telling::metrics_of;
 use crate::visits::{Shut, Visits};
@@ -26,8 +26,7 @@ enum Asked {
 
 /// What a request asks for; `None` where it isn't whole yet.
 fn asked_by(request: &[u8]) -> Option<Asked> {
-    let end = request.iter().position(|byte| *byte == b'\n')?;
-    let line = request.get(..end)?;
+    let line = first_line(request)?;
     Some(if line.starts_with(b"GET /health ".as_slice()) {
         Asked::Health
     } else if line.starts_with(b"GET /metrics ".as_slice()) {

@@ -12,22 +12,14 @@ pub(crate) struct Workshop<'a> {
     pub(crate) desk: &'a SiteDesk,
 }
 
-/// What a worker has of it.
-#[derive(Clone, Copy)]
-pub(crate) struct Bench {
-    backoff: Backoff,
-}
-
 impl Site for Workshop<'_> {
-    type Badge = Bench;
+    type Badge = Backoff;
 
-    fn badge<R: Wait>(&self, _rt: &R) -> Option<Bench> {
-        Some(Bench {
-            backoff: Backoff::new(),
-        })
+    fn badge<R: Wait>(&self, _rt: &R) -> Option<Backoff> {
+        Some(Backoff::new())
     }
 
-    fn joined(first: Bench, _second: Bench) -> Bench {
+    fn joined(first: Backoff, _second: Backoff) -> Backoff {
         first
     }
 
@@ -38,13 +30,12 @@ impl Site for Workshop<'_> {
     fn work<R: Wait>(
         &self,
         rt: &R,
-        badge: &mut Bench,
+        backoff: &mut Backoff,
         worker: Worker,
         hands: &mut Hands,
         holding: Holding,
     ) -> Holding {
-        self.desk
-            .work(rt, &mut badge.backoff, worker, hands, holding)
+        self.desk.work(rt, backoff, worker, hands, holding)
     }
 
     fn pick<R: Wait>(&self, rt: &R) -> Option<Task> {
