@@ -7,22 +7,25 @@ mod sites;
 
 use std::alloc::Global;
 use std::fmt::Display;
-use std::fs::Files;
 use std::process::Abort;
 use std::sync::Wait;
 use std::thread::Threads;
-use std::time::{Clock, CpuClock};
 
 /// What a server and its clients need of a runtime beside the net, and a test to fail.
-pub(crate) trait Host: AllocGlobal + Files + Threads + Wait + Clock + CpuClock + Abort {}
+pub(crate) trait Host: AllocGlobal + Threads + Wait + Abort {}
 
-impl<R: AllocGlobal + Files + Threads + Wait + Clock + CpuClock + Abort> Host for R {}
+impl<R: AllocGlobal + Threads + Wait + Abort> Host for R {}
 
 /// Fails the test where this isn't so. An `assert!` in its place takes the prover twice as long.
 pub(crate) fn holds(rt: &impl Abort, is: bool)
     ensures { is ≡ true }
 {
     assert!(rt; is);
+}
+
+/// Whether bytes spell this text.
+pub(crate) fn spell(bytes: &[u8], text: &str) -> bool {
+    bytes == text.as_bytes()
 }
 
 /// Whether a fault says this.

@@ -1,6 +1,7 @@
 //! What a step was answered, as a text.
 use crate::tally::Done;
 use crate::values::Input;
+use crate::words::push_number;
 use frame_tree::FrameId;
 use sched_core::{DidOf, Refusal};
 
@@ -46,7 +47,7 @@ fn draw_taken_in(text: &mut String, woken: Option<FrameId>, aborted: u64) -> Don
         Some(parent) => draw_frame(text, parent)?,
         None => text.push_str("-")?,
     }
-    write!(text, " {aborted}")
+    push_number(text, aborted)
 }
 
 /// Appends a frame's name.

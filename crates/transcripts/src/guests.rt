@@ -161,9 +161,14 @@ impl<'t, 'a, L: DeskLedger, R: Wait, A: Allocator + Clone> House<'t, 'a, L, R, A
         None
     }
 
+    /// The session that is served.
+    fn served(&mut self) -> Option<&mut Guest<'t, 'a, L, R, A>> {
+        self.guests.get_mut(self.at)
+    }
+
     /// The session that is served has a tenant of this number now, or none.
     fn seat(&mut self, tenant: Option<u64>) {
-        if let Some(guest) = self.guests.get_mut(self.at) {
+        if let Some(guest) = self.served() {
             guest.tenant = tenant;
         }
     }
@@ -179,7 +184,7 @@ impl<L: DeskLedger, R: Wait, A: Allocator + Clone> Office for House<'_, '_, L, R
             self.resumes = false;
             return Ok(());
         }
-        match self.guests.get_mut(self.at) {
+        match self.served() {
             Some(guest) => guest.office.hello(reserve)?,
             None => return Err(Refusal::NoTenant),
         }
@@ -189,14 +194,14 @@ impl<L: DeskLedger, R: Wait, A: Allocator + Clone> Office for House<'_, '_, L, R
     }
 
     fn reserve(&mut self, reserve: Reserve) -> Result<(), Refusal> {
-        match self.guests.get_mut(self.at) {
+        match self.served() {
             Some(guest) => guest.office.reserve(reserve),
             None => Err(Refusal::NoTenant),
         }
     }
 
     fn ask(&mut self, question: &Question) -> Result<u64, Refusal> {
-        let (job, tenant) = match self.guests.get_mut(self.at) {
+        let (job, tenant) = match self.served() {
             Some(guest) => (guest.office.ask(question)?, guest.tenant),
             None => return Err(Refusal::NoTenant),
         };
@@ -207,7 +212,7 @@ impl<L: DeskLedger, R: Wait, A: Allocator + Clone> Office for House<'_, '_, L, R
     }
 
     fn get(&mut self, job: u64) -> Result<Standing, Refusal> {
-        match self.guests.get_mut(self.at) {
+        match self.served() {
             Some(guest) => guest.office.get(job),
             None => Err(Refusal::NoJob),
         }
@@ -218,28 +223,29 @@ impl<L: DeskLedger, R: Wait, A: Allocator + Clone> Office for House<'_, '_, L, R
         if !self.crew.is_closed {
             self.crew.work(ALL_STEPS);
         }
-        match self.guests.get_mut(self.at) {
-            Some(guest) => wait_at(guest, job, self.crew.is_closed),
+        let is_closed = self.crew.is_closed;
+        match self.served() {
+            Some(guest) => wait_at(guest, job, is_closed),
             None => Err(Refusal::NoJob),
         }
     }
 
     fn cancel(&mut self, job: u64) -> Result<(), Refusal> {
-        match self.guests.get_mut(self.at) {
+        match self.served() {
             Some(guest) => guest.office.cancel(job),
             None => Err(Refusal::NoJob),
         }
     }
 
     fn quota(&mut self) -> Result<Left, Refusal> {
-        match self.guests.get_mut(self.at) {
+        match self.served() {
             Some(guest) => guest.office.quota(),
             None => Err(Refusal::NoTenant),
         }
     }
 
     fn live(&mut self) -> Result<Live, Refusal> {
-        match self.guests.get_mut(self.at) {
+        match self.served() {
             Some(guest) => guest.office.live(),
             None => Err(Refusal::NoTenant),
         }
@@ -249,7 +255,7 @@ impl<L: DeskLedger, R: Wait, A: Allocator + Clone> Office for House<'_, '_, L, R
         if self.stays {
             return;
         }
-        if let Some(guest) = self.guests.get_mut(self.at) {
+        if let Some(guest) = self.served() {
             guest.office.leave();
         }
         self.seat(None);

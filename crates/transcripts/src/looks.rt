@@ -3,7 +3,7 @@ use crate::answered::draw_frame;
 use crate::plain_core::Counting;
 use crate::reading::read_frame;
 use crate::tally::Done;
-use crate::words::Words;
+use crate::words::{Words, push_number, push_numbers};
 use cactus_stack::Words as FrameWords;
 use frame_tree::{FrameId, State};
 use sched_core::{Job, Procedure};
@@ -12,7 +12,7 @@ use sched_core::{Job, Procedure};
 const NONE: &str = "none";
 
 /// What is read of a core.
-#[derive(Clone, Copy, Debug)]
+#[derive(Clone, Copy)]
 pub enum Look {
     /// How many segments are free.
     Free,
@@ -114,18 +114,11 @@ fn draw_job(text: &mut String, job: Option<&Job>) -> Done {
         Some(Job::Live(root)) => write!(text, "live under {root}"),
         Some(Job::Done(words)) => {
             text.push_str("done")?;
-            draw_list(text, words.as_slice())
+            push_numbers(text, words.as_slice())
         }
         Some(Job::Spent) => text.push_str("spent"),
         Some(Job::Cancelled) => text.push_str("cancelled"),
     }
-}
-
-fn draw_list(text: &mut String, words: &[u64]) -> Done {
-    for word in words {
-        write!(text, " {word}")?;
-    }
-    Ok(())
 }
 
 fn draw_entry<P: Procedure>(text: &mut String, core: &Counting<'_, P>, name: FrameId) -> Done {
@@ -147,7 +140,7 @@ fn draw_entry<P: Procedure>(text: &mut String, core: &Counting<'_, P>, name: Fra
 fn draw_words(text: &mut String, words: &FrameWords) -> Done {
     for at in 0..words.len() {
         if let Some(word) = words.get(at) {
-            write!(text, " {word}")?;
+            push_number(text, word)?;
         }
     }
     Ok(())

@@ -67,8 +67,8 @@ pub fn play_steps(alloc: Global, scene: &Scene<'_>, tally: &mut Tally) -> Done {
 }
 
 /// What a scene is played by, and its head.
-#[derive(Clone, Copy)]
-struct Setting<'t, P> {
+#[derive(Drop)]
+struct Setting<'t, P: Drop> {
     alloc: Global,
     procedure: P,
     config: Config,
@@ -182,7 +182,7 @@ fn steps_of<A: Drop>(played: &Played<'_, A>, tenant: u64) -> u64 {
 }
 
 /// Compares all that is read of a tenant in two cores.
-fn compare_tenant<P: Procedure<Answer: FromWords>>(
+fn compare_tenant<P: Procedure<Answer: FromWords> + Drop>(
     setting: &Setting<'_, P>,
     one: &Counting<'_, P>,
     other: &Counting<'_, P>,

@@ -16,7 +16,7 @@ const NOWHERE: usize = 128;
 pub type Reader = Toy<ReaderPlay>;
 
 /// An answer to a frame of Reader, which asks for itself.
-#[derive(Clone, Copy, Debug, PartialEq, Eq)]
+#[derive(Clone, Copy)]
 pub struct ReaderAnswer(pub u64);
 
 impl ToyAnswer for ReaderAnswer {
@@ -44,7 +44,7 @@ fn then_do(stores: Stores, after: Continuation) -> Act
 }
 
 /// What Reader's frames do.
-#[derive(Clone, Copy, Debug)]
+#[derive(Clone, Copy)]
 pub struct ReaderPlay;
 
 impl Play for ReaderPlay {

@@ -5,7 +5,7 @@ use std::alloc::{AllocError, Global};
 use std::fmt;
 
 /// A line of a text.
-#[derive(Clone, Copy, Debug)]
+#[derive(Clone, Copy)]
 pub struct Row<'t> {
     /// The name of its file.
     pub file: &'t str,

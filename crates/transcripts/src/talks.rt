@@ -7,7 +7,7 @@ use std::alloc::{AllocError, Global};
 
 /// A row of a talk. Its first word is a name and a sign; what follows after one space is the text. Where several talk,
 /// each has a name of its own; else it is empty.
-#[derive(Clone, Copy, Debug)]
+#[derive(Clone, Copy)]
 pub enum TalkLine<'t> {
     /// `NAME> TEXT`: this line is sent.
     Sent(&'t str, &'t str),

@@ -43,7 +43,7 @@ pub fn small_option(line: &str, word: &str) -> Option<u32> {
 }
 
 /// The words of a line that are not read yet. Words are parted by single spaces.
-#[derive(Clone, Copy, Debug)]
+#[derive(Clone, Copy)]
 pub struct Words<'t> {
     rest: &'t str,
 }
@@ -120,8 +120,19 @@ pub fn rest_of(row: &str) -> &str {
 /// Appends a line: a word, and numbers.
 pub fn tell(came: &mut String, word: &str, numbers: &[u64]) -> Done {
     came.push_str(word)?;
-    for number in numbers {
-        write!(came, " {number}")?;
-    }
+    push_numbers(came, numbers)?;
     came.push_str("\n")
+}
+
+/// Appends numbers, each behind a space.
+pub fn push_numbers(text: &mut String, numbers: &[u64]) -> Done {
+    for number in numbers {
+        push_number(text, *number)?;
+    }
+    Ok(())
+}
+
+/// Appends a number behind a space.
+pub fn push_number(text: &mut String, number: u64) -> Done {
+    write!(text, " {number}")
 }

@@ -20,7 +20,7 @@ use std::sync::Wait;
 use std::sync::atomic::{AtomicU32, Ordering};
 use std::sync::ledger::Blank;
 use std::thread::Threads;
-use std::time::Duration;
+use std::time::{Clock, CpuClock, Duration};
 use tcp_server::desk::{Desk, DeskLedger, Hall, Jamboree, Opened, PARTS, Step};
 use tcp_server::steal_pool::{Announce, OpenGate, PoolEnd};
 use tcp_server::{ServeFault, ServerConfig, serve, serve_announced};
@@ -110,6 +110,14 @@ fn are_told(stream: &TcpStream, rows: &[Row]) -> bool {
         }
     }
     true
+}
+
+/// Whether each line but the last one is answered as it should be.
+fn are_told_before_last(stream: &TcpStream, rows: &[Row]) -> bool {
+    match rows.split_last() {
+        Some((_, before)) => are_told(stream, before),
+        None => true,
+    }
 }
 
 /// Whether the server has closed this connection without a word.
@@ -224,7 +232,7 @@ fn is_tried<L: DeskLedger + Send + Sync, R>(
     trial: Trial,
 ) -> bool
 where
-    R: Net<Listener = TcpListener, Stream = TcpStream> + Host + Sync,
+    R: Net<Listener = TcpListener, Stream = TcpStream> + Host + Clock + CpuClock + Sync,
     requires { L.all ≡ L.parts }
 {
     match trial {
@@ -249,7 +257,7 @@ fn is_well_at<L: DeskLedger + Send + Sync, R>(
     trial: Trial,
 ) -> bool
 where
-    R: Net<Listener = TcpListener, Stream = TcpStream> + Host + Sync,
+    R: Net<Listener = TcpListener, Stream = TcpStream> + Host + Clock + CpuClock + Sync,
     requires name { blank.name ≡ L.name }
     requires parts { (blank.parts ≡ L.parts) × (L.all ≡ L.parts) × (L.all ≡ PARTS) }
     requires history { opened ≡ L.table }
@@ -262,7 +270,7 @@ where
 /// The same at a hall of this grain.
 fn is_well<R>(rt: &R, grain: u8, trial: Trial) -> bool
 where
-    R: Net<Listener = TcpListener, Stream = TcpStream> + Host + Sync,
+    R: Net<Listener = TcpListener, Stream = TcpStream> + Host + Clock + CpuClock + Sync,
 {
     let config = Config::new(4096, 65536).expect(rt, "totals");
     let hall = Hall::new(rt.alloc(), config, grain.min(6)).expect(rt, "a hall");
@@ -339,7 +347,7 @@ where
 /// Whether a guest at a server of this grain is content, and all steps are accounted for at the end.
 fn is_content<R>(rt: &R, grain: u8, guest: Guest, sessions: u16, workers: u8) -> bool
 where
-    R: Net<Listener = TcpListener, Stream = TcpStream> + Host + Sync,
+    R: Net<Listener = TcpListener, Stream = TcpStream> + Host + Clock + CpuClock + Sync,
 {
     is_well(rt, grain, Trial::Attended(guest, sessions, workers))
 }

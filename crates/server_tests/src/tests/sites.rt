@@ -1,7 +1,7 @@
 //! A site's sessions over a desk without workers: bytes in, bytes out, and a clock that goes on by a step at each look.
 ghost use Rattle.std.specs.Prelude.{◌≡◌};
 
-use crate::tests::holds;
+use crate::tests::{holds, spell};
 use fair_pool::FairShare;
 use hall::{Config, Hall};
 use line_io::{FromReader, FromWriter};
@@ -60,15 +60,19 @@ pub(super) fn desk_of(
     Some(SiteDesk::new(BookedHall::new(hall, book), shares))
 }
 
+/// A list of one.
+fn only<T: Drop>(rt: &impl Abort, alloc: Global, one: T) -> Vec<T> {
+    let mut all = Vec::new(alloc);
+    holds(rt, all.push(one).is_ok());
+    all
+}
+
 /// The desk of a hall where the school may have two sessions, and two guests one each.
 fn desks_of(rt: &impl Abort, alloc: Global) -> Vec<SiteDesk> {
-    let mut customers: Vec<Amount> = Vec::new(alloc);
-    holds(rt, customers.push(amount(2, 16, 160)).is_ok());
+    let customers = only(rt, alloc, amount(2, 16, 160));
     let guests = (amount(1, 8, 80), amount(1, 8, 80), amount(2, 16, 160));
     let desk = desk_of(alloc, (4, 32, 320), customers, guests).expect(rt, "a desk");
-    let mut desks: Vec<SiteDesk> = Vec::new(alloc);
-    holds(rt, desks.push(desk).is_ok());
-    desks
+    only(rt, alloc, desk)
 }
 
 /// A house whose clock goes on at each look, and in which one other session may be that leaves when it is told.
@@ -179,8 +183,18 @@ fn plays<R: Wait + Clock + Abort + AllocGlobal>(
     let end = serve_connection(rt, &mut source, &mut sink, &mut office);
     holds(rt, end.is_ok());
     let TestHouse { told: noted, .. } = office.close();
-    holds(rt, sink.writer.as_slice() == answered.as_bytes());
-    holds(rt, noted.as_slice() == told.as_bytes());
+    holds(rt, spell(&sink.writer, answered));
+    holds(rt, spell(&noted, told));
+}
+
+/// Plays a session over a guest's connection.
+fn guest_plays<R: Wait + Clock + Abort + AllocGlobal>(
+    rt: &R,
+    desks: &[SiteDesk],
+    desk: &SiteDesk,
+    talk: Talk,
+) {
+    plays(rt, desks, house(rt, desk), talk);
 }
 
 /// A seat of a customer that came then.
@@ -214,7 +228,7 @@ const WHOLE: Talk = (
 fn a_guests_session(rt: HostRuntime) {
     let desks = desks_of(&rt, rt.alloc());
     for desk in &desks {
-        plays(&rt, desks.as_slice(), house(&rt, desk), WHOLE);
+        guest_plays(&rt, &desks, desk, WHOLE);
         holds(&rt, desk.roll(&rt).is_empty());
     }
 }
@@ -238,8 +252,8 @@ const OWN_AGAIN: Talk = (
 fn whose_a_session_is(rt: HostRuntime) {
     let desks = desks_of(&rt, rt.alloc());
     for desk in &desks {
-        plays(&rt, desks.as_slice(), house(&rt, desk), SCHOOLS);
-        plays(&rt, desks.as_slice(), house(&rt, desk), OWN_AGAIN);
+        guest_plays(&rt, &desks, desk, SCHOOLS);
+        guest_plays(&rt, &desks, desk, OWN_AGAIN);
     }
 }
 
@@ -292,22 +306,27 @@ const GIVES_UP: Talk = ("HELLO 8 80\n", "ERR 14\n", "Tg");
 
 const FINDS_NO_PLACE: Talk = ("HELLO 8 80\n", "ERR 14\n", "g");
 
+/// Two guests are there, of whom one is idle and doesn't leave; and then two of whom none is idle.
+fn nobody_goes<R: Wait + Clock + Abort + AllocGlobal>(rt: &R, desks: &[SiteDesk], desk: &SiteDesk) {
+    let idle = seat_of(rt, desk, OTHER, 1_000);
+    let busy = seat_of(rt, desk, THIRD, 99_000);
+    let mut waiting = house(rt, desk);
+    waiting.step = 950;
+    plays(rt, desks, waiting, GIVES_UP);
+    holds(rt, desk.roll(rt).len() == 2);
+    leaves(rt, desk, idle);
+    let other = seat_of(rt, desk, OTHER, 99_000);
+    guest_plays(rt, desks, desk, FINDS_NO_PLACE);
+    leaves(rt, desk, busy);
+    leaves(rt, desk, other);
+    holds(rt, desk.roll(rt).is_empty());
+}
+
 /// Who waits for one that doesn't leave gives up after 2 seconds of the clock; and nobody goes where none is idle.
 #[test]
 fn a_guest_that_does_not_leave(rt: HostRuntime) {
     let desks = desks_of(&rt, rt.alloc());
     for desk in &desks {
-        let idle = seat_of(&rt, desk, OTHER, 1_000);
-        let busy = seat_of(&rt, desk, THIRD, 99_000);
-        let mut waiting = house(&rt, desk);
-        waiting.step = 950;
-        plays(&rt, desks.as_slice(), waiting, GIVES_UP);
-        holds(&rt, desk.roll(&rt).len() == 2);
-        leaves(&rt, desk, idle);
-        let other = seat_of(&rt, desk, OTHER, 99_000);
-        plays(&rt, desks.as_slice(), house(&rt, desk), FINDS_NO_PLACE);
-        leaves(&rt, desk, busy);
-        leaves(&rt, desk, other);
-        holds(&rt, desk.roll(&rt).is_empty());
+        nobody_goes(&rt, &desks, desk);
     }
 }

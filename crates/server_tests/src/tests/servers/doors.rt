@@ -3,11 +3,11 @@ ghost use Rattle.std.specs.Prelude.{◌≡◌};
 
 use super::{
     ANSWERED, ASK_0, Host, LAST, Row, TURNS, Trial, address_of, are_answered, are_both_answered,
-    are_told, are_told_of_their_own, come, fault_of, holds, is_answered, is_closed, is_content,
-    is_given_back, is_well, is_whole, server_of, visitor, visitors,
+    are_told, are_told_before_last, are_told_of_their_own, come, fault_of, holds, is_answered,
+    is_closed, is_content, is_given_back, is_well, is_whole, server_of, visitor, visitors,
 };
 use sched_rules::Worker;
-use std::io::{self, ErrorKind, Read, Write};
+use std::io::{self, Error, ErrorKind, Read, Write};
 use std::net::{Net, SocketAddr, TcpListener, TcpStream};
 use std::process::Abort;
 use std::sync::Wait;
@@ -157,14 +157,19 @@ fn is_visited<R: Net<Stream = TcpStream> + Abort>(
     are_answered(&visitor(rt, address), rows)
 }
 
+/// Whether an error says that nothing is there yet.
+pub(super) fn is_not_yet(error: &Error) -> bool {
+    error.kind() == ErrorKind::WouldBlock
+}
+
 /// Whether a connection is answered, or its session is still there.
 fn is_alive(mut stream: &TcpStream) -> bool {
     match stream.write_all(b"BYE\n") {
         Ok(()) => match stream.read(&mut [0; 1]) {
             Ok(count) => count > 0,
-            Err(error) => error.kind() == ErrorKind::WouldBlock,
+            Err(error) => is_not_yet(&error),
         },
-        Err(error) => error.kind() == ErrorKind::WouldBlock,
+        Err(error) => is_not_yet(&error),
     }
 }
 
@@ -265,7 +270,7 @@ fn are_turned_away<R: Net<Stream = TcpStream> + Clock + CpuClock + Abort>(
     let (Some(third), Some(second), Some(first)) = three else {
         return false;
     };
-    let is_one_served = are_told(&first, &ANSWERED[..4])
+    let is_one_served = are_told_before_last(&first, &ANSWERED)
         && is_closed(&second)
         && is_closed(&third)
         && is_idle(rt)
@@ -305,7 +310,7 @@ pub(super) fn is_attended<L: DeskLedger + Send + Sync, R>(
     server: ServerConfig,
 ) -> bool
 where
-    R: Net<Listener = TcpListener, Stream = TcpStream> + Host + Sync,
+    R: Net<Listener = TcpListener, Stream = TcpStream> + Host + Clock + CpuClock + Sync,
     requires { L.all ≡ L.parts }
 {
     let address = address_of(rt, &listener);

@@ -1,6 +1,7 @@
 //! Listeners that fail: by want of descriptors, for which there is a spare one, or otherwise, which ends the server.
 ghost use Rattle.std.specs.Prelude.{◌≡◌};
 
+use super::doors::is_not_yet;
 use super::{
     Host, Trial, address_of, fault_of, holds, is_closed, is_sent, is_well, listener_of, server_of,
     visitor,
@@ -84,13 +85,13 @@ const TRIES: [Try; 9] = [
 const LOST: [Try; 2] = [(103, 0b11, false, None), (4, 0b11, false, None)];
 
 /// Who comes through a door next.
-fn next_of<R: Host>(rt: &R, mut door: Door<Failing>) -> io::Result<Option<TcpStream>> {
+fn next_of<R: Host>(rt: &R, door: &mut Door<Failing>) -> io::Result<Option<TcpStream>> {
     door.next(rt)
 }
 
 /// Whether a door takes the connection of somebody who came, or fails by this error.
-fn takes<R: Host>(rt: &R, door: Door<Failing>, one: &TcpStream, error: Option<i32>) -> bool {
-    match next_of(rt, door) {
+fn takes<R: Host>(rt: &R, mut door: Door<Failing>, one: &TcpStream, error: Option<i32>) -> bool {
+    match next_of(rt, &mut door) {
         Ok(Some(taken)) => error.is_none() && is_sent(&taken, b"?") && !is_closed(one),
         Ok(None) => false,
         Err(failed) => error.is_some() && failed.raw_os_error() == error,
@@ -136,7 +137,9 @@ where
     let first = visitor(rt, address);
     let _second = visitor(rt, address);
     let mut door = Door::new(failing_by(listener, 24, 0b0101, 0b10));
-    matches!(door.next(rt), Ok(None)) && is_closed(&first) && matches!(door.next(rt), Ok(Some(_)))
+    matches!(next_of(rt, &mut door), Ok(None))
+        && is_closed(&first)
+        && matches!(next_of(rt, &mut door), Ok(Some(_)))
 }
 
 #[test]
@@ -164,7 +167,7 @@ where
 /// Whether a server has failed since no connection was there yet.
 fn would_block(fault: &Option<ServeFault>) -> bool {
     match fault {
-        Some(ServeFault::Listener(error)) => error.kind() == ErrorKind::WouldBlock,
+        Some(ServeFault::Listener(error)) => is_not_yet(error),
         _ => false,
     }
 }

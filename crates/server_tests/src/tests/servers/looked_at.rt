@@ -2,8 +2,8 @@
 ghost use Rattle.std.specs.Prelude.{◌≡◌};
 
 use super::{
-    ANSWERED, Host, LAST, Trial, address_of, are_answered, are_told, fault_of, holds, is_well,
-    is_whole, server_of, visitor,
+    ANSWERED, Host, LAST, Trial, address_of, are_answered, are_told_before_last, fault_of, holds,
+    is_well, is_whole, server_of, visitor,
 };
 use std::io::{self, Error};
 use std::net::{Net, OpenListener, SocketAddr, TcpListener, TcpStream};
@@ -56,7 +56,7 @@ fn is_answered_at_once<R: Net<Stream = TcpStream> + Abort>(
     last: &Mutex<Option<TcpStream>>,
 ) -> bool {
     let stream = visitor(rt, address);
-    are_told(&stream, &ANSWERED[..4]) && has_no_delay(last) && are_answered(&stream, &[LAST])
+    are_told_before_last(&stream, &ANSWERED) && has_no_delay(last) && are_answered(&stream, &[LAST])
 }
 
 /// Whether a server answers without a delay.

@@ -6,6 +6,7 @@ mod streams;
 mod words;
 
 use super::{Host, holds};
+use crate::tests::spell;
 use commands::{Explained, Input, Output, Streams, run};
 use line_io::{FromReader, FromWriter, Sink};
 use std::alloc::Global;
@@ -96,7 +97,23 @@ where
     run(rt, alloc, words, streams)
 }
 
-/// The exit status with this input and this output, the output then, and what was said on the errors.
+/// The exit status with these streams, the output then, and what was said on the errors.
+fn ended<S: Input + Drop, K: Output, R>(
+    rt: &R,
+    alloc: Global,
+    words: &[&str],
+    mut streams: Streams<S, K, Memory>,
+) -> (u8, K, Vec<u8>)
+where
+    R: Net<Stream = TcpStream> + Threads + Wait + Sync,
+    R::Listener: Send,
+{
+    let status = status_of(rt, alloc, words, &mut streams);
+    let Streams { sink, errors, .. } = streams;
+    (status, sink, errors.writer)
+}
+
+/// The same with this input and this output.
 fn followed<S: Input + Drop, K: Output, R>(
     rt: &R,
     alloc: Global,
@@ -108,14 +125,13 @@ where
     R: Net<Stream = TcpStream> + Threads + Wait + Sync,
     R::Listener: Send,
 {
-    let mut streams = Streams {
+    let errors = memory(alloc);
+    let streams = Streams {
         source,
         sink,
-        errors: memory(alloc),
+        errors,
     };
-    let status = status_of(rt, alloc, words, &mut streams);
-    let Streams { sink, errors, .. } = streams;
-    (status, sink, errors.writer)
+    ended(rt, alloc, words, streams)
 }
 
 /// The exit status with this input, and what was written on the output and on the errors.
@@ -193,7 +209,7 @@ one ---------------------------OX------XO--------------------------- X
 ";
 
 /// The answers to them.
-const NUMBERS: &[u8] = b"ERR 21
+const NUMBERS: &str = "ERR 21
 ERR 22
 -4 d3
 ERR 23
@@ -204,7 +220,7 @@ ERR 27
 ";
 
 /// What is said of them at a terminal, behind the line of hints.
-const IN_WORDS: &[u8] = b"othello: no such command
+const IN_WORDS: &str = "othello: no such command
 othello: the line is too long
 othello: not a number within the limits
 othello: the position hasn't 66 bytes
@@ -214,11 +230,11 @@ othello: the depth is over 12
 ";
 
 /// Whether the input is a terminal, the words, and what is said of the faults.
-type Explaining = (bool, Words, &'static [u8]);
+type Explaining = (bool, Words, &'static str);
 
 const EXPLAINING: [Explaining; 4] = [
-    (false, &["othello", "solve"], b""),
-    (false, &["othello", "solve", "--visited"], b""),
+    (false, &["othello", "solve"], ""),
+    (false, &["othello", "solve", "--visited"], ""),
     (true, &["othello", "solve"], IN_WORDS),
     (true, &["othello", "solve", "--visited"], IN_WORDS),
 ];
@@ -231,14 +247,12 @@ where
     let (is_terminal, words, said) = *explaining;
     let alloc = rt.alloc();
     let source = typed(FAULTY, is_terminal);
-    let mut streams = Streams::explained(source, memory(alloc), memory(alloc), memory(alloc));
-    let status = status_of(rt, alloc, words, &mut streams);
-    let Streams { sink, errors, .. } = streams;
-    let answers = sink.sink.writer.as_slice();
+    let streams = Streams::explained(source, memory(alloc), memory(alloc), memory(alloc));
+    let (status, sink, errors) = ended(rt, alloc, words, streams);
     status == 0
-        && sink.errors.writer.as_slice() == said
-        && errors.writer.is_empty() != is_terminal
-        && (words.len() > 2 || answers == NUMBERS)
+        && spell(&sink.errors.writer, said)
+        && errors.is_empty() != is_terminal
+        && (words.len() > 2 || spell(&sink.sink.writer, NUMBERS))
 }
 
 #[test]
@@ -283,8 +297,8 @@ fn is_taken<K: Sink>(sink: &mut K, answer: &str) -> bool {
 fn is_said_of(alloc: Global, answer: &str, said: &str) -> bool {
     let mut sink = explained(alloc, memory(alloc));
     is_taken(&mut sink, answer)
-        && sink.sink.writer.as_slice() == answer.as_bytes()
-        && sink.errors.writer.as_slice() == said.as_bytes()
+        && spell(&sink.sink.writer, answer)
+        && spell(&sink.errors.writer, said)
 }
 
 /// Whether nothing is said of an answer that nobody got.

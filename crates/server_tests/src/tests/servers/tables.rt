@@ -3,6 +3,7 @@
 use super::doors::Guest;
 use super::{ANSWERED, ASK_0, ASK_1, Host, LAST, MOVES, PASSES, Row, SPENT, is_content};
 use std::net::{Net, TcpListener, TcpStream};
+use std::time::{Clock, CpuClock};
 
 /// Jobs of depth 0 and 1 with their tables, which don't depend on who searched them: the first move is searched in full,
 /// and each of the others is found to be no better.
@@ -36,7 +37,7 @@ const FINEST: [Grain; 2] = [(0, 1), (0, 8)];
 /// Fails the test where these lines aren't told at each of these grains.
 fn are_told_at<R>(rt: &R, rows: &'static [Row], grains: &[Grain])
 where
-    R: Net<Listener = TcpListener, Stream = TcpStream> + Host + Sync,
+    R: Net<Listener = TcpListener, Stream = TcpStream> + Host + Clock + CpuClock + Sync,
 {
     for (grain, workers) in grains {
         let told = is_content(rt, *grain, Guest::Told(rows), 1, *workers);

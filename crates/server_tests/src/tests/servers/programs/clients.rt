@@ -2,10 +2,11 @@
 use super::grains::is_served;
 use super::served::has_many_sessions;
 use super::{followed, typed, written};
-use crate::tests::servers::{ASK_2, LAST, Row, SPENT, are_told, is_answered};
+use crate::tests::servers::{ASK_2, LAST, Row, SPENT, are_told, are_told_before_last, is_answered};
 use crate::tests::{Host, holds};
 use commands::Output;
 use line_io::{Sink, WriteFailed};
+use std::fs::Files;
 use std::net::{Net, TcpListener, TcpStream};
 use std::sync::Arc;
 use std::sync::atomic::{AtomicBool, Ordering};
@@ -37,7 +38,7 @@ struct Told<'r, R: Threads> {
     thread: Option<JoinHandle<bool>>,
 }
 
-impl<R: Net<Stream = TcpStream> + Host> Told<'_, R> {
+impl<R: Net<Stream = TcpStream> + Host + Files> Told<'_, R> {
     /// A line of the server.
     fn hear(&mut self, line: &[u8]) {
         let Some(address) = address_in(line) else {
@@ -60,7 +61,7 @@ impl<R: Net<Stream = TcpStream> + Host> Told<'_, R> {
     }
 }
 
-impl<R: Net<Stream = TcpStream> + Host> Sink for Told<'_, R> {
+impl<R: Net<Stream = TcpStream> + Host + Files> Sink for Told<'_, R> {
     ghost takes = { λ _ _ _. Unit {0} };
 
     fn put(&mut self, bytes: &[u8]) -> Result<usize, WriteFailed> {
@@ -72,7 +73,7 @@ impl<R: Net<Stream = TcpStream> + Host> Sink for Told<'_, R> {
     }
 }
 
-impl<R: Net<Stream = TcpStream> + Host> Output for Told<'_, R> {
+impl<R: Net<Stream = TcpStream> + Host + Files> Output for Told<'_, R> {
     fn is_closed(&self) -> bool {
         false
     }
@@ -87,7 +88,7 @@ fn address_in(line: &[u8]) -> Option<&str> {
 /// Whether a server that these words ask for ends well, has said where it listens and this at the end, and its caller is content.
 pub(super) fn is_called<R>(rt: &R, words: &[&str], caller: Caller, end: &[u8]) -> bool
 where
-    R: Net<Listener = TcpListener, Stream = TcpStream> + Host + Sync,
+    R: Net<Listener = TcpListener, Stream = TcpStream> + Host + Files + Sync,
 {
     let told = Told {
         rt,
@@ -126,13 +127,18 @@ const AGAIN: [Row; 3] = [
     ("WAIT 1\n", "SPENT 1\n"),
 ];
 
+/// Whether the first session is answered as it should be, while the second one can reserve nothing.
+fn is_first_answered(one: &TcpStream, two: &TcpStream) -> bool {
+    are_told(one, &BEYOND)
+        && are_told_before_last(one, &SPENT)
+        && is_answered(two, FULL)
+        && is_answered(one, LAST)
+}
+
 /// Whether two sessions, one after the other, are answered as they should be, and nobody says that the server has
 /// ended before their last line.
 fn are_answered(one: &TcpStream, two: &TcpStream, is_over: &AtomicBool) -> bool {
-    are_told(one, &BEYOND)
-        && are_told(one, &SPENT[..5])
-        && is_answered(two, FULL)
-        && is_answered(one, LAST)
+    is_first_answered(one, two)
         && are_told(two, &AGAIN)
         && !is_over.load(Ordering::SeqCst)
         && is_answered(two, LAST)

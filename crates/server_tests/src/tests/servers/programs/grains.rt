@@ -1,7 +1,8 @@
 //! A server has the grain that it is asked for: jobs for which its nodes suffice at one grain alone.
 use super::clients::{Caller, is_called};
 use crate::tests::Host;
-use crate::tests::servers::{ASK_3, ASK_7, LAST, is_answered};
+use crate::tests::servers::{ASK_3, ASK_7, LAST, are_told};
+use std::fs::Files;
 use std::net::{Net, TcpListener, TcpStream};
 
 /// A grain, the line of a job, and how that ends. The opening to depth 3: a root and its four children, of which each is searched once
@@ -25,35 +26,36 @@ pub(super) fn is_served<R: Net<Stream = TcpStream> + Host>(
     ask: &'static str,
     end: &'static str,
 ) -> bool {
+    let welcome = ("HELLO 64 8\n", "WELCOME 64 8\n");
+    let rows = [welcome, (ask, "JOB 1\n"), ("WAIT 1\n", end), LAST];
     match TcpStream::connect(rt, address) {
-        Ok(stream) => {
-            is_answered(&stream, ("HELLO 64 8\n", "WELCOME 64 8\n"))
-                && is_answered(&stream, (ask, "JOB 1\n"))
-                && is_answered(&stream, ("WAIT 1\n", end))
-                && is_answered(&stream, LAST)
-        }
+        Ok(stream) => are_told(&stream, &rows),
         Err(_) => false,
     }
 }
 
+/// The words for a server of eight nodes, at grain 0.
+const WORDS: [&str; 10] = [
+    "othello",
+    "serve",
+    "--sessions",
+    "1",
+    "--segments",
+    "64",
+    "--nodes",
+    "8",
+    "--grain",
+    "0",
+];
+
 /// Whether a server of eight nodes has the grain that it is asked for.
 fn has_grain<R>(rt: &R, grain: &Grain) -> bool
 where
-    R: Net<Listener = TcpListener, Stream = TcpStream> + Host + Sync,
+    R: Net<Listener = TcpListener, Stream = TcpStream> + Host + Files + Sync,
 {
     let (grain, ask, end) = *grain;
-    let words = [
-        "othello",
-        "serve",
-        "--sessions",
-        "1",
-        "--segments",
-        "64",
-        "--nodes",
-        "8",
-        "--grain",
-        grain,
-    ];
+    let mut words = WORDS;
+    words[9] = grain;
     let asker = Caller::Asker(ask, end);
     is_called(rt, words.as_slice(), asker, b"\nended 1\n")
 }

@@ -3,7 +3,7 @@ use super::clients::{Caller, is_called};
 use crate::tests::servers::{LAST, is_answered, is_closed};
 use crate::tests::{Host, holds};
 use std::alloc::Global;
-use std::fs;
+use std::fs::{self, Files};
 use std::net::{Net, TcpStream};
 use std::string::String;
 
@@ -29,7 +29,7 @@ fn has_line_of_threads(text: &str, count: &str) -> bool {
 }
 
 /// Whether the process has so many threads, as the system says.
-fn has_threads<R: Host>(rt: &R, count: &str) -> bool {
+fn has_threads<R: AllocGlobal + Files>(rt: &R, count: &str) -> bool {
     match fs::read_to_string(rt, "/proc/self/status") {
         Ok(text) => has_line_of_threads(text.as_str(), count),
         Err(_) => false,
@@ -37,7 +37,10 @@ fn has_threads<R: Host>(rt: &R, count: &str) -> bool {
 }
 
 /// Whether the process has seven threads, nobody listens at another address, and all sessions are answered at this one.
-pub(super) fn has_many_sessions<R: Net<Stream = TcpStream> + Host>(rt: &R, address: &str) -> bool {
+pub(super) fn has_many_sessions<R: Net<Stream = TcpStream> + Host + Files>(
+    rt: &R,
+    address: &str,
+) -> bool {
     let is_so = has_threads(rt, "7") && !is_elsewhere(rt, address);
     for _ in 0..SESSIONS {
         holds(rt, is_visited(rt, address));
@@ -67,11 +70,13 @@ fn is_visited<R: Net<Stream = TcpStream> + Host>(rt: &R, address: &str) -> bool 
     }
 }
 
+/// The words for a server of a thousand sessions and five workers.
+const WORDS: [&str; 6] = ["othello", "serve", "--sessions", "1000", "--workers", "5"];
+
 /// When a server of five workers says where it listens, its process has a thread for each of them, one that takes the
 /// connections, and its own. It listens at 127.0.0.1 alone, and takes a thousand sessions.
 #[test]
 fn a_thousand_sessions_and_five_workers(rt: HostRuntime) {
-    let words = ["othello", "serve", "--sessions", "1000", "--workers", "5"];
-    let is_content = is_called(&rt, words.as_slice(), Caller::Many, b"\nended 1000\n");
+    let is_content = is_called(&rt, WORDS.as_slice(), Caller::Many, b"\nended 1000\n");
     holds(&rt, is_content);
 }

@@ -1,7 +1,7 @@
 //! Streams that fail by each error that a process can meet, and terminals.
 use super::{Broken, LINE, Words, followed, input, memory, status_of, typed, written};
 use crate::tests::servers::looked_at::{Nameless, no_address};
-use crate::tests::{Host, holds, says};
+use crate::tests::{Host, holds, says, spell};
 use commands::{Streams, Unserved};
 use line_io::FromWriter;
 use std::alloc::AllocError;
@@ -63,7 +63,7 @@ where
     let source = input(LINE, failure, is_terminal);
     let sink = FromWriter::new(Broken(broken));
     let (found, _sink, errors) = followed(rt, rt.alloc(), words, source, sink);
-    found == status && errors.as_slice() == said.as_bytes()
+    found == status && spell(&errors, said)
 }
 
 /// Only a reader that closed the output leaves nothing to say; each other error of an output is told, once, and so is a
@@ -110,9 +110,7 @@ where
 {
     let (is_terminal, failure, status, said) = *reading;
     let (found, answers, errors) = written(rt, SOLVE, input(LINE, failure, is_terminal));
-    found == status
-        && errors.as_slice() == said.as_bytes()
-        && answers.is_empty() == failure.is_some()
+    found == status && spell(&errors, said) && answers.is_empty() == failure.is_some()
 }
 
 /// At a terminal a hint comes first; a failed read is told, and isn't the end.
@@ -163,7 +161,7 @@ fn an_address_that_cannot_be_had_is_told(rt: HostRuntime) {
     let (status, answers, errors) = unnamed(&rt);
     let error = no_address();
     match format!(in rt.alloc(); "othello: {error}\n") {
-        Ok(told) => holds(&rt, errors.as_slice() == told.as_bytes()),
+        Ok(told) => holds(&rt, spell(&errors, told.as_str())),
         Err(_) => panic!(rt; "no memory"),
     }
     holds(&rt, status == 1 && answers.is_empty());

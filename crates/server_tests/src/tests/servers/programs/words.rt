@@ -1,6 +1,6 @@
 //! Words of the command line: how they are read, and what is said of those that are refused.
 use super::{Words, memory};
-use crate::tests::holds;
+use crate::tests::{holds, spell};
 use command_line::{Options, WordsFault};
 use commands::words_of;
 use std::alloc::Global;
@@ -104,7 +104,7 @@ fn refusals_are_told(rt: HostRuntime) {
 fn are_lost(alloc: Global, kind: ErrorKind, status: u8, said: &str) -> bool {
     let mut errors = memory(alloc);
     match words_of(alloc, Err(Error::from(kind)), &mut errors) {
-        Err(found) => found == status && errors.writer.as_slice() == said.as_bytes(),
+        Err(found) => found == status && spell(&errors.writer, said),
         Ok(_) => false,
     }
 }
