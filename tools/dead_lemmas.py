@@ -43,7 +43,7 @@ class File:
                 continue
             if line.strip() and indent < depth:
                 depth = indent
-            if line.strip() and indent == depth and not re.match(r"\s*((pub )?(module|use|mod|open|unfolding)\b|[#)}\]])", line):
+            if line.strip() and indent == depth and not re.match(r"\s*((pub )?(module|use|mod|open|unfolding)\s|[#)}\]])", line):
                 name = re.match(r"(?:(?:pub|abbrev|unfoldable|opaque|data|record|ruleset)\s+)*(\S+)", line.strip())[1]
                 if not self.items or self.items[-1][0] != name:
                     self.items.append([name, at, at + 1])

@@ -114,6 +114,7 @@ abbrev pub Owned : (ℕ → ℕ) → List (ℕ × StepOf LeafAnswer) → Type 0
 Owned owner [] = Unit {0}
 Owned owner (entry ∷ entries) = (is_seat_step entry.1 ≡ true → entry.0 ≡ owner (tenant_of entry.1)) × Owned owner entries
 
+-- the seat steps of each tenant are by one maker
 abbrev pub HasOwners : List (ℕ × StepOf LeafAnswer) → Type 0
 HasOwners history = (owner : ℕ → ℕ) × Owned owner history
 

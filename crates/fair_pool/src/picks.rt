@@ -4,13 +4,11 @@ ghost use Rattle.sched_rules.specs.Views.{newest_ready_in};
 ghost use Rattle.fair_pool.specs.Shares.{tenant_seen, tenant_in_place};
 ghost use Rattle.fair_pool.specs.Picks.{charged_to, seen_all, IsFairTask, IsNoTask};
 
+use crate::line::PLACES;
 use crate::shares::FairShare;
 use hall::Hall;
 use std::alloc::Allocator;
 use task_deques::pool_rules::Task;
-
-/// How many places there are for tenants.
-const PLACES: usize = 64;
 
 /// Sees of all tenants whether they have a ready frame.
 #[tactic(auto, using(crate::proofs::PickLemmas::seen_more, crate::proofs::PickLemmas::seen_none))]

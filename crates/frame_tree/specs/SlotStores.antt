@@ -52,7 +52,8 @@ AllHere slab before [] = Unit {0}
 AllHere slab before (key ∷ keys) = IsHere slab before (get slab key) × AllHere slab (before ++ key ∷ []) keys
 
 -- the invariant of a slot store (src/slot_store.rt): order has the key of each slot once, those of parents before
--- their children's; there are no more than places, and the slab and the order (of so much room) can hold as many
+-- their children's, and no slot is marked (as an abort marks those that it is about to remove); there are no more than
+-- places, and the slab and the order (of so much room) can hold as many
 pub record IsSlotStore {T : Type 0} (slab : Slab (StoredSlot T)) (order : List ℕ) (room places : ℕ) : Type 0 where
   pub here : AllHere slab [] order
   pub apart : AreApartKeys order
@@ -141,7 +142,7 @@ pub record ChangesSlot {T : Type 0} (old new : SlotStoreOf T) (serial : ℕ) (ch
   pub changed : new ≡ record old { slots = set old.slots at (change slot) }
   pub told : Told slot
 
--- these are the keys of all slots of a slab, each once, those of parents before their children's
+-- these are the keys of all slots of a slab, of which none is marked, each once, those of parents before their children's
 pub record AreKeys {T : Type 0} (slab : Slab (StoredSlot T)) (keys : List ℕ) : Type 0 where
   pub here : AllHere slab [] keys
   pub apart : AreApartKeys keys

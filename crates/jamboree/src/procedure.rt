@@ -186,7 +186,7 @@ fn plan_of(grain: u8, fitting: bool, sight: &Sight) -> Plan
 /// The inlet of `frame` for a returned child whose words are unchecked. Where they don't have the form of a
 /// frame, or can't be a child of `frame`, it only wakes it. `entries` are what a `View` leaves out, and don't
 /// matter.
-fn plan_inlet_unchecked(frame: &View, words: &Words) -> InletPlan
+fn plan_inlet_below(frame: &View, words: &Words) -> InletPlan
     ensures { (entries : List ℕ) → inlet_for result ≡ (if is_formed words.now && may_be_child (frame_with frame.now entries) (frame_of words.now) then inlet_of (frame_with frame.now entries) (frame_of words.now) else wakes) }
 {
     if !is_formed(words) {
@@ -214,7 +214,7 @@ fn plan_inlet_seen(own: &Words, child: &Words) -> InletPlan
     if !is_formed(own) {
         return wakes();
     }
-    plan_inlet_unchecked(&view(own), child)
+    plan_inlet_below(&view(own), child)
 }
 
 /// The inlet of a frame in the words `own` for a returned child in the words `child`. Where `fitting` is true

@@ -12,7 +12,7 @@ use Rattle.jamboree_rules.specs.Entries.{HasKind, score_at}
 abbrev pub IsSettled : Frame → ℕ → Type 0
 IsSettled f i = slice_index f.statuses i ≡ status_settled
 
--- the stored choice is a settled choice j that is worth the best score, and each earlier choice is worth less
+-- the stored choice is that of this place, which is settled and worth the best score; each earlier choice is worth less
 pub record IsFirstBest (f : Frame) : Type 0 where
   pub place : ℕ
   pub stored : f.choice ≡ code_at f place

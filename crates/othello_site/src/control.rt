@@ -182,7 +182,7 @@ fn converse<R: Paths + AllocGlobal + Clock + Wait>(
     None
 }
 
-/// Says a command's line of the log. It has letters, digits and few signs alone.
+/// Logs a command: `?` stands for a quote, a backslash, and each byte that isn't printable ASCII.
 fn log_command<R: AllocGlobal + Wait>(rt: &R, shared: &Shared, line: &[u8]) {
     let mut out = String::new(rt.alloc());
     let _ = push_command(&mut out, line);

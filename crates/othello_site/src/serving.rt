@@ -1,7 +1,7 @@
 //! The threads of a site that serves.
 //!
-//! They run in a scope of a thread of their own, which ends with the last session. The thread that began it waits for one thing alone: that
-//! it is told why the site ends ([`Ending`]). Then the program ends at once, and its sessions with it, so that whoever supervises it can
+//! They run in a scope of a thread of its own, which doesn't end before the program. The thread that began it waits for one thing alone:
+//! that it is told why the site ends ([`Ending`]). Then the program ends at once, and its sessions with it, so that whoever supervises it can
 //! start it again.
 ghost use Rattle.std.specs.Prelude.{◌≡◌, IfSome};
 
@@ -33,7 +33,7 @@ use std::time::{Clock, Instant};
 
 /// Where a site listens.
 #[derive(Drop)]
-struct Ends {
+struct Listeners {
     plain: Option<TcpListener>,
     proxied: Option<TcpListener>,
     health: Option<TcpListener>,
@@ -44,7 +44,7 @@ struct Ends {
 #[derive(Drop)]
 struct Site {
     shared: Shared,
-    ends: Ends,
+    listeners: Listeners,
     workers: u8,
 }
 
@@ -86,7 +86,7 @@ fn control_at<R: Paths>(rt: &R, config: &Config) -> Result<Option<UnixListener>,
 }
 
 /// Listens as a file says.
-fn ends_of<R>(rt: &R, config: &Config) -> Result<Ends, Unheard>
+fn listeners_of<R>(rt: &R, config: &Config) -> Result<Listeners, Unheard>
 where
     R: Net<Listener = TcpListener, Stream = TcpStream> + Paths,
 {
@@ -94,7 +94,7 @@ where
     let plain = listener_at(rt, "plain", config.entrances.plain)?;
     let health = listener_at(rt, "health", config.entrances.health)?;
     let control = control_at(rt, config)?;
-    Ok(Ends {
+    Ok(Listeners {
         plain,
         proxied,
         health,
@@ -206,8 +206,8 @@ where
         + 'static,
 {
     let workers = workers_of(rt, &config);
-    let ends = match ends_of(rt, &config) {
-        Ok(ends) => ends,
+    let listeners = match listeners_of(rt, &config) {
+        Ok(listeners) => listeners,
         Err(fault) => return Ok(Some(Why::Unheard(fault))),
     };
     let (ending, theirs) = endings(rt.alloc())?;
@@ -216,7 +216,7 @@ where
     };
     let site = Site {
         shared,
-        ends,
+        listeners,
         workers,
     };
     let host = *rt;
@@ -302,7 +302,7 @@ where
     }
 }
 
-/// Serves.
+/// Starts all threads of a site.
 fn serve_site<R>(rt: &R, site: Site)
 where
     R: Net<Listener = TcpListener, Stream = TcpStream>
@@ -317,15 +317,15 @@ where
 {
     let Site {
         shared,
-        ends,
+        listeners,
         workers,
     } = site;
-    let Ends {
+    let Listeners {
         plain,
         proxied,
         health,
         control,
-    } = ends;
+    } = listeners;
     say_listening(rt, &plain);
     say_listening(rt, &proxied);
     let shared = &shared;

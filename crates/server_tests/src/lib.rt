@@ -12,7 +12,7 @@
 //!
 //! ```text
 //! // a server of two sessions and two workers, and clients that are told what they should be told
-//! is_content(rt, 0, Guest::Both, 2, 2)
+//! is_content(rt, 0, Visit::Both, 2, 2)
 //! ```
 #![tactic(auto)]
 

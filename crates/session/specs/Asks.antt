@@ -65,7 +65,8 @@ RefusedBy numbers _ = Unit {0}
 
 -- by which numbers each call may be refused, and where it is: ASK by 13 where 256 jobs were asked, GET and WAIT by 17
 -- exactly where nothing was asked under their number, CANCEL by 17 there too. Only HELLO and RESERVE are refused by 19
--- (no memory), and Leave never is
+-- (no memory), and Leave never is. (1 is NoTenant, 10 NoSegments, 11 NoNodes, 13 NoJobsLeft, 14 Full, 17 NoJob, 18
+-- OldTenant, 19 OutOfMemory, 20 Lower)
 abbrev pub IsRefusedWhere : List Asked → Call → OfficeReply → Type 0
 IsRefusedWhere asks (Hello quota) reply = RefusedBy (14 ∷ 18 ∷ 19 ∷ []) reply
 IsRefusedWhere asks (Reserve quota) reply = RefusedBy (1 ∷ 20 ∷ 14 ∷ 19 ∷ []) reply

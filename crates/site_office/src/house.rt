@@ -1,4 +1,4 @@
-//! What an office asks of the house in which it is.
+//! What an office asks of its site, the house in which it is, and what it tells it.
 use site_book::Who;
 
 /// Whose a session is to be.
@@ -8,7 +8,7 @@ pub enum Met {
     Is(Who, usize),
     /// Nobody has the token.
     Nobody,
-    /// Its customer has too many connections.
+    /// Its customer has too many connections, or the site is being drained.
     Crowded,
 }
 
@@ -23,7 +23,7 @@ pub enum Cause {
     Rate,
     /// Nobody has the token.
     Token,
-    /// The customer has too many connections.
+    /// The customer has too many connections, or the site is being drained.
     Connections,
     /// There is no memory, or no number of a tenant.
     Memory,
@@ -46,7 +46,7 @@ pub enum Note {
     Tells(u64),
 }
 
-/// What an office asks of the house in which it is. Times are milliseconds of the house's clock.
+/// What an office asks of its site: the time, whose a token is, whether a line is paid for. Times are milliseconds of the house's clock.
 pub trait House {
     /// The time.
     fn now(&self) -> u64;
@@ -54,7 +54,8 @@ pub trait House {
     /// How long a guest may say nothing, where another comes.
     fn guest_idle(&self) -> u64;
 
-    /// Whose the next session is to be: that of the customer who has this token; without one, whoever the connection is.
+    /// Whose the next session is to be: the customer's that has this token; without one, whoever the connection is. From then on the
+    /// connection counts as that customer's.
     fn meet(&mut self, token: Option<&[u8]>) -> Met;
 
     /// Whether a line that asks for a reservation passes by this customer's rate.

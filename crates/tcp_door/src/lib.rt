@@ -6,7 +6,7 @@
 //! is made anew. So a client that can't be served sees its connection closed, those after it are taken as ever, and
 //! the sessions that are there go on. Meanwhile the door waits in the system, and uses no processor.
 //!
-//! What it is for: each program that takes connections, the server and a site's gate, keeps one. A [`Door`] stands for a listener
+//! What it is for: each program that takes connections, `othello serve` and `othello_site`, keeps one. A [`Door`] stands for a listener
 //! and perhaps a spare name of it; it is generic in the listener, so that a test can hand it one whose connections are lost.
 //! What a listener gives no clause can say; what its errors mean is a definition (`specs/Accepts.antt`): one that concerns a call or
 //! a connection alone is never returned. The tests of `tcp_server` play the rest.

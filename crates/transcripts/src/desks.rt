@@ -5,7 +5,7 @@
 ghost use Rattle.std.specs.Prelude.{◌≡◌, ◌≤◌};
 
 use crate::crew::Crew;
-use crate::guests::House;
+use crate::played_desk::PlayedDesk;
 use crate::playing::read_totals;
 use crate::scenes::Scene;
 use crate::tally::{Done, Tally};
@@ -76,7 +76,7 @@ fn play_at<L: DeskLedger, R: Wait, A: Allocator + Clone>(
     tally: &mut Tally,
 ) -> Done
     requires name { blank.name ≡ L.name }
-    requires parts { (blank.parts ≡ L.parts) × (L.all ≡ L.parts) × (L.all ≡ 13835058055282163712) }
+    requires parts { (blank.parts ≡ L.parts) × (L.all ≡ L.parts) × (L.all ≡ PARTS) }
     requires history { opened ≡ L.table }
     requires begun { hall ≡ L.begun }
 {
@@ -98,6 +98,6 @@ fn play_rows<L: DeskLedger, R: Wait, A: Allocator + Clone>(
     let Some(crew) = Crew::new(alloc, rt, desk, setting.worker) else {
         return tally.miss(scene.head, "a badge", "none");
     };
-    let mut house = House::new(rt, alloc, desk, crew, setting.pieces);
-    house.play(scene.rows.as_slice(), tally)
+    let mut played = PlayedDesk::new(rt, alloc, desk, crew, setting.pieces);
+    played.play(scene.rows.as_slice(), tally)
 }

@@ -13,12 +13,12 @@ use tenant_quota::Reserve;
 pub fn read_step<A: FromWords>(text: &str) -> Option<StepOf<A>> {
     let mut words = Words::of(text);
     let kind = words.word()?;
-    let step = read_kind(kind, &mut words)?;
+    let step = read_step_of_kind(kind, &mut words)?;
     if words.is_empty() { Some(step) } else { None }
 }
 
-/// A step of this kind.
-fn read_kind<A: FromWords>(kind: &str, words: &mut Words<'_>) -> Option<StepOf<A>> {
+/// The rest of a step of this kind.
+fn read_step_of_kind<A: FromWords>(kind: &str, words: &mut Words<'_>) -> Option<StepOf<A>> {
     match kind {
         "Admit" => Some(StepOf::Admit(words.number()?, read_reserve(words)?)),
         "AdmitMore" => Some(StepOf::AdmitMore(words.number()?, read_reserve(words)?)),

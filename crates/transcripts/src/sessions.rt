@@ -6,7 +6,7 @@
 ghost use Rattle.std.specs.Prelude.{◌≡◌, ◌≤◌, length};
 
 use crate::compared::compare_lines;
-use crate::guests::{GOES_ON, Guest, House, WENT_ON};
+use crate::played_desk::{GOES_ON, PlayedSession, PlayedDesk, WENT_ON};
 use crate::scenes::Row;
 use crate::talks::{TalkLine, gather, read_talk_line};
 use crate::tally::{Done, Tally};
@@ -53,7 +53,7 @@ fn goes_on(rows: &[Row<'_>], name: &str) -> bool {
     !rows.is_empty()
 }
 
-impl<'t, 'a, L: DeskLedger, R: Wait, A: Allocator + Clone> House<'t, 'a, L, R, A> {
+impl<'t, 'a, L: DeskLedger, R: Wait, A: Allocator + Clone> PlayedDesk<'t, 'a, L, R, A> {
     /// Plays all rows.
     pub fn play(&mut self, rows: &[Row<'t>], tally: &mut Tally) -> Done
         requires { L.all ≡ L.parts }
@@ -110,7 +110,7 @@ impl<'t, 'a, L: DeskLedger, R: Wait, A: Allocator + Clone> House<'t, 'a, L, R, A
         let Some(end) = rows.last() else {
             return Ok(());
         };
-        let at = self.guest_of(name)?;
+        let at = self.session_of(name)?;
         let begun = self.is_seated(at);
         let first = if begun { GOES_ON } else { NOTHING };
         let part = gather(self.alloc, first, rows, tally)?;
@@ -120,12 +120,12 @@ impl<'t, 'a, L: DeskLedger, R: Wait, A: Allocator + Clone> House<'t, 'a, L, R, A
     }
 
     /// The place of the session of this name, which is a new one where none had it.
-    fn guest_of(&mut self, name: &'t str) -> Result<usize, AllocError> {
+    fn session_of(&mut self, name: &'t str) -> Result<usize, AllocError> {
         if let Some(at) = self.find(name) {
             return Ok(at);
         }
-        let at = self.guests.len();
-        self.guests.push(Guest::new(name, self.rt, self.desk))?;
+        let at = self.sessions.len();
+        self.sessions.push(PlayedSession::new(name, self.rt, self.desk))?;
         Ok(at)
     }
 

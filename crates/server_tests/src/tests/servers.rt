@@ -9,7 +9,7 @@ mod programs;
 mod tables;
 
 use super::{Host, holds};
-use doors::Guest;
+use doors::Visit;
 use sched_rules::{Config, Worker};
 use std::alloc::Global;
 use std::io::{Read, Write};
@@ -208,8 +208,8 @@ fn is_given_back(mut streams: Vec<TcpStream>) -> bool {
 /// What is tried at a server.
 #[derive(Clone, Copy)]
 enum Trial {
-    /// This guest comes to a server of so many sessions and workers.
-    Attended(Guest, u16, u8),
+    /// These come to a server of so many sessions and workers.
+    Attended(Visit, u16, u8),
     /// The server's workers can't have threads, where it can say that it has begun; or it can't.
     Unserved(bool),
     /// Its sessions can't have threads.
@@ -236,8 +236,8 @@ where
     requires { L.all ≡ L.parts }
 {
     match trial {
-        Trial::Attended(guest, sessions, workers) => {
-            doors::is_attended(rt, desk, listener, guest, server_of(sessions, workers))
+        Trial::Attended(visit, sessions, workers) => {
+            doors::is_attended(rt, desk, listener, visit, server_of(sessions, workers))
         }
         Trial::Unserved(works) => is_unserved(rt, desk, listener, works),
         Trial::Threadless => is_threadless(rt, desk, listener),
@@ -344,27 +344,27 @@ where
     serve(rt, alloc, desk, listener, server, &OpenGate).err()
 }
 
-/// Whether a guest at a server of this grain is content, and all steps are accounted for at the end.
-fn is_content<R>(rt: &R, grain: u8, guest: Guest, sessions: u16, workers: u8) -> bool
+/// Whether who comes to a server of this grain is answered as they should be, and all steps are accounted for at the end.
+fn is_content<R>(rt: &R, grain: u8, visit: Visit, sessions: u16, workers: u8) -> bool
 where
     R: Net<Listener = TcpListener, Stream = TcpStream> + Host + Clock + CpuClock + Sync,
 {
-    is_well(rt, grain, Trial::Attended(guest, sessions, workers))
+    is_well(rt, grain, Trial::Attended(visit, sessions, workers))
 }
 
 #[test]
 fn two_at_once_are_served_as_each_alone(rt: HostRuntime) {
-    holds(&rt, is_content(&rt, 0, Guest::Both, 2, 2));
+    holds(&rt, is_content(&rt, 0, Visit::Both, 2, 2));
 }
 
 #[test]
 fn a_lost_connection_gives_all_back(rt: HostRuntime) {
-    holds(&rt, is_content(&rt, 0, Guest::Lost, 2, 2));
+    holds(&rt, is_content(&rt, 0, Visit::Lost, 2, 2));
 }
 
 #[test]
 fn sixty_four_are_told_of_their_own(rt: HostRuntime) {
-    holds(&rt, is_content(&rt, 0, Guest::Many, 64, 2));
+    holds(&rt, is_content(&rt, 0, Visit::Many, 64, 2));
 }
 
 /// Counts how often it is said that a server has begun.

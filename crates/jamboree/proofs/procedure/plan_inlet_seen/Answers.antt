@@ -5,4 +5,4 @@ use Rattle.jamboree.proofs.procedure.plan_inlet_seen.Goals as goal
 pub returns : goal.returns
 returns c =
     inlet-under c.args.own.now c.args.child.now _ _ (sym c.is_formed.ensures ∙ c.if-not-is_formed.false) c.view.ensures.frame
-    (c.plan_inlet_unchecked.ensures (entries_of c.args.own.now))
+    (c.plan_inlet_below.ensures (entries_of c.args.own.now))

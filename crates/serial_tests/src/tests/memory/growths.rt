@@ -92,14 +92,15 @@ pub fn are_refused(rt: &impl Abort, alloc: Global, what: Made, least: [u32; ALL]
     holds(rt, refused[1] >= least[1] && refused[2] >= least[2]);
 }
 
-/// A tenant's first places are five growths: the removed values, the slots, their keys, their serials, the
-/// ready frames. More places are six: the guesses too.
+/// Heaps grow by units of 16 bytes. A region and a stack have two blocks of 17 words (17 units), the guesses of 16 places 64 bytes (4
+/// units), and a book has more than 16 bytes for each of 64 accounts. A tenant's first places are five growths: the removed values, the
+/// slots, their keys, their serials, the ready frames. More places, here 100, are six: the guesses too.
 #[test]
 fn each_growth_is_refused_in_turn(rt: HostRuntime) {
     are_refused(&rt, rt.alloc(), Made::Region, [17, 0, 0]);
     are_refused(&rt, rt.alloc(), Made::Stack, [17, 0, 0]);
     are_refused(&rt, rt.alloc(), Made::Guesses, [4, 0, 0]);
-    are_refused(&rt, rt.alloc(), Made::Book, [17, 0, 0]);
+    are_refused(&rt, rt.alloc(), Made::Book, [64 + 1, 0, 0]);
     are_refused(&rt, rt.alloc(), Made::Table, [1, 5, 5]);
     are_refused(&rt, rt.alloc(), Made::MorePlaces, [1, 101, 0]);
 }

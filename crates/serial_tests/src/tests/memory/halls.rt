@@ -137,6 +137,10 @@ const PLACE: u32 = 8;
 
 const LONG_PLACE: u32 = 48;
 
+/// The places of a journal beside those for nodes, and those of long steps, as in hall/src/journal.rt.
+const BESIDE_NODES: u32 = 770;
+const LONGS_BESIDE_NODES: u32 = 513;
+
 /// What the hall shows of its first tenant and of its storage.
 fn look_at<A: Allocator>(hall: &Hall<A>) -> (Option<Left>, usize, u128, u64) {
     (
@@ -242,7 +246,7 @@ fn last_steps<A: Allocator + Copy>(
 /// of the core.
 #[test]
 fn each_growth_of_an_admission_is_refused(rt: HostRuntime) {
-    let journal = (16 + 770) * PLACE + (1 + 513) * LONG_PLACE;
+    let journal = (16 + BESIDE_NODES) * PLACE + (1 + LONGS_BESIDE_NODES) * LONG_PLACE;
     let least = [0, journal / UNIT + 1, 0];
     are_refused(&rt, rt.alloc(), Made::Admission, least);
 }
@@ -250,7 +254,7 @@ fn each_growth_of_an_admission_is_refused(rt: HostRuntime) {
 /// Each growth of a raise is refused in turn: those of the journal's two lists, and of the core's places.
 #[test]
 fn each_growth_of_a_raise_is_refused(rt: HostRuntime) {
-    let longs = (3 + 514) * LONG_PLACE;
+    let longs = (3 + LONGS_BESIDE_NODES + 1) * LONG_PLACE;
     are_refused(&rt, rt.alloc(), Made::Raise, [0, longs / UNIT + 1, 0]);
 }
 
@@ -266,7 +270,7 @@ fn bytes_of_a_raise<A: Allocator + Copy>(rt: &impl Abort, alloc: A, heap: &Local
 }
 
 /// A journal grows by just the places of the nodes that came, and isn't doubled: 16 places and a long one for a node,
-/// and one of each for the raise.
+/// and one of each for the raise. (Doubled, it would take more than 100,000 bytes.)
 #[test]
 fn one_node_more_takes_one_node(rt: HostRuntime) {
     let heap = heap_of(&rt, rt.alloc(), 1 << 23);

@@ -44,9 +44,10 @@ fn has_both(sight: &Sight<'_>) -> bool {
     }
 }
 
-/// The child's words are seen, and then the root's, which a write to the child leaves.
+/// Of four segments the root takes two and the child one. The child's words are seen, and then the root's, which a write to the child
+/// leaves.
 #[test]
-fn a_root_and_its_child_in_four_segments(rt: HostRuntime) -> Result<(), Fail> {
+fn a_child_sees_its_root(rt: HostRuntime) -> Result<(), Fail> {
     let mut stack = Stack::new(rt.alloc(), 4)?;
     let root = stack.open(None, &[1, 2], 20).expect(&rt, "four are free");
     let child = stack.open(Some(root), &[7], 16).expect(&rt, "two are free");
@@ -91,7 +92,7 @@ fn are_found(rt: &impl Abort, index: &TenantIndex, all: &[(u64, u32)])
     }
 }
 
-/// Before the guesses are made anew, and after.
+/// Tenants 7 and 263 share a guess, as they differ by 256: each is found before the guesses are made anew, and after.
 #[test]
 fn a_tenant_is_found_whatever_is_guessed(rt: HostRuntime) {
     let mut index = TenantIndex::new();

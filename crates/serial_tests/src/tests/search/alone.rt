@@ -30,6 +30,10 @@ fn solved<A: Allocator + Copy>(
     solve_by_core(alloc, position, depth, grain)
 }
 
+/// The nodes of that core, and the steps that it may take.
+const NODES: u32 = 65_536;
+const STEPS: u32 = 16 * NODES;
+
 /// Whether the search was done by its core.
 fn is_done(found: &Searched) -> bool {
     matches!(found.way, Way::Done)
@@ -61,8 +65,8 @@ fn has_grain(alloc: Global, grain: u8) -> Result<bool, AllocError>
 {
     let near = solved(alloc, &opening(), grain + 1, grain)?;
     let shared = solved(alloc, &opening(), grain + 2, grain)?;
-    let has_more = is_done(&shared) && shared.left.nodes < 65_531;
-    Ok(has_more && is_done_with(&near, 65_531, 1_048_544))
+    let has_more = is_done(&shared) && shared.left.nodes < NODES - 5;
+    Ok(has_more && is_done_with(&near, NODES - 5, STEPS - 32))
 }
 
 /// To one ply more than the grain each of the four moves, which are equal, is computed by itself: five nodes and 32
@@ -75,15 +79,15 @@ fn the_grain_is_the_one_that_is_asked(rt: HostRuntime) {
     }
 }
 
-/// Whether a core of 4,096 segments found the corner and its value, with so few nodes as it has at this grain.
+/// Whether a core of 4,096 segments found the corner and its value, in fewer than 5,536 nodes, and at grain 0 in more than 16.
 fn is_deep(found: &Searched, grain: u8) -> bool {
     let nodes = found.left.nodes;
     is_done(found)
         && found.answer.value == 52_000
         && matches!(found.answer.choice, Some(Choice::Square(0)))
         && found.left.segments == 4096
-        && nodes > 60_000
-        && (grain > 0 || nodes < 65_520)
+        && nodes > NODES - 5_536
+        && (grain > 0 || nodes < NODES - 16)
 }
 
 /// Whether such a core does the search of that position to this depth, at this grain.

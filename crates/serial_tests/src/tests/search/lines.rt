@@ -223,7 +223,7 @@ impl Sink for Hearing<'_> {
 /// Three lines.
 const THREE: [&[u8]; 3] = [b"one\n", b"two\n", b"six\n"];
 
-/// Whether all of three lines are answered, none too late.
+/// Whether all of three lines are answered, each before more is read.
 fn is_heard_to_its_end() -> bool {
     let ear = Ear::new();
     let mut source = Asking {

@@ -265,7 +265,7 @@ fn writes_whole<R: Wait>(rt: &R, alloc: Global, calls: usize) -> Result<bool, Al
     Ok(is_left(rt, source, narrow, fault, due.as_slice()))
 }
 
-/// Whether no answer of a session of ten lines comes too late.
+/// Whether each answer of a session of ten lines comes before more is read.
 fn is_answered_in_time<R: Wait>(rt: &R) -> bool {
     let ear = Ear::new();
     let mut office = Prepared::new(NOTHING_TO_PLAY);

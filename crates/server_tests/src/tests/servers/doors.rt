@@ -54,7 +54,7 @@ const MOST_DESCRIPTORS: usize = 1 << 21;
 
 /// Who comes to a server.
 #[derive(Clone, Copy)]
-pub(super) enum Guest {
+pub(super) enum Visit {
     /// Two: a job is answered and another is spent at once, line by line.
     Both,
     /// One whose connection is lost while its session waits; another one then gets what it had reserved.
@@ -73,12 +73,12 @@ pub(super) enum Guest {
     Crowd,
 }
 
-impl Guest {
+impl Visit {
     /// How many come to a server for so many sessions before it begins, and how many descriptors are taken up before, but two.
     fn before(self, sessions: u16) -> (u16, usize) {
         match self {
-            Guest::Both | Guest::Lost | Guest::Many => (sessions, 0),
-            Guest::Crowd => (3, MOST_DESCRIPTORS),
+            Visit::Both | Visit::Lost | Visit::Many => (sessions, 0),
+            Visit::Crowd => (3, MOST_DESCRIPTORS),
             _ => (0, 0),
         }
     }
@@ -86,7 +86,7 @@ impl Guest {
     /// How many are there before any computation of its server ends.
     fn at_once(self) -> u32 {
         match self {
-            Guest::Four => 4,
+            Visit::Four => 4,
             _ => 1,
         }
     }
@@ -281,32 +281,33 @@ fn are_turned_away<R: Net<Stream = TcpStream> + Clock + CpuClock + Abort>(
     is_one_served && is_fourth_served && is_refused(rt, address)
 }
 
-/// Whether a guest is content with a server at this address, to which these came before.
-fn is_guest_content<R: Net<Stream = TcpStream> + Clock + CpuClock + Abort>(
+/// Whether who comes to the server at this address is answered as they should be; these came before.
+fn is_visit_well<R: Net<Stream = TcpStream> + Clock + CpuClock + Abort>(
     rt: &R,
-    guest: Guest,
+    visit: Visit,
     address: SocketAddr,
     streams: Vec<TcpStream>,
     taken: Vec<TcpListener>,
 ) -> bool {
-    match guest {
-        Guest::Both => are_both_answered(&streams),
-        Guest::Lost => is_given_back(streams),
-        Guest::Many => are_told_of_their_own(&streams),
-        Guest::Told(rows) => is_visited(rt, address, rows),
-        Guest::Followed => is_followed(rt, address),
-        Guest::Silent => is_answered_beside(rt, address),
-        Guest::Four => is_visited(rt, address, &FOUR),
-        Guest::Crowd => are_turned_away(rt, address, streams, taken),
+    match visit {
+        Visit::Both => are_both_answered(&streams),
+        Visit::Lost => is_given_back(streams),
+        Visit::Many => are_told_of_their_own(&streams),
+        Visit::Told(rows) => is_visited(rt, address, rows),
+        Visit::Followed => is_followed(rt, address),
+        Visit::Silent => is_answered_beside(rt, address),
+        Visit::Four => is_visited(rt, address, &FOUR),
+        Visit::Crowd => are_turned_away(rt, address, streams, taken),
     }
 }
 
-/// Whether a guest at a server is content, so many as it asks for were there at once, and all steps are accounted for at the end.
+/// Whether who comes is answered as they should be, so many computations as that asks for were there at once, and all steps are accounted
+/// for at the end.
 pub(super) fn is_attended<L: DeskLedger + Send + Sync, R>(
     rt: &R,
     desk: Desk<L>,
     listener: TcpListener,
-    guest: Guest,
+    visit: Visit,
     server: ServerConfig,
 ) -> bool
 where
@@ -314,14 +315,14 @@ where
     requires { L.all ≡ L.parts }
 {
     let address = address_of(rt, &listener);
-    let (many, most) = guest.before(server.sessions.count);
+    let (many, most) = visit.before(server.sessions.count);
     let streams = visitors(rt, address, many);
     let taken = taken_up(rt, &listener, most);
-    let gate = Together::new(guest.at_once());
+    let gate = Together::new(visit.at_once());
     let there = &gate;
     let (content, served) = thread::join(
         rt,
-        move || is_guest_content(rt, guest, address, streams, taken),
+        move || is_visit_well(rt, visit, address, streams, taken),
         ||
             requires { L.all ≡ L.parts }
         { serve(rt, rt.alloc(), &desk, listener, server, there) },
@@ -332,25 +333,25 @@ where
 /// The listener is closed with the last connection, while its session lives.
 #[test]
 fn who_comes_too_late_is_refused(rt: HostRuntime) {
-    holds(&rt, is_content(&rt, 0, Guest::Followed, 1, 1));
+    holds(&rt, is_content(&rt, 0, Visit::Followed, 1, 1));
 }
 
 /// Who never reads its answers holds up nobody.
 #[test]
 fn a_silent_peer_holds_up_nobody(rt: HostRuntime) {
-    holds(&rt, is_content(&rt, 0, Guest::Silent, 2, 1));
+    holds(&rt, is_content(&rt, 0, Visit::Silent, 2, 1));
 }
 
 /// Four workers that were asked for run at once.
 #[test]
 fn as_many_workers_run_as_were_asked(rt: HostRuntime) {
-    holds(&rt, is_content(&rt, 0, Guest::Four, 1, 4));
+    holds(&rt, is_content(&rt, 0, Visit::Four, 1, 4));
 }
 
 /// Where all descriptors are used up, who comes is turned away and counts, and the sessions go on.
 #[test]
 fn descriptors_are_used_up(rt: HostRuntime) {
-    holds(&rt, is_content(&rt, 0, Guest::Crowd, 4, 1));
+    holds(&rt, is_content(&rt, 0, Visit::Crowd, 4, 1));
 }
 
 /// A runtime whose connections wait until the server has closed them, and note it.

@@ -1,6 +1,6 @@
 //! Tables of jobs, over TCP, and what jobs leave, at each grain and by one worker and by eight.
 
-use super::doors::Guest;
+use super::doors::Visit;
 use super::{ANSWERED, ASK_0, ASK_1, Host, LAST, MOVES, PASSES, Row, SPENT, is_content};
 use std::net::{Net, TcpListener, TcpStream};
 use std::time::{Clock, CpuClock};
@@ -40,7 +40,7 @@ where
     R: Net<Listener = TcpListener, Stream = TcpStream> + Host + Clock + CpuClock + Sync,
 {
     for (grain, workers) in grains {
-        let told = is_content(rt, *grain, Guest::Told(rows), 1, *workers);
+        let told = is_content(rt, *grain, Visit::Told(rows), 1, *workers);
         assert!(rt; told, "grain {grain}, {workers} workers");
     }
 }

@@ -91,7 +91,7 @@ where
 /// Each growth of a pool's start that can't be had: that of the deques, of the room for ends that come
 /// back, and of the room for threads. The desk is closed, the fault is 1, no thread was started, and nothing is said.
 #[test]
-fn no_memory(rt: HostRuntime) {
+fn a_pool_without_memory_does_not_begin(rt: HostRuntime) {
     let fault = PoolFault::OutOfMemory;
     let (mut deques, mut ends, mut threads) = (four(), four(), four());
     deques.room = usize::MAX;
@@ -106,7 +106,7 @@ fn no_memory(rt: HostRuntime) {
 /// The first, the second or the last of four threads has the greatest stack, which can't be had: the
 /// desk is closed, the fault is 2, those that were started have ended, nothing is left, and nothing is said.
 #[test]
-fn no_thread(rt: HostRuntime) {
+fn a_pool_without_a_thread_does_not_begin(rt: HostRuntime) {
     let fault = PoolFault::NoThread;
     for (from, ended) in [(1u8, 0usize), (2, 1), (4, 3)] {
         let mut sizes = four();
@@ -123,4 +123,15 @@ fn a_beginning_that_cannot_be_said(rt: HostRuntime) {
     let (fault, ended) = (BeginFault::Unsaid, 4);
     let found = tried(&rt, rt.alloc(), four(), false);
     holds(&rt, found == Some((NotRun { fault, ended }, 1)));
+}
+
+/// What a fault says.
+#[test]
+fn faults_of_a_pool_are_told(rt: HostRuntime) {
+    let alloc = rt.alloc();
+    holds(&rt, says(alloc, PoolFault::OutOfMemory, "out of memory"));
+    holds(&rt, says(alloc, PoolFault::NoThread, "no thread"));
+    let no_pool = BeginFault::Pool(PoolFault::NoThread);
+    holds(&rt, says(alloc, no_pool, "no pool"));
+    holds(&rt, says(alloc, BeginFault::Unsaid, "it could not be said"));
 }

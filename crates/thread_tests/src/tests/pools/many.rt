@@ -21,7 +21,7 @@ const JOBS: u64 = 256;
 /// The words that a computation writes on its worker's stack: half a megabyte.
 const WORDS: usize = 65_536;
 
-/// Once it is said that all are to come, each computation stays until as many workers are in one, within a limit.
+/// Once it is said that all are to come, each computation stays until as many as there are workers have begun, within a limit.
 #[derive(Drop)]
 struct AllCome {
     is_said: AtomicBool,
@@ -36,8 +36,8 @@ fn written(number: u64) -> u64 {
     for (place, word) in words.iter_mut().enumerate() {
         *word = word.wrapping_mul(31).wrapping_add(place as u64);
     }
-    let place = (number % 65_536) as usize;
-    words[place].wrapping_add(words[65_535 - place])
+    let place = (number % WORDS as u64) as usize;
+    words[place].wrapping_add(words[WORDS - 1 - place])
 }
 
 impl Gate for AllCome {
@@ -96,15 +96,4 @@ fn all_workers_go_on_after_many_jobs(rt: HostRuntime) {
     let table = Table::of(&scenario, &gate, WORKERS, 0, 512);
     holds(&rt, play(&rt, rt.alloc(), &table).is_some());
     holds_that(&rt, !is_set(&gate.late), "no worker is lost");
-}
-
-/// What a fault says.
-#[test]
-fn faults_of_a_pool_are_told(rt: HostRuntime) {
-    let alloc = rt.alloc();
-    holds(&rt, says(alloc, PoolFault::OutOfMemory, "out of memory"));
-    holds(&rt, says(alloc, PoolFault::NoThread, "no thread"));
-    let no_pool = BeginFault::Pool(PoolFault::NoThread);
-    holds(&rt, says(alloc, no_pool, "no pool"));
-    holds(&rt, says(alloc, BeginFault::Unsaid, "it could not be said"));
 }

@@ -25,7 +25,7 @@ struct HoldingGate {
 }
 
 /// A gate whose computation of this number is let go on by a later one, or else by the scenario.
-fn is_held(number: u64, by_later: bool) -> HoldingGate {
+fn gate_holding(number: u64, by_later: bool) -> HoldingGate {
     HoldingGate {
         number,
         by_later,
@@ -65,7 +65,7 @@ impl Scenario for TwoJobs {
     }
 }
 
-/// Whether a scenario is content with so many workers, where this computation goes on only once the next was begun.
+/// Whether a scenario is as it should be with so many workers, where this computation goes on only once the next was begun.
 fn overlaps<S: Scenario, R: Threads + Wait + Sync>(
     rt: &R,
     alloc: Global,
@@ -73,13 +73,13 @@ fn overlaps<S: Scenario, R: Threads + Wait + Sync>(
     number: u64,
     workers: u8,
 ) -> bool {
-    let gate = is_held(number, true);
+    let gate = gate_holding(number, true);
     let is_well = play(rt, alloc, &Table::of(scenario, &gate, workers, 0, 16)).is_some();
     is_well && !is_set(&gate.late)
 }
 
-/// Whether it is with two workers and with eight.
-fn overlap<S: Scenario, R: Threads + Wait + Sync>(
+/// Whether it does with two workers, and with eight.
+fn overlaps_with_two_and_eight<S: Scenario, R: Threads + Wait + Sync>(
     rt: &R,
     alloc: Global,
     scenario: &S,
@@ -91,7 +91,7 @@ fn overlap<S: Scenario, R: Threads + Wait + Sync>(
 /// The first computation of a pool goes on only once the second was begun.
 #[test]
 fn two_computations_overlap(rt: HostRuntime) {
-    holds(&rt, overlap(&rt, rt.alloc(), &TwoJobs, 1));
+    holds(&rt, overlaps_with_two_and_eight(&rt, rt.alloc(), &TwoJobs, 1));
 }
 
 /// One job of depth 1, asked once all workers have had time to fall asleep.
@@ -114,7 +114,7 @@ impl<C: Clock> Scenario for OneJob<'_, C> {
 /// computation waits, another worker begins the third.
 #[test]
 fn a_ready_frame_wakes_a_worker(rt: HostRuntime) {
-    holds(&rt, overlap(&rt, rt.alloc(), &OneJob { clock: &rt }, 2));
+    holds(&rt, overlaps_with_two_and_eight(&rt, rt.alloc(), &OneJob { clock: &rt }, 2));
 }
 
 /// A first seat's job is computed when the seat leaves, or cancels it; a second seat's job ends all the
@@ -160,7 +160,7 @@ fn goes_on<L: DeskLedger, R: Wait>(at: &At<'_, L, R>, gate: &HoldingGate, seat: 
 
 /// The share of the joined badge where the first seat leaves, or cancels its job.
 fn share_of<R: Threads + Wait + Sync>(rt: &R, alloc: Global, leaves: bool) -> Option<u128> {
-    let gate = is_held(1, false);
+    let gate = gate_holding(1, false);
     let late = Late {
         gate: &gate,
         leaves,

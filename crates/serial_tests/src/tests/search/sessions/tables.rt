@@ -47,7 +47,7 @@ fn longest() -> Standing {
     Standing::Done(Analysis { best, bounds })
 }
 
-/// What is written of it as the job of the greatest number.
+/// The answer to TABLE for it, as the job of the greatest number that a line can name.
 fn longest_text(alloc: Global) -> Result<Vec<u8>, AllocError> {
     let entries = joined(alloc, [b" pass<-2147483648".as_slice(); 64].as_slice())?;
     let title = b"TABLE 99999999".as_slice();

@@ -5,11 +5,11 @@ use crate::tests::servers::{ASK_3, ASK_7, LAST, are_told};
 use std::fs::Files;
 use std::net::{Net, TcpListener, TcpStream};
 
-/// A grain, the line of a job, and how that ends. The opening to depth 3: a root and its four children, of which each is searched once
-/// more at most, are eight nodes; where children have children of their own they are many more.
-type Grain = (&'static str, &'static str, &'static str);
+/// A grain, the line of a job, and how that ends. To depth 3 from grain 2 on the opening is a root, its first child, and three more that
+/// are tested and searched again at most: eight nodes. Where children have children of their own they are many more.
+type Case = (&'static str, &'static str, &'static str);
 
-const GRAINS: [Grain; 7] = [
+const CASES: [Case; 7] = [
     ("0", ASK_3, "SPENT 1\n"),
     ("1", ASK_3, "SPENT 1\n"),
     ("2", ASK_3, "DONE 1 9 d3\n"),
@@ -34,7 +34,7 @@ pub(super) fn is_served<R: Net<Stream = TcpStream> + Host>(
     }
 }
 
-/// The words for a server of eight nodes, at grain 0.
+/// The words for a server of eight nodes, the last of which is its grain.
 const WORDS: [&str; 10] = [
     "othello",
     "serve",
@@ -49,21 +49,21 @@ const WORDS: [&str; 10] = [
 ];
 
 /// Whether a server of eight nodes has the grain that it is asked for.
-fn has_grain<R>(rt: &R, grain: &Grain) -> bool
+fn has_grain<R>(rt: &R, case: &Case) -> bool
 where
     R: Net<Listener = TcpListener, Stream = TcpStream> + Host + Files + Sync,
 {
-    let (grain, ask, end) = *grain;
+    let (grain, ask, end) = *case;
     let mut words = WORDS;
-    words[9] = grain;
+    words[WORDS.len() - 1] = grain;
     let asker = Caller::Asker(ask, end);
     is_called(rt, words.as_slice(), asker, b"\nended 1\n")
 }
 
-/// At each grain eight nodes suffice for a root one ply deeper, and not for one beyond.
+/// Eight nodes suffice for depth 3 from grain 2 on, and for depth 7 at grain 6, but not at the lower grains that are tried.
 #[test]
 fn a_server_has_the_grain_that_is_asked(rt: HostRuntime) {
-    for grain in &GRAINS {
-        assert!(rt; has_grain(&rt, grain), "{grain:?}");
+    for case in &CASES {
+        assert!(rt; has_grain(&rt, case), "{case:?}");
     }
 }

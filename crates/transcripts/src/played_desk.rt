@@ -26,7 +26,7 @@ pub const GOES_ON: &[u8] = b"HELLO 1 1\n";
 pub const WENT_ON: &[u8] = b"WELCOME 1 1\n";
 
 /// A session.
-pub struct Guest<'t, 'a, L: DeskLedger, R: Wait, A: Allocator + Clone> {
+pub struct PlayedSession<'t, 'a, L: DeskLedger, R: Wait, A: Allocator + Clone> {
     /// The name that its rows bear.
     pub name: &'t str,
     office: DeskOffice<'a, L, R, A>,
@@ -34,9 +34,9 @@ pub struct Guest<'t, 'a, L: DeskLedger, R: Wait, A: Allocator + Clone> {
     tenant: Option<u64>,
 }
 
-impl<L: DeskLedger, R: Wait, A: Allocator + Clone> Drop for Guest<'_, '_, L, R, A> {
+impl<L: DeskLedger, R: Wait, A: Allocator + Clone> Drop for PlayedSession<'_, '_, L, R, A> {
     fn drop(self) {
-        let Guest {
+        let PlayedSession {
             name: _name,
             office,
             tenant: _tenant,
@@ -45,10 +45,10 @@ impl<L: DeskLedger, R: Wait, A: Allocator + Clone> Drop for Guest<'_, '_, L, R, 
     }
 }
 
-impl<'t, 'a, L: DeskLedger, R: Wait, A: Allocator + Clone> Guest<'t, 'a, L, R, A> {
+impl<'t, 'a, L: DeskLedger, R: Wait, A: Allocator + Clone> PlayedSession<'t, 'a, L, R, A> {
     /// A session without a tenant.
-    pub fn new(name: &'t str, rt: &'a R, desk: &'a Desk<L, A>) -> Guest<'t, 'a, L, R, A> {
-        Guest {
+    pub fn new(name: &'t str, rt: &'a R, desk: &'a Desk<L, A>) -> PlayedSession<'t, 'a, L, R, A> {
+        PlayedSession {
             name,
             office: DeskOffice::new(rt, desk),
             tenant: None,
@@ -63,7 +63,7 @@ impl<'t, 'a, L: DeskLedger, R: Wait, A: Allocator + Clone> Guest<'t, 'a, L, R, A
 
 /// A desk with its worker, and the sessions at it so far. It is the office of the part of a session that is served: it passes each
 /// call on to the tenant's office at the desk, and at `wait` the worker runs all jobs first.
-pub struct House<'t, 'a, L: DeskLedger, R: Wait, A: Allocator + Clone> {
+pub struct PlayedDesk<'t, 'a, L: DeskLedger, R: Wait, A: Allocator + Clone> {
     pub rt: &'a R,
     pub alloc: Global,
     pub desk: &'a Desk<L, A>,
@@ -72,7 +72,7 @@ pub struct House<'t, 'a, L: DeskLedger, R: Wait, A: Allocator + Clone> {
     /// The most bytes that a session's reader gives at once.
     pieces: usize,
     /// The sessions.
-    pub guests: Vec<Guest<'t, 'a, L, R, A>>,
+    pub sessions: Vec<PlayedSession<'t, 'a, L, R, A>>,
     /// The place of the session that is served.
     at: usize,
     /// Whether its next HELLO is the player's own.
@@ -81,15 +81,15 @@ pub struct House<'t, 'a, L: DeskLedger, R: Wait, A: Allocator + Clone> {
     stays: bool,
 }
 
-impl<L: DeskLedger, R: Wait, A: Allocator + Clone> Drop for House<'_, '_, L, R, A> {
+impl<L: DeskLedger, R: Wait, A: Allocator + Clone> Drop for PlayedDesk<'_, '_, L, R, A> {
     fn drop(self) {
-        let House {
+        let PlayedDesk {
             rt: _rt,
             alloc: _alloc,
             desk: _desk,
             crew: _crew,
             pieces: _pieces,
-            guests: _guests,
+            sessions: _guests,
             at: _at,
             resumes: _resumes,
             stays: _stays,
@@ -97,7 +97,7 @@ impl<L: DeskLedger, R: Wait, A: Allocator + Clone> Drop for House<'_, '_, L, R, 
     }
 }
 
-impl<'t, 'a, L: DeskLedger, R: Wait, A: Allocator + Clone> House<'t, 'a, L, R, A> {
+impl<'t, 'a, L: DeskLedger, R: Wait, A: Allocator + Clone> PlayedDesk<'t, 'a, L, R, A> {
     /// No session yet at this desk, whose worker this is.
     pub fn new(
         rt: &'a R,
@@ -105,14 +105,14 @@ impl<'t, 'a, L: DeskLedger, R: Wait, A: Allocator + Clone> House<'t, 'a, L, R, A
         desk: &'a Desk<L, A>,
         crew: Crew<'a, L, R, A>,
         pieces: usize,
-    ) -> House<'t, 'a, L, R, A> {
-        House {
+    ) -> PlayedDesk<'t, 'a, L, R, A> {
+        PlayedDesk {
             rt,
             alloc,
             desk,
             crew,
             pieces,
-            guests: Vec::new(alloc),
+            sessions: Vec::new(alloc),
             at: 0,
             resumes: false,
             stays: false,
@@ -143,8 +143,8 @@ impl<'t, 'a, L: DeskLedger, R: Wait, A: Allocator + Clone> House<'t, 'a, L, R, A
 
     /// Whether the tenant of the session at this place is there.
     pub fn is_seated(&self, at: usize) -> bool {
-        match self.guests.get(at) {
-            Some(guest) => guest.is_seated(),
+        match self.sessions.get(at) {
+            Some(session) => session.is_seated(),
             None => false,
         }
     }
@@ -152,8 +152,8 @@ impl<'t, 'a, L: DeskLedger, R: Wait, A: Allocator + Clone> House<'t, 'a, L, R, A
     /// The place of the session of this name; None where there was none.
     pub fn find(&self, name: &str) -> Option<usize> {
         let mut at = 0usize;
-        for guest in self.guests.iter() {
-            if guest.name == name {
+        for session in self.sessions.iter() {
+            if session.name == name {
                 return Some(at);
             }
             at = at.saturating_add(1);
@@ -162,19 +162,19 @@ impl<'t, 'a, L: DeskLedger, R: Wait, A: Allocator + Clone> House<'t, 'a, L, R, A
     }
 
     /// The session that is served.
-    fn served(&mut self) -> Option<&mut Guest<'t, 'a, L, R, A>> {
-        self.guests.get_mut(self.at)
+    fn served(&mut self) -> Option<&mut PlayedSession<'t, 'a, L, R, A>> {
+        self.sessions.get_mut(self.at)
     }
 
     /// The session that is served has a tenant of this number now, or none.
     fn seat(&mut self, tenant: Option<u64>) {
-        if let Some(guest) = self.served() {
-            guest.tenant = tenant;
+        if let Some(session) = self.served() {
+            session.tenant = tenant;
         }
     }
 }
 
-impl<L: DeskLedger, R: Wait, A: Allocator + Clone> Office for House<'_, '_, L, R, A> {
+impl<L: DeskLedger, R: Wait, A: Allocator + Clone> Office for PlayedDesk<'_, '_, L, R, A> {
     ghost does = { λ _ _ _ _. Unit {0} };
 
     ghost ready = { L.all == L.parts };
@@ -185,7 +185,7 @@ impl<L: DeskLedger, R: Wait, A: Allocator + Clone> Office for House<'_, '_, L, R
             return Ok(());
         }
         match self.served() {
-            Some(guest) => guest.office.hello(reserve)?,
+            Some(session) => session.office.hello(reserve)?,
             None => return Err(Refusal::NoTenant),
         }
         let tenant = self.crew.admitted();
@@ -195,14 +195,14 @@ impl<L: DeskLedger, R: Wait, A: Allocator + Clone> Office for House<'_, '_, L, R
 
     fn reserve(&mut self, reserve: Reserve) -> Result<(), Refusal> {
         match self.served() {
-            Some(guest) => guest.office.reserve(reserve),
+            Some(session) => session.office.reserve(reserve),
             None => Err(Refusal::NoTenant),
         }
     }
 
     fn ask(&mut self, question: &Question) -> Result<u64, Refusal> {
         let (job, tenant) = match self.served() {
-            Some(guest) => (guest.office.ask(question)?, guest.tenant),
+            Some(session) => (session.office.ask(question)?, session.tenant),
             None => return Err(Refusal::NoTenant),
         };
         if let Some(tenant) = tenant {
@@ -213,7 +213,7 @@ impl<L: DeskLedger, R: Wait, A: Allocator + Clone> Office for House<'_, '_, L, R
 
     fn get(&mut self, job: u64) -> Result<Standing, Refusal> {
         match self.served() {
-            Some(guest) => guest.office.get(job),
+            Some(session) => session.office.get(job),
             None => Err(Refusal::NoJob),
         }
     }
@@ -225,28 +225,28 @@ impl<L: DeskLedger, R: Wait, A: Allocator + Clone> Office for House<'_, '_, L, R
         }
         let is_closed = self.crew.is_closed;
         match self.served() {
-            Some(guest) => wait_at(guest, job, is_closed),
+            Some(session) => wait_at(session, job, is_closed),
             None => Err(Refusal::NoJob),
         }
     }
 
     fn cancel(&mut self, job: u64) -> Result<(), Refusal> {
         match self.served() {
-            Some(guest) => guest.office.cancel(job),
+            Some(session) => session.office.cancel(job),
             None => Err(Refusal::NoJob),
         }
     }
 
     fn quota(&mut self) -> Result<Left, Refusal> {
         match self.served() {
-            Some(guest) => guest.office.quota(),
+            Some(session) => session.office.quota(),
             None => Err(Refusal::NoTenant),
         }
     }
 
     fn live(&mut self) -> Result<Live, Refusal> {
         match self.served() {
-            Some(guest) => guest.office.live(),
+            Some(session) => session.office.live(),
             None => Err(Refusal::NoTenant),
         }
     }
@@ -255,8 +255,8 @@ impl<L: DeskLedger, R: Wait, A: Allocator + Clone> Office for House<'_, '_, L, R
         if self.stays {
             return;
         }
-        if let Some(guest) = self.served() {
-            guest.office.leave();
+        if let Some(session) = self.served() {
+            session.office.leave();
         }
         self.seat(None);
     }
@@ -264,13 +264,13 @@ impl<L: DeskLedger, R: Wait, A: Allocator + Clone> Office for House<'_, '_, L, R
 
 /// Waits for a job, but not where it is pending at a desk that is open.
 fn wait_at<L: DeskLedger, R: Wait, A: Allocator + Clone>(
-    guest: &mut Guest<'_, '_, L, R, A>,
+    session: &mut PlayedSession<'_, '_, L, R, A>,
     job: u64,
     is_closed: bool,
 ) -> Result<Standing, Refusal> {
-    let standing = guest.office.get(job);
+    let standing = session.office.get(job);
     if !is_closed && standing == Ok(Standing::Pending) {
         return standing;
     }
-    guest.office.wait(job)
+    session.office.wait(job)
 }
