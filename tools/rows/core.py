@@ -8,19 +8,20 @@ NAMES = {
     9: "NotReturned", 10: "NoSegments", 11: "NoNodes", 12: "NoSteps", 13: "NoJobsLeft", 14: "Full", 15: "BadAct",
     16: "NotSpent", 17: "NoJob", 18: "OldTenant", 20: "Lower",
 }
+NUMBERS = {name: number for number, name in NAMES.items()}
 LAST_TENANT = 1 << 62
 
 
 class Refused(Exception):
     @property
-    def number(self):
+    def name(self):
         return self.args[0]
 
 
-def unless(holds, number):
+def refuse_if(fails, name):
     """A test of a step."""
-    if holds:
-        raise Refused(number)
+    if fails:
+        raise Refused(name)
 
 
 def charge(size):
@@ -100,7 +101,7 @@ class Core:
         try:
             return getattr(self, "do_" + step[0])(*step[1:])
         except Refused as refused:
-            return ("Err", refused.number)
+            return ("Err", NUMBERS[refused.name])
 
     def is_room(self, segments, nodes, without=None):
         others = [each for number, each in self.tenants.items() if number != without]
@@ -108,44 +109,44 @@ class Core:
                 and sum(each.nodes for each in others) + nodes <= self.nodes)
 
     def tenant(self, number):
-        unless(number not in self.tenants, 1)
+        refuse_if(number not in self.tenants, "NoTenant")
         return self.tenants[number]
 
     def frame(self, name):
         tenant = self.tenant(name[0])
-        unless(name[1] not in tenant.frames, 2)
+        refuse_if(name[1] not in tenant.frames, "NoFrame")
         return tenant, tenant.frames[name[1]]
 
     def do_Admit(self, number, segments, nodes):
-        unless(number == 0 or number <= self.newest or number > LAST_TENANT, 18)
-        unless(len(self.tenants) >= 64 or not self.is_room(segments, nodes), 14)
+        refuse_if(number == 0 or number <= self.newest or number > LAST_TENANT, "OldTenant")
+        refuse_if(len(self.tenants) >= 64 or not self.is_room(segments, nodes), "Full")
         self.tenants[number], self.newest = Tenant(segments, nodes), number
         return ("Admitted",)
 
     def do_AdmitMore(self, number, segments, nodes):
         tenant = self.tenant(number)
-        unless(segments < tenant.segments or nodes < tenant.nodes, 20)
-        unless(segments == tenant.segments and nodes == tenant.nodes, 20)
-        unless(not self.is_room(segments, nodes, number), 14)
+        refuse_if(segments < tenant.segments or nodes < tenant.nodes, "Lower")
+        refuse_if(segments == tenant.segments and nodes == tenant.nodes, "Lower")
+        refuse_if(not self.is_room(segments, nodes, number), "Full")
         tenant.segments, tenant.nodes = segments, nodes
         return ("AdmittedMore",)
 
     def do_Submit(self, number, size, *words):
         tenant = self.tenant(number)
-        unless(not 1 <= size <= 128 or len(words) > size, 15)
-        unless(len(tenant.jobs) >= 256, 13)
-        unless(tenant.left()[1] < 1, 11)
-        unless(tenant.left()[0] < charge(size), 10)
+        refuse_if(not 1 <= size <= 128 or len(words) > size, "BadAct")
+        refuse_if(len(tenant.jobs) >= 256, "NoJobsLeft")
+        refuse_if(tenant.left()[1] < 1, "NoNodes")
+        refuse_if(tenant.left()[0] < charge(size), "NoSegments")
         root = tenant.open((), words, size, ("Ready", 0))
         tenant.jobs.append(("live", root))
         return ("Submitted", len(tenant.jobs), (number, root))
 
     def get(self, worker, is_here, name):
         tenant, frame = self.frame(name)
-        unless(frame.state[0] != "Ready", 3)
-        unless(not is_here(frame.state[1]), 4)
-        unless(tenant.left()[2] < 1, 12)
-        unless(self.is_busy(worker), 5)
+        refuse_if(frame.state[0] != "Ready", "NotReady")
+        refuse_if(not is_here(frame.state[1]), "NotHere")
+        refuse_if(tenant.left()[2] < 1, "NoSteps")
+        refuse_if(self.is_busy(worker), "Busy")
         frame.state = ("Running", worker)
         tenant.steps += 1
         return ("Took",)
@@ -164,7 +165,7 @@ class Core:
     def stored(self, words, stores):
         words = list(words)
         for place, word in stores:
-            unless(place >= len(words), 15)
+            refuse_if(place >= len(words), "BadAct")
             words[place] = word
         return words
 
@@ -175,19 +176,19 @@ class Core:
         has_child = bool(tenant.children(name[1]))
         segments, nodes, _ = tenant.left()
         if then[0] == "Grow":
-            unless(then[1] == 0 or len(words) + then[1] > 128, 15)
-            unless(charge(len(words) + then[1]) - charge(len(words)) > segments, 10)
+            refuse_if(then[1] == 0 or len(words) + then[1] > 128, "BadAct")
+            refuse_if(charge(len(words) + then[1]) - charge(len(words)) > segments, "NoSegments")
         if then[0] == "Spawn":
-            unless(not 1 <= then[2] <= 128 or len(then[1]) > then[2], 15)
-            unless(nodes < 1, 11)
-            unless(charge(then[2]) > segments, 10)
-        unless(then[0] == "Compute" and has_child, 15)
+            refuse_if(not 1 <= then[2] <= 128 or len(then[1]) > then[2], "BadAct")
+            refuse_if(nodes < 1, "NoNodes")
+            refuse_if(charge(then[2]) > segments, "NoSegments")
+        refuse_if(then[0] == "Compute" and has_child, "BadAct")
         return words, then, has_child
 
     def do_Advance(self, worker, name):
         tenant, frame = self.frame(name)
-        unless(frame.state != ("Running", worker), 6)
-        unless(tenant.left()[2] < 1, 12)
+        refuse_if(frame.state != ("Running", worker), "NotRunning")
+        refuse_if(tenant.left()[2] < 1, "NoSteps")
         frame.words, then, has_child = self.planned(tenant, frame, name)
         tenant.steps += 1
         return self.act(tenant, frame, worker, name, then, has_child)
@@ -211,9 +212,9 @@ class Core:
 
     def do_Answer(self, worker, name, answer):
         tenant, frame = self.frame(name)
-        unless(frame.state != ("Computing", worker), 7)
-        unless(self.procedure.asked(answer) != self.procedure.input(frame.words), 8)
-        unless(tenant.left()[2] < 1, 12)
+        refuse_if(frame.state != ("Computing", worker), "NotComputing")
+        refuse_if(self.procedure.asked(answer) != self.procedure.input(frame.words), "Mismatch")
+        refuse_if(tenant.left()[2] < 1, "NoSteps")
         frame.words = self.stored(frame.words, self.procedure.accept(frame.words, answer))
         frame.state = ("Running", worker)
         tenant.steps += 1
@@ -227,10 +228,10 @@ class Core:
 
     def do_Inlet(self, worker, name):
         tenant, frame = self.frame(name)
-        unless(frame.state != ("Returned",) or len(frame.path) == 1, 9)
-        unless(tenant.left()[2] < 1, 12)
+        refuse_if(frame.state != ("Returned",) or len(frame.path) == 1, "NotReturned")
+        refuse_if(tenant.left()[2] < 1, "NoSteps")
         words, abort, wake = self.taken_in(tenant, frame)
-        unless(self.is_busy(worker), 5)
+        refuse_if(self.is_busy(worker), "Busy")
         above = frame.path[-2]
         parent = tenant.frames[above]
         parent.words = words
@@ -246,9 +247,9 @@ class Core:
 
     def do_Finish(self, worker, name):
         tenant, frame = self.frame(name)
-        unless(frame.state != ("Returned",) or len(frame.path) > 1, 9)
-        unless(tenant.left()[2] < 1, 12)
-        unless(self.is_busy(worker), 5)
+        refuse_if(frame.state != ("Returned",) or len(frame.path) > 1, "NotReturned")
+        refuse_if(tenant.left()[2] < 1, "NoSteps")
+        refuse_if(self.is_busy(worker), "Busy")
         job = tenant.job_of(name[1])
         tenant.steps += 1
         tenant.end(job, ("done", frame.words[:76]))
@@ -263,19 +264,19 @@ class Core:
             elif frame.state == ("Returned",) and len(frame.path) > 1:
                 self.taken_in(tenant, frame)
         except Refused as refused:
-            return refused.number in (10, 11, 15)
+            return refused.name in ("NoSegments", "NoNodes", "BadAct")
         return False
 
     def do_Spend(self, name):
         tenant, frame = self.frame(name)
-        unless(not self.is_spendable(tenant, frame, name), 16)
+        refuse_if(not self.is_spendable(tenant, frame, name), "NotSpent")
         job = tenant.job_of(name[1])
         tenant.end(job, ("spent",))
         return ("Spent", job)
 
     def do_Cancel(self, number, job):
         tenant = self.tenant(number)
-        unless(not 1 <= job <= len(tenant.jobs) or tenant.jobs[job - 1][0] != "live", 17)
+        refuse_if(not 1 <= job <= len(tenant.jobs) or tenant.jobs[job - 1][0] != "live", "NoJob")
         tenant.end(job, ("cancelled",))
         return ("Cancelled",)
 

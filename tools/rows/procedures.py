@@ -94,6 +94,18 @@ class Reader(Numbered):
         return [(2, answer[0])]
 
 
+# the words of a frame of Jamboree, by their places; the entries of its choices stand behind them
+OWN, OPP, DEPTH, ALPHA, BETA, ROLE, NUMBER, PHASE, BEST, CHOICE, COUNT, SPAWNED = range(12)
+ENTRIES = 12
+NEW, COMPUTING, FIRST, TESTS, DONE = range(5)  # phases
+ROOT, FIRST_CHILD, TEST, AGAIN = range(4)  # roles
+RUNS, SETTLED, FAILED, RUNS_AGAIN = range(1, 5)  # how a choice stands that was spawned
+LOW, HIGH, EXACT = 1, 2, 3  # kinds of bounds
+NO_CHOICE = 65
+ZERO = 1000000  # the word of score 0
+LEAST, GREATEST = ZERO - 200000, ZERO + 200000
+
+
 class Jamboree:
     """By the table of a frame's words. A child of a depth up to the grain is computed. Where a leaf's score lies outside its
     window nothing says which choice comes with it, so no list looks at such a frame."""
@@ -104,97 +116,100 @@ class Jamboree:
 
     @staticmethod
     def window(words):
-        return words[3] - 1000000, words[4] - 1000000
+        return words[ALPHA] - ZERO, words[BETA] - ZERO
 
     @staticmethod
     def choices(words):
-        return othello.choices(othello.board_of(words[0], words[1]), "X")
+        return othello.choices(othello.board_of(words[OWN], words[OPP]), "X")
 
     def board(self, sight):
         """The words of the board of a new frame."""
-        if sight[0][5] == 0:
-            return sight[0][0], sight[0][1]
-        above = othello.board_of(sight[1][0], sight[1][1])
-        board = othello.after(above, "X", othello.choices(above, "X")[sight[0][6]])
+        words = sight[0]
+        if words[ROLE] == ROOT:
+            return words[OWN], words[OPP]
+        above = othello.board_of(sight[1][OWN], sight[1][OPP])
+        board = othello.after(above, "X", othello.choices(above, "X")[words[NUMBER]])
         return othello.bits(board, "O")
 
     def depth_below(self, words, number):
-        return words[2] - othello.plies(self.choices(words)[number])
+        return words[DEPTH] - othello.plies(self.choices(words)[number])
 
     def next(self, sight):
-        words = sight[0]
-        return {0: self.begin, 1: lambda sight: ([], ("Compute",)), 2: self.first, 3: self.tests,
-                4: lambda sight: ([], ("Return",))}[words[7]](sight)
+        return {NEW: self.begin, COMPUTING: lambda sight: ([], ("Compute",)), FIRST: self.first, TESTS: self.tests,
+                DONE: lambda sight: ([], ("Return",))}[sight[0][PHASE]](sight)
 
     def begin(self, sight):
         own, opp = self.board(sight)
         count = len(othello.choices(othello.board_of(own, opp), "X"))
-        least = 0 if sight[0][5] == 0 else self.grain
-        if sight[0][2] <= least or count == 0:
-            return [(0, own), (1, opp), (7, 1)], ("Compute",)
-        return [(0, own), (1, opp), (7, 2), (8, 800000), (9, 65), (10, count), (11, 0)], ("Grow", count)
+        least = 0 if sight[0][ROLE] == ROOT else self.grain
+        if sight[0][DEPTH] <= least or count == 0:
+            return [(OWN, own), (OPP, opp), (PHASE, COMPUTING)], ("Compute",)
+        stores = [(OWN, own), (OPP, opp), (PHASE, FIRST), (BEST, LEAST), (CHOICE, NO_CHOICE), (COUNT, count), (SPAWNED, 0)]
+        return stores, ("Grow", count)
 
     def child(self, words, number, alpha, beta, role):
         """A child's first words, by its window seen from its parent."""
-        return ("Spawn", [0, 0, self.depth_below(words, number), 1000000 - beta, 1000000 - alpha, role, number, 0], 12)
+        return ("Spawn", [0, 0, self.depth_below(words, number), ZERO - beta, ZERO - alpha, role, number, NEW], ENTRIES)
 
     def first(self, sight):
         words = sight[0]
-        if words[11] > 0:
+        if words[SPAWNED] > 0:
             return [], ("Wait",)
         alpha, beta = self.window(words)
-        return [(11, 1), (12, with_status(words[12], 1))], self.child(words, 0, alpha, beta, 1)
+        return [(SPAWNED, 1), (ENTRIES, with_status(words[ENTRIES], RUNS))], self.child(words, 0, alpha, beta, FIRST_CHILD)
 
     def tests(self, sight):
         words = sight[0]
         alpha, beta = self.window(words)
-        alpha = max(alpha, words[8] - 1000000)
-        count = words[10]
-        statuses = [word % 8 for word in words[12:12 + count]]
+        alpha = max(alpha, words[BEST] - ZERO)
+        count = words[COUNT]
+        statuses = [word % 8 for word in words[ENTRIES:ENTRIES + count]]
         for number in range(count):
-            if statuses[number] == 3 and all(status == 2 for status in statuses[:number]):
-                return [(12 + number, with_status(words[12 + number], 4))], self.child(words, number, alpha, beta, 3)
-        number = words[11]
+            if statuses[number] == FAILED and all(status == SETTLED for status in statuses[:number]):
+                stores = [(ENTRIES + number, with_status(words[ENTRIES + number], RUNS_AGAIN))]
+                return stores, self.child(words, number, alpha, beta, AGAIN)
+        number = words[SPAWNED]
         if number < count:
-            stores = [(11, number + 1), (12 + number, with_status(words[12 + number], 1))]
-            return stores, self.child(words, number, alpha, alpha + 1, 2)
-        if all(status == 2 for status in statuses):
-            return [(7, 4)], ("Return",)
+            stores = [(SPAWNED, number + 1), (ENTRIES + number, with_status(words[ENTRIES + number], RUNS))]
+            return stores, self.child(words, number, alpha, alpha + 1, TEST)
+        if all(status == SETTLED for status in statuses):
+            return [(PHASE, DONE)], ("Return",)
         return [], ("Wait",)
 
     def inlet(self, own, child):
-        score = 1000000 - child[8]
-        number, role = child[6], child[5]
-        tried = 1000000 - child[4]
+        score = ZERO - child[BEST]
+        number, role = child[NUMBER], child[ROLE]
+        tried = ZERO - child[BETA]
         alpha, beta = self.window(own)
-        best = own[8] - 1000000
+        best = own[BEST] - ZERO
         low = max(alpha, best)
-        upper = 1000000 - child[3]
-        kind = 1 if score <= tried else 2 if score >= upper else 3
+        upper = ZERO - child[ALPHA]
+        kind = LOW if score <= tried else HIGH if score >= upper else EXACT
         code = self.choices(own)[number]
-        entry = lambda status: (12 + number, status + 8 * kind + 32 * (score + 1000000))
+        entry = lambda status: (ENTRIES + number, status + 8 * kind + 32 * (score + ZERO))
         if score >= beta:
-            return [(8, score + 1000000), (9, code), entry(2), (7, 4)], True, True
-        if role in (1, 3):
-            chosen = [(9, code)] if score > low else []
-            return [(8, max(best, score) + 1000000)] + chosen + [entry(2), (7, 3)], False, True
+            return [(BEST, score + ZERO), (CHOICE, code), entry(SETTLED), (PHASE, DONE)], True, True
+        if role in (FIRST_CHILD, AGAIN):
+            chosen = [(CHOICE, code)] if score > low else []
+            return [(BEST, max(best, score) + ZERO)] + chosen + [entry(SETTLED), (PHASE, TESTS)], False, True
         if score <= tried:
-            return [(8, max(best, score) + 1000000), entry(2)], False, True
-        return [entry(3)], False, True
+            return [(BEST, max(best, score) + ZERO), entry(SETTLED)], False, True
+        return [entry(FAILED)], False, True
 
     def input(self, own):
         alpha, beta = self.window(own)
-        return own[0], own[1], own[2], alpha, beta
+        return own[OWN], own[OPP], own[DEPTH], alpha, beta
 
     def asked(self, answer):
         return answer
 
     def accept(self, own, answer):
-        board = othello.board_of(answer[0], answer[1])
-        score = othello.search(board, "X", answer[2], answer[3], answer[4])[0]
-        within = answer[3] < score < answer[4] and answer[2] > 0
-        choice = othello.minimax(board, "X", answer[2])[1] if within else None
-        return [(8, score + 1000000), (9, 65 if choice is None else choice), (7, 4)]
+        own, opp, depth, alpha, beta = answer
+        board = othello.board_of(own, opp)
+        score = othello.search(board, "X", depth, alpha, beta)[0]
+        within = alpha < score < beta and depth > 0
+        choice = othello.minimax(board, "X", depth)[1] if within else None
+        return [(BEST, score + ZERO), (CHOICE, NO_CHOICE if choice is None else choice), (PHASE, DONE)]
 
     def answer(self, random, asked):
         return asked
@@ -202,7 +217,7 @@ class Jamboree:
     @staticmethod
     def root(board, player, depth):
         own, opp = othello.bits(board, player)
-        return 12, own, opp, depth, 800000, 1200000, 0, 0, 0
+        return ENTRIES, own, opp, depth, LEAST, GREATEST, ROOT, 0, NEW
 
 
 def word(words, place):

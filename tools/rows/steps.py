@@ -13,7 +13,7 @@ import sys
 
 import core as scheduling
 import othello
-from procedures import Chain, Fan, Jamboree, Reader, Spin
+from procedures import BEST, ZERO, Chain, Fan, Jamboree, Reader, Spin
 
 # what a list can be refused by, by kind of step
 REFUSALS = {
@@ -335,7 +335,7 @@ def orders(seed, met):
             late += was_late
         for number, (board, player) in asked.items():
             value, _ = othello.minimax(board, player, depth)
-            assert tenants[number].jobs[0][1][8] == value + 1000000
+            assert tenants[number].jobs[0][1][BEST] == value + ZERO
             for at in (0, 1, 2):
                 drawn.lines.append("{} = {}".format(*scheduling.look_at_job(drawn.core, number, at)))
             drawn.look(number)

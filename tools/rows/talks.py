@@ -2,9 +2,12 @@
 Of no code of the crates."""
 import core as scheduling
 import othello
-from procedures import Jamboree
+from procedures import BEST, CHOICE, ENTRIES, NO_CHOICE, OPP, OWN, ZERO, Jamboree
 
 WORKER = 1
+DEEPEST = 12
+BAD_LINE, TOO_LONG, BAD_NUMBER, BAD_LENGTH, BAD_SQUARE, BAD_SIDE, TOO_DEEP, NO_TENANT_YET, TENANT_IS_THERE = range(21, 30)  # faults
+UNABLE = [scheduling.NUMBERS[name] for name in ("NoSegments", "NoNodes", "NoSteps", "BadAct")]  # refusals after which a frame may be spent
 WORDS = {b"HELLO": 3, b"RESERVE": 3, b"GET": 2, b"WAIT": 2, b"CANCEL": 2, b"TABLE": 2, b"QUOTA": 1, b"LIVE": 1, b"BYE": 1}
 CELLS = {ord("X"): "X", ord("x"): "X", ord("*"): "X", ord("O"): "O", ord("o"): "O", ord("-"): "-", ord("."): "-"}
 
@@ -17,25 +20,25 @@ class Fault(Exception):
 
 def number(word):
     if not (1 <= len(word) <= 8 and all(48 <= byte <= 57 for byte in word)):
-        raise Fault(23)
+        raise Fault(BAD_NUMBER)
     return int(word)
 
 
 def within(word, most):
     value = number(word)
     if not 1 <= value <= most:
-        raise Fault(23)
+        raise Fault(BAD_NUMBER)
     return value
 
 
 def position(text):
     if len(text) != 66:
-        raise Fault(24)
+        raise Fault(BAD_LENGTH)
     if any(byte not in CELLS for byte in text[:64]):
-        raise Fault(25)
+        raise Fault(BAD_SQUARE)
     side = CELLS.get(text[65])
     if text[64] != 32 or side not in ("X", "O"):
-        raise Fault(26)
+        raise Fault(BAD_SIDE)
     return [CELLS[byte] for byte in text[:64]], side
 
 
@@ -60,8 +63,8 @@ class Desk:
     def run(self, step, name):
         while step:
             answer = self.core.step(step)
-            if answer[0] == "Err" and answer[1] in (10, 11, 12, 15):
-                if self.core.step(("Spend", name)) == ("Err", 16):
+            if answer[0] == "Err" and answer[1] in UNABLE:
+                if self.core.step(("Spend", name)) == ("Err", scheduling.NUMBERS["NotSpent"]):
                     continue
                 return
             step = self.following(answer, name)
@@ -91,7 +94,7 @@ class Session:
         line = line_of(raw, ended)
         try:
             if line is None:
-                raise Fault(22)
+                raise Fault(TOO_LONG)
             return self.request(line)
         except Fault as fault:
             return f"ERR {fault.number}"
@@ -101,14 +104,14 @@ class Session:
         if words[0] == b"ASK":
             words = line.split(b" ", 2)
             if len(words) != 3:
-                raise Fault(21)
+                raise Fault(BAD_LINE)
         elif WORDS.get(words[0]) != len(words):
-            raise Fault(21)
+            raise Fault(BAD_LINE)
         kind = words[0].decode()
         if kind not in ("HELLO", "BYE") and self.tenant is None:
-            raise Fault(28)
+            raise Fault(NO_TENANT_YET)
         if kind == "HELLO" and self.tenant is not None:
-            raise Fault(29)
+            raise Fault(TENANT_IS_THERE)
         return getattr(self, kind.lower())(*words[1:])
 
     def offer(self, *step):
@@ -131,8 +134,8 @@ class Session:
 
     def ask(self, depth, text):
         depth = number(depth)
-        if depth > 12:
-            raise Fault(27)
+        if depth > DEEPEST:
+            raise Fault(TOO_DEEP)
         board, player = position(text)
         answer = self.offer("Submit", self.tenant, *Jamboree.root(board, player, depth))
         self.desk.tasks.append((answer[2], 0))
@@ -142,14 +145,14 @@ class Session:
         job = number(word)
         jobs = self.desk.core.tenants[self.tenant].jobs
         if not 1 <= job <= len(jobs):
-            raise Fault(17)
+            raise Fault(scheduling.NUMBERS["NoJob"])
         return job, jobs[job - 1]
 
     def get(self, word):
         job, how = self.job(word)
         if how[0] == "done":
-            value, choice = how[1][8] - 1000000, how[1][9]
-            return f"DONE {job} {value} {othello.name(None if choice == 65 else choice)}"
+            value, choice = how[1][BEST] - ZERO, how[1][CHOICE]
+            return f"DONE {job} {value} {othello.name(None if choice == NO_CHOICE else choice)}"
         return f"{'PENDING' if how[0] == 'live' else how[0].upper()} {job}"
 
     def wait(self, word):
@@ -164,10 +167,10 @@ class Session:
             return self.get(word)
         words = how[1]
         entries = []
-        for choice, entry in zip(othello.choices(othello.board_of(words[0], words[1]), "X"), words[12:]):
+        for choice, entry in zip(othello.choices(othello.board_of(words[OWN], words[OPP]), "X"), words[ENTRIES:]):
             kind = entry // 8 % 4
             if kind:
-                entries.append(f" {othello.name(choice)}{'?<>='[kind]}{entry // 32 - 1000000}")
+                entries.append(f" {othello.name(choice)}{'?<>='[kind]}{entry // 32 - ZERO}")
         return f"TABLE {job}" + "".join(entries)
 
     def cancel(self, word):
