@@ -1,5 +1,5 @@
 -- What lies under the lock has come by the steps of the history, one after the other.
-use Rattle.desk.proofs.Common.{◌≡◌, ℕ, ◌+◌, ◌<◌, ◌≤◌, List, [], ◌∷◌, ◌++◌, true, false, refl, sym, ap, ◌∙◌, subst, arith, None, Result, Ok, Err, OnOk, OnErr, IsPrefix, Quota, Refusal, Admit, Leave, DidOf, Left, refusal_in, tenant_of, only, alone_from, CoreState, tenant_in, shared_run, newest_after, IsOneStep, AreNumbersGiven, step-taken, known-number, tenant_in-new, Leaf, LeafAnswer, jamboree, HallOf, IsOffered, hall_after, IsExplained, own, Known, SeatOf, seeing, steps_of, core_at, is_admit, with_taken, is_leave, AreSeats, HasNoLeave, HasOwners, IsComeBy, IsThere, IsLook, IsToldOf}
+use Rattle.desk.proofs.Common.{◌≡◌, ℕ, ◌+◌, ◌<◌, ◌≤◌, List, [], ◌∷◌, ◌++◌, true, false, refl, sym, ap, ◌∙◌, subst, arith, None, Result, Ok, Err, OnOk, OnErr, IsPrefix, Quota, Refusal, Admit, Leave, DidOf, Left, refusal_in, tenant_of, only, alone_from, CoreState, tenant_in, shared_run, newest_after, IsOneStep, AreNumbersGiven, step-taken, known-number, tenant_in-new, Leaf, LeafAnswer, jamboree, HallOf, IsOffered, hall_after, IsExplained, own, Known, SeatOf, seeing, steps_of, core_at, is_admit, with_taken, is_leave, AreStepsOfSeat, HasNoLeave, HasOwners, IsComeBy, IsThere, IsLook, IsToldOf}
 use Rattle.desk.proofs.Judged.{run-more, taken-more, no-first, newest-stays, Rights, Headlines, isolated}
 use Rattle.desk.proofs.Staying.{there-more, seat-stays, leaves}
 use Rattle.desk.proofs.Owners.{Step, Entries, IsOfSeat, steps_of-more, owners-more, owners-admit, steps-are-mine, unused, unmade, upto-more}
@@ -26,7 +26,7 @@ module _ {begun : HallOf} {log : Entries} (before : HallOf) (come : IsComeBy beg
   new-unused t number = unused before.shared.newest t log come.upto (omega (arith, number))
 
   -- a seat looks
-  pub looks : (was now : SeatOf) → Rights (jamboree begun.grain) → Headlines (jamboree begun.grain) → AreSeats was.tenant was.known.mine → begun.shared.newest < was.tenant →
+  pub looks : (was now : SeatOf) → Rights (jamboree begun.grain) → Headlines (jamboree begun.grain) → AreStepsOfSeat was.tenant was.known.mine → begun.shared.newest < was.tenant →
       IsPrefix was.known.seen log → own was.known.maker log ≡ was.known.mine → now ≡ seeing (record { maker = was.known.maker; seen = log; mine = was.known.mine }) was → IsLook begun was now
   looks was now right headline seats new prefix is_mine is =
       let rules = jamboree begun.grain in

@@ -1,5 +1,5 @@
 -- A seat's steps are all the seat steps of its tenant.
-use Rattle.desk.proofs.Common.{◌≡◌, ℕ, ◌<◌, ◌≤◌, ◌==◌, ◌&&◌, List, [], ◌∷◌, ◌++◌, Bool, true, false, refl, sym, ap, ◌∙◌, subst, arith, if◌then◌else◌, Result, Ok, Err, nat_tests, Quota, Refusal, StepOf, Admit, tenant_of, only, LeafAnswer, own as own_by, steps_of, is_seat_step, seat_steps, with_taken, Owned, HasOwners, AllOwn, AreSeats, AreStepsUpTo}
+use Rattle.desk.proofs.Common.{◌≡◌, ℕ, ◌<◌, ◌≤◌, ◌==◌, ◌&&◌, List, [], ◌∷◌, ◌++◌, Bool, true, false, refl, sym, ap, ◌∙◌, subst, arith, if◌then◌else◌, Result, Ok, Err, nat_tests, Quota, Refusal, StepOf, Admit, tenant_of, only, LeafAnswer, own as own_by, steps_of, is_seat_step, seat_steps, with_taken, Owned, HasOwners, AllOwn, AreStepsOfSeat, AreStepsUpTo}
 
 abbrev pub Step : Type 0
 Step = StepOf LeafAnswer
@@ -21,7 +21,7 @@ not-both false c f = refl
 
 -- a step of a seat is one of a seat whose steps so far are these
 abbrev pub IsOfSeat : List Step → Step → Type 0
-IsOfSeat mine step = is_seat_step step ≡ true → AreSeats (tenant_of step) mine
+IsOfSeat mine step = is_seat_step step ≡ true → AreStepsOfSeat (tenant_of step) mine
 
 -- Owners of tenants.
 module _ (owner : ℕ → ℕ) (m t : ℕ) where
@@ -48,7 +48,7 @@ owned-more owner (e ∷ es) m step o h = (o.0, owned-more owner es m step o.1 h)
 -- Makers and their steps in a history whose tenants have owners.
 module _ (m : ℕ) (log : Entries) (o : HasOwners log) where
   -- of a seat
-  pub steps-are-mine : (t : ℕ) (mine : List Step) → AreSeats t mine → own_by m log ≡ mine → seat_steps t (steps_of log) ≡ mine
+  pub steps-are-mine : (t : ℕ) (mine : List Step) → AreStepsOfSeat t mine → own_by m log ≡ mine → seat_steps t (steps_of log) ≡ mine
   steps-are-mine t mine a h =
       let at = owner-is o.0 m t a.0 log a.1 o.1 (h ∙ a.2) in
       own-is o.0 m t log o.1 at (subst (λ l. AllOwn t l) (sym h) a.3) ∙ h
@@ -69,7 +69,7 @@ module _ (t : ℕ) (step : Step) (own : is_seat_step step ≡ true) (at : tenant
   all-own-more [] a = (own, at, tt)
   all-own-more (s ∷ ss) a = (a.0, a.1, all-own-more ss a.2)
 
-  pub seats-taken : {X : Type 0} (mine : List Step) (answer : Result X Refusal) → AreSeats t mine → AreSeats t (with_taken mine step answer)
+  pub seats-taken : {X : Type 0} (mine : List Step) (answer : Result X Refusal) → AreStepsOfSeat t mine → AreStepsOfSeat t (with_taken mine step answer)
   seats-taken mine (Ok value) a = (a.0, a.1 ++ step ∷ [], ap (λ l. l ++ step ∷ []) a.2, all-own-more mine a.3)
   seats-taken mine (Err refusal) a = a
 

@@ -124,8 +124,8 @@ AllOwn number [] = Unit {0}
 AllOwn number (step ∷ steps) = (is_seat_step step ≡ true) × (tenant_of step ≡ number) × AllOwn number steps
 
 -- the steps of a tenant's seat, from its admission on
-abbrev pub AreSeats : ℕ → List (StepOf LeafAnswer) → Type 0
-AreSeats number steps = (reserve : Quota) × (later : List (StepOf LeafAnswer)) × (steps ≡ Admit number reserve ∷ later) × AllOwn number steps
+abbrev pub AreStepsOfSeat : ℕ → List (StepOf LeafAnswer) → Type 0
+AreStepsOfSeat number steps = (reserve : Quota) × (later : List (StepOf LeafAnswer)) × (steps ≡ Admit number reserve ∷ later) × AllOwn number steps
 
 -- none of these steps is a Leave
 abbrev pub HasNoLeave : {A : Type 0} → List (StepOf A) → Type 0

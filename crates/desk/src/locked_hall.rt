@@ -20,7 +20,7 @@ ghost use Rattle.desk.specs.Traces.{own};
 ghost use Rattle.sched_rules.specs.Runs.{tenant_of};
 ghost use Rattle.desk.specs.Seats.{admit_refusals, reserve_refusals, seeing, stepped, IsAsked};
 ghost use Rattle.desk_rules.specs.Asked.{ask_refusals, cancel_refusals, seat_asked_at, IsShown, IsToldBy, found_or_no_tenant};
-ghost use Rattle.desk.specs.Histories.{core_at, steps_of, is_admit, is_leave, is_seat_step, with_taken, AreSeats, AreTaken, HasNoLeave, IsSeated, IsLook, IsShownAt, IsToldOf, IsTrueTo, Saw, Took};
+ghost use Rattle.desk.specs.Histories.{core_at, steps_of, is_admit, is_leave, is_seat_step, with_taken, AreStepsOfSeat, AreTaken, HasNoLeave, IsSeated, IsLook, IsShownAt, IsToldOf, IsTrueTo, Saw, Took};
 ghost use Rattle.desk.specs.Counts.{IsOffered, IsLeft, IsAsOpen, IsNextReady, with_kept, waits_on, has_news};
 
 use crate::history::{History, Opened, Trace};
@@ -126,11 +126,11 @@ impl<L: DeskLedger, A: Allocator + Clone> LockedHall<L, A> {
         requires search { IsSearch step.now }
         requires part { 0 < mine.old.parts }
         requires admitted { is_admit step.now ≡ false }
-        requires owner { is_seat_step step.now ≡ true → AreSeats (tenant_of step.now) trace.old.mine }
+        requires owner { is_seat_step step.now ≡ true → AreStepsOfSeat (tenant_of step.now) trace.old.mine }
         ensures told { IsToldOf L.begun trace.old step.now result trace.new }
         ensures seen { trace.new.seen ≡ self.new.history }
         ensures true_to { is_seat_step step.now ≡ true → IsTrueTo L.begun (tenant_of step.now) trace.new }
-        ensures owner { is_seat_step step.now ≡ true → AreSeats (tenant_of step.now) trace.new.mine }
+        ensures owner { is_seat_step step.now ≡ true → AreStepsOfSeat (tenant_of step.now) trace.new.mine }
         ensures stays { is_leave step.now ≡ false → HasNoLeave trace.old.mine → HasNoLeave trace.new.mine }
         ensures left { is_leave step.now ≡ true → HasNoLeave trace.old.mine → result ≡ Ok HasLeft }
         ensures step { IsOffered self.old.hall step.now result self.new.hall }

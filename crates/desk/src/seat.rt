@@ -30,13 +30,13 @@ pub struct Seat<L: DeskLedger> {
 impl<L: DeskLedger> Model for Seat<L> {
     ghost use Rattle.std.specs.Prelude.{◌≡◌, ◌^◌, ◌<◌};
     ghost use Rattle.desk.specs.Seats.{SeatOf};
-    ghost use Rattle.desk.specs.Histories.{AreSeats, HasNoLeave};
+    ghost use Rattle.desk.specs.Histories.{AreStepsOfSeat, HasNoLeave};
 
     ghost Value = { SeatOf };
 
     ghost view = { λ s. record { tenant = s.tenant; share = s.steps; asked = s.asked.items; known = s.trace } };
 
-    ghost invariant = { λ s. (s.mine.amount ≡ s.steps) × (s.mine.parts ≡ 1) × (s.steps < 2 ^ 100) × AreSeats s.tenant s.trace.mine × HasNoLeave s.trace.mine × (L.begun.shared.newest < s.tenant) };
+    ghost invariant = { λ s. (s.mine.amount ≡ s.steps) × (s.mine.parts ≡ 1) × (s.steps < 2 ^ 100) × AreStepsOfSeat s.tenant s.trace.mine × HasNoLeave s.trace.mine × (L.begun.shared.newest < s.tenant) };
 }
 
 impl<L: DeskLedger> Seat<L> {

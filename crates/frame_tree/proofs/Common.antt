@@ -18,7 +18,7 @@ pub use Rattle.frame_tree.specs.Frames.{AllBelow, Frame, IsNextFrame, IsTree, Is
 pub use Rattle.frame_tree.specs.Frames.{frames_without, goes_under, has_frame, has_parent, is_one_more, is_ready, new_frame, owner_of_tree, parent_of, path_in}
 pub use Rattle.frame_tree.specs.Frames.{path_under, root_of, values_of, with_state}
 pub use Rattle.frame_tree.specs.Places.{AllFromBy, IsPlaceFor, has_number}
-pub use Rattle.frame_tree.specs.Readies.{IsTenant, last_ready, put_ready, ready_in, with_ready, without_ready}
+pub use Rattle.frame_tree.specs.Readies.{AreTenantFrames, last_ready, put_ready, ready_in, with_ready, without_ready}
 pub use Rattle.frame_tree.specs.SlotStores.{AllHere, AreApartKeys, AreKeys, AreThere, ChangesSlot, HasSerial, IsHere, IsKeyAt, IsSeenAt, IsSlotStore}
 pub use Rattle.frame_tree.specs.SlotStores.{KnowsParent, Marks, NoneMarked, is_marked, marked_in, slots_in, swept_in, values_in, with_found}
 pub use Rattle.frame_tree.specs.Slots.{AllAbove, AllCountsBelow, AreSoundSlots, IsLinked, Rises, child_slots, frame_of_slot, frames_from, gone_values, has_slot}

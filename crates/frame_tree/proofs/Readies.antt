@@ -2,7 +2,7 @@
 use Rattle.frame_tree.proofs.Common.{◌≡◌, ℕ, zero, suc, ◌-◌, ◌<◌, ◌≤◌, nat_lt, List, [], ◌∷◌, ◌++◌, Option, Some, None, length, take, length-inserted, set}
 use Rattle.frame_tree.proofs.Common.{slice_index, refl, ap, sym, ◌∙◌, arith, slice_get, filter, remove, lt-ltb, ltb-true, FrameId, State, Ready, Slot}
 use Rattle.frame_tree.proofs.Common.{ReadyFrame, is_ready, serials_of, AreSoundSlots, ready_slots, AllAbove, Rises, with_child, newest_in, AreAbove, AreRising}
-use Rattle.frame_tree.proofs.Common.{IsTenant, with_ready, ready_in, without_ready, put_ready, last_ready, IsSeenAt}
+use Rattle.frame_tree.proofs.Common.{AreTenantFrames, with_ready, ready_in, without_ready, put_ready, last_ready, IsSeenAt}
 use Rattle.frame_tree.specs.Windows.{PlacedList}
 use Rattle.frame_tree.proofs.Forest.{above-at, linked_rises, seen-next}
 use Rattle.frame_tree.proofs.Places.{rises-by-filter, filter-not-above, filter-below-above, length-filter-le}
@@ -107,14 +107,14 @@ added-ready xs parent slot home frames e state = let same = (recount-more parent
 module _ {T : Type 0} (slots : List (Slot T)) where
   pub is-tenant : (count places : ℕ) (serials : PlacedList ℕ) (ready : PlacedList ReadyFrame) → AreSoundSlots slots count → serials.list ≡ serials_of slots →
       ready.list ≡ ready_in slots → length slots ≤ places → places ≤ 4096 → places ≤ serials.places → places ≤ ready.places →
-      IsTenant slots places serials ready
+      AreTenantFrames slots places serials ready
   is-tenant count places serials ready s i e within few same_serials same = grind (arith, ready_in-length)
 
   -- no more are ready than there are slots
   pub few-ready_in : length (ready_in slots) ≤ length slots
   few-ready_in = omega (arith, ready_in-length slots, length-filter-le (λ x. is_ready x.state) slots)
 
-  pub tenant-rises : (places : ℕ) (serials : PlacedList ℕ) (ready : PlacedList ReadyFrame) → IsTenant slots places serials ready →
+  pub tenant-rises : (places : ℕ) (serials : PlacedList ℕ) (ready : PlacedList ReadyFrame) → AreTenantFrames slots places serials ready →
       AreRising (λ frame. frame.serial) ready.list
   tenant-rises places serials ready t = rw t.ready_frames (ready_in-rises slots (linked_rises [] slots t.sound.linked))
 

@@ -41,7 +41,7 @@ last_ready (frame ∷ frames) = first_of_two (last_ready frames) (Some frame)
 
 -- the invariant of TenantFrames (src/tree.rt): serials and ready are those of the slots, which are sound and no more
 -- than places, and all lists have room for as many
-pub record IsTenant {T : Type 0} (slots : List (Slot T)) (places : ℕ) (serials : PlacedList ℕ) (ready : PlacedList ReadyFrame) : Type 0 where
+pub record AreTenantFrames {T : Type 0} (slots : List (Slot T)) (places : ℕ) (serials : PlacedList ℕ) (ready : PlacedList ReadyFrame) : Type 0 where
   pub sound : AreSoundSlots slots (length ready.list)
   pub index : serials.list ≡ serials_of slots
   pub ready_frames : ready.list ≡ ready_in slots

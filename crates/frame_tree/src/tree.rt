@@ -32,13 +32,13 @@ impl<T, A: Allocator> Model for TenantFrames<T, A> {
     ghost use Rattle.std.specs.Prelude.{[]};
     ghost use Rattle.frame_tree.specs.Frames.{TenantTree};
     ghost use Rattle.frame_tree.specs.Slots.{frames_from};
-    ghost use Rattle.frame_tree.specs.Readies.{IsTenant};
+    ghost use Rattle.frame_tree.specs.Readies.{AreTenantFrames};
 
     ghost Value = { TenantTree T };
 
     ghost view = { λ t. record { tenant = t.tenant; places = t.store.places; frames = frames_from [] t.store.slots } };
 
-    ghost invariant = { λ t. IsTenant t.store.slots t.store.places t.serials t.ready };
+    ghost invariant = { λ t. AreTenantFrames t.store.slots t.store.places t.serials t.ready };
 }
 
 // Lists of trees are ordered and searched by the tenants' numbers.

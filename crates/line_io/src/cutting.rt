@@ -10,7 +10,7 @@ use std::marker::Model;
 const LINE_BYTES: usize = 128;
 
 /// The byte that ends a line.
-pub(crate) const LF: u8 = 10;
+pub const LF: u8 = 10;
 
 /// The byte that is left out where it stands directly before an LF.
 const CR: u8 = 13;

@@ -46,7 +46,7 @@ pub mod rows;
 mod talking;
 
 pub use answering::{Answer, answer_lines};
-pub use cutting::{Line, LineCutter};
+pub use cutting::{LF, Line, LineCutter};
 pub use faults::{LineFault, ReadFailed, WriteFailed};
 pub use input::{FromReader, Source};
 pub use laws::{known_bytes_are_read, known_contents_grow, known_runs_are_exact, run_by_function};

@@ -4,7 +4,7 @@ use crate::paths::Paths;
 use crate::reloading::{Unread, reload};
 use crate::shared::Shared;
 use crate::telling::stats_of;
-use crate::visits::{Shut, Visits};
+use crate::visits::{PAUSE_MILLIS, Shut, Visits};
 use crate::watching::{shut_told, tell};
 use site_book::{Part, Told, Who, Whom};
 use site_file::Address;
@@ -18,10 +18,7 @@ use std::thread::{self, Scope};
 use std::time::{Clock, Duration};
 
 /// Seconds in which a command is whole, and in which its answer is taken.
-const A_COMMAND: u64 = 5;
-
-/// Milliseconds before a connection is taken again, where none could be.
-const A_PAUSE: u64 = 100;
+const COMMAND_SECS: u64 = 5;
 
 /// What is said to a line that is no command.
 const USAGE: &str =
@@ -156,7 +153,7 @@ fn converse<R: Paths + AllocGlobal + Clock + Wait>(
     shared: &Shared,
     stream: &UnixStream,
 ) -> Option<()> {
-    let limit = Some(Duration::from_secs(A_COMMAND));
+    let limit = Some(Duration::from_secs(COMMAND_SECS));
     if stream.set_read_timeout(limit).is_err() || stream.set_write_timeout(limit).is_err() {
         return None;
     }
@@ -213,7 +210,7 @@ pub(crate) fn serve_control<'s, E, R: Clock + Paths + AllocGlobal + Wait + Sync>
     let mut visits = Visits::new(rt.alloc());
     for stream in listener.incoming() {
         let Ok(stream) = stream else {
-            thread::sleep(rt, Duration::from_millis(A_PAUSE));
+            thread::sleep(rt, Duration::from_millis(PAUSE_MILLIS));
             continue;
         };
         let Ok(stream) = visits.admit(rt.alloc(), stream) else {

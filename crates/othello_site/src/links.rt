@@ -2,7 +2,7 @@
 ghost use Rattle.std.specs.Prelude.{◌≤◌, length, IfSome};
 
 use crate::shared::Shared;
-use line_io::{ReadFailed, Sink, Source, WriteFailed};
+use line_io::{LF, ReadFailed, Sink, Source, WriteFailed};
 use site_rules::{Pace, Times};
 use std::alloc::Global;
 use std::cell::Cell;
@@ -14,10 +14,7 @@ use std::time::{Clock, Duration};
 /// How often a read that a signal interrupts is made again.
 const READ_TRIES: u32 = 65_536;
 
-/// The byte that ends a line.
-const LF: u8 = 10;
-
-/// The most bytes that are kept of a beginning.
+/// The most bytes that are kept of a connection's beginning: a PROXY header, a command, a request.
 pub(crate) const MOST_BYTES: usize = 4_096;
 
 /// How a connection's reads ended.

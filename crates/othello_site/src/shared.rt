@@ -28,7 +28,7 @@ pub(crate) struct Shared {
 }
 
 /// Microseconds between two tries to take what connections share.
-const A_NAP: u64 = 50;
+const NAP_MICROS: u64 = 50;
 
 impl Shared {
     /// What connections share, for this thread alone. It tries again and again, and naps in between. It never sleeps on the lock: a
@@ -40,7 +40,7 @@ impl Shared {
                 return register;
             }
             let word = AtomicU64::new(0);
-            word.park_timeout(rt, 0, Duration::from_micros(A_NAP));
+            word.park_timeout(rt, 0, Duration::from_micros(NAP_MICROS));
         }
         unreachable!()
     }

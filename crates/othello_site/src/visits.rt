@@ -9,6 +9,9 @@ use std::sync::Arc;
 /// The most connections that are answered at once.
 const MOST: usize = 256;
 
+/// Milliseconds before a connection is taken again, where none could be.
+pub(crate) const PAUSE_MILLIS: u64 = 100;
+
 /// A connection that can be shut.
 pub(crate) trait Shut {
     /// Nothing is read of it or written to it from now on: who reads it or writes to it is woken.

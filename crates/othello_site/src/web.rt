@@ -2,7 +2,7 @@
 use crate::links::{MOST_BYTES, Received, first_line};
 use crate::shared::Shared;
 use crate::telling::metrics_of;
-use crate::visits::{Shut, Visits};
+use crate::visits::{PAUSE_MILLIS, Shut, Visits};
 use std::alloc::AllocError;
 use std::io::{Read, Write};
 use std::net::{TcpListener, TcpStream};
@@ -11,10 +11,7 @@ use std::thread::{self, Scope};
 use std::time::{Clock, Duration};
 
 /// Seconds in which a request is whole, and in which its answer is taken.
-const A_REQUEST: u64 = 2;
-
-/// Milliseconds before a connection is taken again, where none could be.
-const A_PAUSE: u64 = 100;
+const REQUEST_SECS: u64 = 2;
 
 /// What a request asks for.
 #[derive(Clone, Copy)]
@@ -74,7 +71,7 @@ fn converse<R: AllocGlobal + Clock + Wait>(
     shared: &Shared,
     stream: &TcpStream,
 ) -> Option<()> {
-    let limit = Some(Duration::from_secs(A_REQUEST));
+    let limit = Some(Duration::from_secs(REQUEST_SECS));
     if stream.set_read_timeout(limit).is_err() || stream.set_write_timeout(limit).is_err() {
         return None;
     }
@@ -107,7 +104,7 @@ pub(crate) fn serve_web<'s, E, R: Clock + AllocGlobal + Wait + Sync>(
     let mut visits = Visits::new(rt.alloc());
     for stream in listener.incoming() {
         let Ok(stream) = stream else {
-            thread::sleep(rt, Duration::from_millis(A_PAUSE));
+            thread::sleep(rt, Duration::from_millis(PAUSE_MILLIS));
             continue;
         };
         let Ok(stream) = visits.admit(rt.alloc(), stream) else {

@@ -9,11 +9,8 @@ use crate::faults::{End, SessionFault};
 use crate::office::Office;
 use crate::texts::SessionText;
 use crate::turns::{leave_if_seated, take_turn};
-use line_io::{Answer, Ends, Line, LineFault, Sink, Source, TalkEnd, talk_lines};
+use line_io::{Answer, Ends, LF, Line, LineFault, Sink, Source, TalkEnd, talk_lines};
 use std::sync::Wait;
-
-/// Ends each answer.
-const LF: u8 = 10;
 
 /// Answers the lines of one session, and knows whether its tenant is there. Its text is the last answer, over which the
 /// next one is written.

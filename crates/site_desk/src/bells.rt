@@ -10,7 +10,7 @@ use std::time::Duration;
 const BELLS: u64 = 64;
 
 /// Seconds that a session or a worker sleeps at most before it looks again by itself.
-pub(crate) const A_SLEEP: u64 = 60;
+pub(crate) const SLEEP_SECS: u64 = 60;
 
 /// The bells: a session's is that of the remainder of its number.
 #[derive(Drop)]
@@ -39,7 +39,7 @@ impl Bells {
     /// Waits until a session's bell was rung more often than this, or for a minute, or for no reason.
     pub(crate) fn sleep<R: Wait>(&self, rt: &R, number: u64, rung: u64) {
         self.of(number)
-            .sleep(rt, rung, Duration::from_secs(A_SLEEP));
+            .sleep(rt, rung, Duration::from_secs(SLEEP_SECS));
     }
 
     /// Rings a session's bell.

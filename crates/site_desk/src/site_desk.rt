@@ -9,7 +9,7 @@ ghost use Rattle.task_deques.specs.Deals.{posts};
 ghost use Rattle.site_desk.specs.Entries.{IsEntry};
 ghost use Rattle.site_desk.specs.Seats.{IsSiteAsk};
 
-use crate::bells::{A_SLEEP, Bells};
+use crate::bells::{SLEEP_SECS, Bells};
 use crate::booked::BookedHall;
 use crate::came::Came;
 use crate::entry::Entry;
@@ -367,7 +367,7 @@ impl<A: Allocator + Clone> SiteDesk<A> {
             kept.begin_sleep();
             let rung = self.ready.notifications();
             drop(kept);
-            self.ready.sleep(rt, rung, Duration::from_secs(A_SLEEP));
+            self.ready.sleep(rt, rung, Duration::from_secs(SLEEP_SECS));
             kept = self.enter_late(rt, Backoff::idle());
             kept.end_sleep();
         }

@@ -8,12 +8,9 @@ ghost use Rattle.site_office.specs.Turns.{SiteTurned};
 
 use crate::reception::Reception;
 use crate::turns::take_site_turn;
-use line_io::{Answer, Ends, Line, LineFault, Sink, Source, TalkEnd, talk_lines};
+use line_io::{Answer, Ends, LF, Line, LineFault, Sink, Source, TalkEnd, talk_lines};
 use session::{Office, SessionText, leave_if_seated};
 use std::sync::Wait;
-
-/// Ends each answer.
-const LF: u8 = 10;
 
 /// Answers the lines of one session, and knows whether its tenant is there. Its text is the last answer, over which the next one is
 /// written.

@@ -9,15 +9,12 @@ use crate::leaf_search::search_full;
 use crate::requests::read_line;
 use crate::solve_by_core;
 use line_io::{
-    Answer, FromReader, FromWriter, Line, LineFault, Sink, Source, answer_lines,
+    Answer, FromReader, FromWriter, LF, Line, LineFault, Sink, Source, answer_lines,
     known_runs_are_exact,
 };
 use sched_rules::Refusal;
 use std::alloc::{AllocError, Allocator};
 use std::io::{Read, Write};
-
-/// Ends each answer.
-const LF: u8 = 10;
 
 /// The answer to a line: value and move, or its first fault. Each search is one job of a core that is made for
 /// it; where a growth of that was refused, the answer is `ERR 19`.

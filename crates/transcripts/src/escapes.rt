@@ -1,8 +1,6 @@
 //! The bytes that a line of a talk stands for.
+use line_io::LF;
 use std::alloc::AllocError;
-
-/// Ends a line.
-const LF: u8 = 10;
 
 /// How much of an escape was read.
 #[derive(Clone, Copy)]

@@ -6,7 +6,7 @@
 ghost use Rattle.std.specs.Prelude.{◌≡◌, ◌≤◌, length};
 
 use crate::compared::compare_lines;
-use crate::played_desk::{GOES_ON, PlayedSession, PlayedDesk, WENT_ON};
+use crate::played_desk::{GOES_ON, PlayedDesk, PlayedSession, WENT_ON};
 use crate::scenes::Row;
 use crate::talks::{TalkLine, gather, read_talk_line};
 use crate::tally::{Done, Tally};
@@ -125,7 +125,8 @@ impl<'t, 'a, L: DeskLedger, R: Wait, A: Allocator + Clone> PlayedDesk<'t, 'a, L,
             return Ok(at);
         }
         let at = self.sessions.len();
-        self.sessions.push(PlayedSession::new(name, self.rt, self.desk))?;
+        self.sessions
+            .push(PlayedSession::new(name, self.rt, self.desk))?;
         Ok(at)
     }
 

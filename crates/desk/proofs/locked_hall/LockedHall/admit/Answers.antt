@@ -1,4 +1,4 @@
-use Rattle.desk.proofs.Common.{rules, ◌≡◌, ◌<◌, ◌++◌, ◌∷◌, [], List, sym, ap, ◌∙◌, subst, refl, arith, Admit, tenant_in-new, Known, AllOwn, AreSeats, HasNoLeave, IsSeated, IsComeBy}
+use Rattle.desk.proofs.Common.{rules, ◌≡◌, ◌<◌, ◌++◌, ◌∷◌, [], List, sym, ap, ◌∙◌, subst, refl, arith, Admit, tenant_in-new, Known, AllOwn, AreStepsOfSeat, HasNoLeave, IsSeated, IsComeBy}
 use Rattle.desk.proofs.Owners.{Step, Entries}
 use Rattle.desk.proofs.Coming.{come-admitted, new-unused}
 use Rattle.desk.proofs.locked_hall.LockedHall.admit.Goals as goal
@@ -22,7 +22,7 @@ invariant_of-result g c =
     let mine : c.add.new.trace.mine ≡ Admit t c.args.reserve ∷ [] =
     ap (λ (k : Known Step). k.mine) c.add.ensures.trace ∙ ap (λ (l : List Step). l ++ Admit t c.args.reserve ∷ []) c.begin-trace.ensures.seen.1 in
     let none_left : HasNoLeave c.add.new.trace.mine = rw mine (refl, tt) in
-    let seats : AreSeats t c.add.new.trace.mine = (c.args.reserve, [], mine, subst (λ l. AllOwn t l) (sym mine) (refl, refl, tt)) in
+    let seats : AreStepsOfSeat t c.add.new.trace.mine = (c.args.reserve, [], mine, subst (λ l. AllOwn t l) (sym mine) (refl, refl, tt)) in
     let later = c.self.invariant.7.later in
     let number = c.next_tenant-tenant.ensures.value in
     let above : g.L.DeskLedger.begun.shared.newest < t = omega (arith, later, number) in
