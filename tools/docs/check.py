@@ -316,16 +316,21 @@ def head_faults(files, words):
 
 
 def name_faults(files):
-    """The definitions that several crates have under one name, but for those that GLOSSARY lists, and what it lists for nothing."""
-    crates = collections.defaultdict(set)
+    """The definitions, and the types and traits outside tests, that several crates have under one name, but for those that GLOSSARY
+    lists, and what it lists for nothing."""
+    definitions, types = collections.defaultdict(set), collections.defaultdict(set)
     for name in files:
         if re.fullmatch(r"crates/\w+/specs/.*\.antt", name):
             for word in re.findall(r"^(?:abbrev )?(?:pub )?(?:record |data )?([A-Za-z][\w'-]*) *[:({]", (TOP / name).read_text(), flags=re.M):
-                crates[word].add(name.split("/")[1])
-    shared = {word for word, those in crates.items() if len(those) > 1}
+                definitions[word].add(name.split("/")[1])
+        elif re.fullmatch(r"crates/(?!\w+_tests/)\w+/src/(?!tests/).*\.rt", name):
+            for word in re.findall(r"^(?:pub(?:\(crate\))? )?(?:struct|enum|trait) (\w+)", (TOP / name).read_text(), flags=re.M):
+                types[word].add(name.split("/")[1])
     listed = set(re.findall(r"`([^`]+)`", (TOP / "docs/GLOSSARY.md").read_text().partition("\nSeveral crates define ")[2].partition("\n")[0]))
-    for word in sorted(shared ^ listed):
-        yield f"docs/GLOSSARY.md: {word} is defined in {' and '.join(sorted(crates[word])) or 'no crate'}: one name for one thing"
+    found = {word for kind in (definitions, types) for word, those in kind.items() if len(those) > 1}
+    for word in sorted(found ^ listed):
+        those = max(definitions[word], types[word], key=len)
+        yield f"docs/GLOSSARY.md: {word} is defined in {' and '.join(sorted(those)) or 'no crate'}: one name for one thing"
 
 
 def lemma_faults(files):

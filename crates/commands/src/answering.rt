@@ -4,7 +4,7 @@ ghost use Rattle.line_io.specs.declared.faults.LineFault.{LineFault};
 ghost use Rattle.commands.specs.Answering.{IsAnsweredRun, status_of_run};
 
 use crate::saying::say;
-use crate::streams::{Input, Output, Streams};
+use crate::streams::{ProgramInput, ProgramOutput, Streams};
 use crate::{EXIT_FAILED, EXIT_OK};
 use line_io::{LineFault, Sink};
 use solve_engine::{solve, solve_visited};
@@ -21,7 +21,7 @@ const HINT: &str = "reading lines `depth position`; `othello solve --help` expla
 /// failed. Where `visited` is true each answer has the number of positions visited too, and `grain` isn't used. The
 /// reason of a failure is written on the errors, but not where the reader of the output closed it. Where the input is a
 /// terminal the errors get a hint first.
-pub fn answer<S: Input, K: Output, E: Sink>(
+pub fn answer<S: ProgramInput, K: ProgramOutput, E: Sink>(
     alloc: Global,
     grain: u8,
     visited: bool,

@@ -1,6 +1,6 @@
 //! An output whose faults are explained.
 use crate::saying::say;
-use crate::streams::Output;
+use crate::streams::ProgramOutput;
 use line_io::{Sink, WriteFailed};
 use protocol::{ProtocolFault, split_at_space};
 use sched_rules::Refusal;
@@ -40,7 +40,7 @@ impl<K: Sink, E: Sink> Sink for Explained<K, E> {
     }
 }
 
-impl<K: Output, E: Sink> Output for Explained<K, E> {
+impl<K: ProgramOutput, E: Sink> ProgramOutput for Explained<K, E> {
     fn is_closed(&self) -> bool {
         self.sink.is_closed()
     }

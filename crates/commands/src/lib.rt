@@ -28,7 +28,7 @@ pub use explaining::Explained;
 pub use running::run;
 pub use saying::{refuse, say};
 pub use serving::Unserved;
-pub use streams::{Input, Output, Streams};
+pub use streams::{ProgramInput, ProgramOutput, Streams};
 pub use words::words_of;
 
 /// The exit status where all went well.

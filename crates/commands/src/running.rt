@@ -9,7 +9,7 @@ use crate::answering::answer;
 use crate::saying::refuse;
 use crate::service::Service;
 use crate::serving::{Unserved, failed, serve_as_asked};
-use crate::streams::{Input, Output, Streams};
+use crate::streams::{ProgramInput, ProgramOutput, Streams};
 use command_line::Options;
 use line_io::Sink;
 use std::alloc::Global;
@@ -25,7 +25,7 @@ use tcp_server::desk::{Opened, PARTS};
 /// output or server failed or there was no memory to read the words, 2 where the words are refused. Answers, help, the
 /// version and a server's two lines go to the output, and all else that there is to say to the errors. The status stays
 /// the same where a text of help or of refusal can't be written.
-pub fn run<R, T: AsStr, S: Input, K: Output, E: Sink>(
+pub fn run<R, T: AsStr, S: ProgramInput, K: ProgramOutput, E: Sink>(
     rt: &R,
     alloc: Global,
     words: &[T],

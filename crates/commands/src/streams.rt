@@ -15,7 +15,7 @@ pub struct Streams<S, K, E> {
     pub errors: E,
 }
 
-impl<S: Input, K, E> Streams<S, Explained<K, E>, E> {
+impl<S: ProgramInput, K, E> Streams<S, Explained<K, E>, E> {
     /// Streams whose output's faults are said in words, on `words`, where the input is a terminal.
     pub fn explained(source: S, sink: K, words: E, errors: E) -> Self {
         let explains = source.is_typed();
@@ -47,24 +47,24 @@ impl Streams<FromReader<Stdin>, StandardOutput, FromWriter<Stderr>> {
 }
 
 /// An input of the program, which knows whether it is a terminal.
-pub trait Input: Source {
+pub trait ProgramInput: Source {
     /// Whether it is a terminal.
     fn is_typed(&self) -> bool;
 }
 
-impl<R: Read + IsTerminal> Input for FromReader<R> {
+impl<R: Read + IsTerminal> ProgramInput for FromReader<R> {
     fn is_typed(&self) -> bool {
         self.reader.is_terminal()
     }
 }
 
 /// An output of the program, which knows whether its reader has closed it.
-pub trait Output: Sink {
+pub trait ProgramOutput: Sink {
     /// Whether a write has failed because the reader of the output closed it (a broken pipe).
     fn is_closed(&self) -> bool;
 }
 
-impl<W: Write> Output for FromWriter<W> {
+impl<W: Write> ProgramOutput for FromWriter<W> {
     fn is_closed(&self) -> bool {
         self.failure == Some(ErrorKind::BrokenPipe)
     }

@@ -65,9 +65,9 @@ impl<S> Play<S, View<S>> for Beginning {
 }
 
 /// A maker's pass gives all that it knows.
-struct Whole;
+struct AllKnown;
 
-impl<S> Split<View<S>> for Whole {
+impl<S> Split<View<S>> for AllKnown {
     ghost use Rattle.desk.specs.Traces.{nobody};
 
     ghost left = { λ v. nobody };
@@ -105,7 +105,7 @@ pub(crate) fn hold<S>(cells: &Cells<S>, keeps: &mut Pass<S, View<S>>, pass: &mut
     ensures table { (keeps.new.table_id ≡ keeps.old.table_id) × (pass.new.table_id ≡ pass.old.table_id) }
     ensures keeps { keeps.new.me ≡ (holding keeps.old.me.0 pass.old.me.0, []) }
 {
-    let whole = cells.split_seat::<Whole>(pass);
+    let whole = cells.split_seat::<AllKnown>(pass);
     cells.join_seat::<Held>(keeps, whole);
 }
 

@@ -29,4 +29,4 @@ unfoldable pub use Rattle.fair_pool.specs.Picks.{seen_up_to}
 pub use Rattle.fair_pool.specs.Shares.{SharesOf, customer_at, network_at, rested_unless, tenant_in_place, tenant_seen}
 pub use Rattle.fair_pool.specs.Waits.{Comes, IsEach, IsFair, IsLeast, IsLed, LineEvent, Picks, Rests, Serves, Waits, Wakes, arrivals_in, is_ahead, is_member}
 pub use Rattle.fair_pool.specs.Waits.{line_after, picks_in, place_in, tasks_in}
-pub use Rattle.fair_pool.specs.declared.account.Account.{Account}
+pub use Rattle.fair_pool.specs.declared.account.ShareAccount.{ShareAccount}

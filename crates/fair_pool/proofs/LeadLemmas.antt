@@ -1,15 +1,15 @@
 -- Who has a lead is picked after the others have caught up.
-use Rattle.fair_pool.proofs.Common.{◌≡◌, ◌≢◌, ℕ, zero, suc, ◌+◌, ◌-◌, ◌*◌, ◌<◌, ◌≤◌, Bool, true, false, List, [], ◌∷◌, length, set, sym, ◌∙◌, refl, ap, subst, arith, cond, count_by, sum_by, nat_lt, nat_eq, eqb-false, eqb-true, get_or-set_same, sum_by-cons, Account, free_account, is_active, is_rival, is_before, capped_sum, account_charged, woken_from, rested, LineOf, IsNextAccount, account_at, floor_of, charged, LineEvent, Comes, Wakes, Rests, Serves, Picks, line_after, place_in, IsFair, Waits, picks_in, arrivals_in, is_member, IsLed}
+use Rattle.fair_pool.proofs.Common.{◌≡◌, ◌≢◌, ℕ, zero, suc, ◌+◌, ◌-◌, ◌*◌, ◌<◌, ◌≤◌, Bool, true, false, List, [], ◌∷◌, length, set, sym, ◌∙◌, refl, ap, subst, arith, cond, count_by, sum_by, nat_lt, nat_eq, eqb-false, eqb-true, get_or-set_same, sum_by-cons, ShareAccount, free_account, is_active, is_rival, is_before, capped_sum, account_charged, woken_from, rested, LineOf, IsNextAccount, account_at, floor_of, charged, LineEvent, Comes, Wakes, Rests, Serves, Picks, line_after, place_in, IsFair, Waits, picks_in, arrivals_in, is_member, IsLed}
 use Rattle.fair_pool.proofs.WaitLemmas.{one, line_woken, sum-set, sum-one, other-at, any-at, floor-least, picks-cons}
 
 -- how often another may still be picked before
-abbrev weight : ℕ → ℕ → Account → Account → ℕ
+abbrev weight : ℕ → ℕ → ShareAccount → ShareAccount → ℕ
 weight group low account y = cond (is_member group y) ((account.served + 1) - cond (nat_lt y.served low) low y.served) 0
 
-weight-rested : (group low : ℕ) (account y : Account) → weight group low account (rested y) ≡ weight group low account y
+weight-rested : (group low : ℕ) (account y : ShareAccount) → weight group low account (rested y) ≡ weight group low account y
 weight-rested group low account y = refl
 
-weight-most : (group lead : ℕ) (account y : Account) → weight group (account.served - lead) account y ≤ (lead + 1) * one (is_member group y)
+weight-most : (group lead : ℕ) (account y : ShareAccount) → weight group (account.served - lead) account y ≤ (lead + 1) * one (is_member group y)
 weight-most group lead account y = elim (is_member group y) as (λ b. cond b ((account.served + 1) - cond (nat_lt y.served (account.served - lead)) (account.served - lead) y.served) 0 ≤ (lead + 1) * one b) [
   | true ↦ most (nat_lt y.served (account.served - lead)) refl
   | false ↦ omega arith
@@ -18,26 +18,26 @@ weight-most group lead account y = elim (is_member group y) as (λ b. cond b ((a
   most true is = omega arith
   most false is = grind arith
 
-weight-more : (group low amount : ℕ) (account y : Account) → account.served < 18446744073709551615 → weight group low account (account_charged amount y) ≤ weight group low account y
+weight-more : (group low amount : ℕ) (account y : ShareAccount) → account.served < 18446744073709551615 → weight group low account (account_charged amount y) ≤ weight group low account y
 weight-more group low amount account y few = grind arith
 
-weight-woken : (group low floor turn : ℕ) (account y : Account) → weight group low account (woken_from floor turn y) ≤ weight group low account y
+weight-woken : (group low floor turn : ℕ) (account y : ShareAccount) → weight group low account (woken_from floor turn y) ≤ weight group low account y
 weight-woken group low floor turn account y = grind arith
 
-weight-picked : (group low amount : ℕ) (account y : Account) → account.served < 18446744073709551615 → 0 < amount → is_member group y ≡ true →
+weight-picked : (group low amount : ℕ) (account y : ShareAccount) → account.served < 18446744073709551615 → 0 < amount → is_member group y ≡ true →
     y.served ≤ account.served → low ≤ y.served → weight group low account (account_charged amount y) + 1 ≤ weight group low account y
 weight-picked group low amount account y few some member less least = grind arith
 
-count-cons : (p : Account → Bool) (x : Account) (xs : List Account) → count_by p (x ∷ xs) ≡ one (p x) + count_by p xs
+count-cons : (p : ShareAccount → Bool) (x : ShareAccount) (xs : List ShareAccount) → count_by p (x ∷ xs) ≡ one (p x) + count_by p xs
 count-cons p x xs = sum_by-cons (λ y. one (p y)) x xs
 
 -- a sum of weights that are each at most so much for a member
-sum-most : (w : Account → ℕ) (p : Account → Bool) (much : ℕ) (xs : List Account) → ((y : Account) → w y ≤ much * one (p y)) → sum_by w xs ≤ much * count_by p xs
+sum-most : (w : ShareAccount → ℕ) (p : ShareAccount → Bool) (much : ℕ) (xs : List ShareAccount) → ((y : ShareAccount) → w y ≤ much * one (p y)) → sum_by w xs ≤ much * count_by p xs
 sum-most w p much [] most = omega arith
 sum-most w p much (x ∷ xs) most =
     omega (arith, sum_by-cons w x xs, ap (λ (n : ℕ). much * n) (count-cons p x xs), most x, sum-most w p much xs most)
 
-sum-most-but : (w : Account → ℕ) (p : Account → Bool) (much less : ℕ) (xs : List Account) (place : ℕ) → ((y : Account) → w y ≤ much * one (p y)) →
+sum-most-but : (w : ShareAccount → ℕ) (p : ShareAccount → Bool) (much less : ℕ) (xs : List ShareAccount) (place : ℕ) → ((y : ShareAccount) → w y ≤ much * one (p y)) →
     p free_account ≡ false → w (account_at xs place) + less ≤ much * one (p (account_at xs place)) → sum_by w xs + less ≤ much * count_by p xs
 sum-most-but w p much less [] place most none own =
     let is-none : less ≤ much * 0 = omega (arith, own, ap (λ (b : Bool). much * one b) none) in omega (arith, is-none)
@@ -46,19 +46,19 @@ sum-most-but w p much less (x ∷ xs) zero most none own =
 sum-most-but w p much less (x ∷ xs) (suc place) most none own =
     omega (arith, sum_by-cons w x xs, ap (λ (n : ℕ). much * n) (count-cons p x xs), most x, sum-most-but w p much less xs place most none own)
 
-named-member : (group : ℕ) (y : Account) → is_rival group y ≡ true → y.name ≢ 0 → is_member group y ≡ true
+named-member : (group : ℕ) (y : ShareAccount) → is_rival group y ≡ true → y.name ≢ 0 → is_member group y ≡ true
 named-member group y active named = grind arith
 
-rival-active : (group : ℕ) (y : Account) → is_rival group y ≡ true → is_active y ≡ true
+rival-active : (group : ℕ) (y : ShareAccount) → is_rival group y ≡ true → is_active y ≡ true
 rival-active group y rival = grind arith
 
-not-before : (a b : Account) → is_before a b ≡ false → b.served ≤ a.served
+not-before : (a b : ShareAccount) → is_before a b ≡ false → b.served ≤ a.served
 not-before a b is = grind arith
 
-rests-named : (y : Account) → is_active (rested y) ≡ true → (rested y).name ≢ 0
+rests-named : (y : ShareAccount) → is_active (rested y) ≡ true → (rested y).name ≢ 0
 rests-named y active = grind arith
 
-module _ (group lead : ℕ) (account y : Account) where
+module _ (group lead : ℕ) (account y : ShareAccount) where
   rests-led : is_rival group (rested y) ≡ true → account.served ≤ (rested y).served + lead
   rests-led active = grind arith
 
@@ -69,18 +69,18 @@ module _ (group lead : ℕ) (account y : Account) where
   woken-led : (floor turn : ℕ) → (y.group ≡ group → account.served ≤ floor + lead) → is_rival group (woken_from floor turn y) ≡ true → account.served ≤ (woken_from floor turn y).served + lead
   woken-led floor turn least active = grind arith
 
-module _ (group place lead : ℕ) (line : LineOf) (account : Account) (is : IsLed group place lead line account) where
-  led-set : (other : ℕ) (y : Account) (turn : ℕ) → other ≢ place → (is_rival group y ≡ true → account.served ≤ y.served + lead) →
+module _ (group place lead : ℕ) (line : LineOf) (account : ShareAccount) (is : IsLed group place lead line account) where
+  led-set : (other : ℕ) (y : ShareAccount) (turn : ℕ) → other ≢ place → (is_rival group y ≡ true → account.served ≤ y.served + lead) →
       (is_active y ≡ true → y.name ≢ 0) → IsLed group place lead (record { accounts = set line.accounts other y; turn = turn }) account
   led-set other y turn differs less named = record {
     here = other-at line.accounts place other y differs ∙ is.here;
     active = is.active;
-    led = any-at (λ (a : Account). is_rival group a ≡ true → account.served ≤ a.served + lead) line.accounts other y is.led less;
-    named = any-at (λ (a : Account). is_active a ≡ true → a.name ≢ 0) line.accounts other y is.named named;
+    led = any-at (λ (a : ShareAccount). is_rival group a ≡ true → account.served ≤ a.served + lead) line.accounts other y is.led less;
+    named = any-at (λ (a : ShareAccount). is_active a ≡ true → a.name ≢ 0) line.accounts other y is.named named;
     served = is.served;
   }
 
-  own-floor : (y : Account) → y.group ≡ group → account.served ≤ floor_of y.group line.accounts + lead
+  own-floor : (y : ShareAccount) → y.group ≡ group → account.served ≤ floor_of y.group line.accounts + lead
   own-floor y same =
       let low = account.served - lead in
       let least : low ≤ floor_of group line.accounts = floor-least group low line.accounts place (ap (is_rival group) is.here ∙ is.active) (λ other rival. omega (arith, is.led other rival)) in
@@ -105,7 +105,7 @@ module _ (group place lead : ℕ) (line : LineOf) (account : Account) (is : IsLe
       led-set other (account_charged amount y) line.turn differs (more-led group lead account y amount is.served (is.led other)) (is.named other)
 
   -- how often each other may still be picked before
-  abbrev weighs : Account → ℕ
+  abbrev weighs : ShareAccount → ℕ
   weighs y = weight group (account.served - lead) account y
 
   -- the weights after an event, with a pick's one and what an arrival adds
@@ -131,7 +131,7 @@ module _ (group place lead : ℕ) (line : LineOf) (account : Account) (is : IsLe
   weights-after (Picks other amount) fair =
       let y = account_at line.accounts other in
       let low : account.served ≤ y.served + lead = is.led other fair.0.is_one in
-      let before = subst (λ (a : Account). is_before a y ≡ false) is.here (fair.0.none_before place (ap (is_rival group) is.here ∙ is.active)) in
+      let before = subst (λ (a : ShareAccount). is_before a y ≡ false) is.here (fair.0.none_before place (ap (is_rival group) is.here ∙ is.active)) in
       let member = named-member group y fair.0.is_one (is.named other (rival-active group y fair.0.is_one)) in
       let less = weight-picked group (account.served - lead) amount account y is.served fair.1 member (not-before account y before) (omega (arith, low)) in
       sum-set weighs line.accounts other (account_charged amount y) 1 ((lead + 1) * 0) refl (omega (arith, less))
@@ -143,14 +143,14 @@ arrivals-cons group (Rests place) events = omega arith
 arrivals-cons group (Serves place amount) events = omega arith
 arrivals-cons group (Picks place amount) events = omega arith
 
-weight-own : (group lead : ℕ) (account : Account) → is_member group account ≡ true → weight group (account.served - lead) account account ≡ 1
+weight-own : (group lead : ℕ) (account : ShareAccount) → is_member group account ≡ true → weight group (account.served - lead) account account ≡ 1
 weight-own group lead account member = grind arith
 
-own-member : (group place lead : ℕ) (line : LineOf) (account : Account) → IsLed group place lead line account → is_member group account ≡ true
+own-member : (group place lead : ℕ) (line : LineOf) (account : ShareAccount) → IsLed group place lead line account → is_member group account ≡ true
 own-member group place lead line account is =
-    named-member group account is.active (subst (λ (a : Account). a.name ≢ 0) is.here (is.named place (ap is_active is.here ∙ rival-active group account is.active)))
+    named-member group account is.active (subst (λ (a : ShareAccount). a.name ≢ 0) is.here (is.named place (ap is_active is.here ∙ rival-active group account is.active)))
 
-weighed-picks : (group place lead : ℕ) (line : LineOf) (account : Account) (events : List LineEvent) → IsLed group place lead line account → Waits group place line events →
+weighed-picks : (group place lead : ℕ) (line : LineOf) (account : ShareAccount) (events : List LineEvent) → IsLed group place lead line account → Waits group place line events →
     picks_in events + 1 ≤ sum_by (weight group (account.served - lead) account) line.accounts + (lead + 1) * arrivals_in group events
 weighed-picks group place lead line account [] is waits =
     let weighs = weight group (account.served - lead) account in
@@ -161,7 +161,7 @@ weighed-picks group place lead line account (event ∷ events) is waits =
     omega (arith, picks-cons event events, arrivals, weights-after group place lead line account is event waits.1, rest)
 
 -- so the picks are at most so many for each other
-pub led-picks : (group place lead others : ℕ) (line : LineOf) (account : Account) (events : List LineEvent) → IsLed group place lead line account →
+pub led-picks : (group place lead others : ℕ) (line : LineOf) (account : ShareAccount) (events : List LineEvent) → IsLed group place lead line account →
     Waits group place line events → count_by (is_member group) line.accounts + arrivals_in group events ≡ others + 1 → picks_in events ≤ (lead + 1) * others
 led-picks group place lead others line account events is waits count =
     let weighs = weight group (account.served - lead) account in
@@ -170,28 +170,28 @@ led-picks group place lead others line account events is waits count =
     let most = sum-most-but weighs (is_member group) (lead + 1) lead line.accounts place (weight-most group lead account) refl (omega (arith, own, ap (λ (b : Bool). (lead + 1) * one b) member)) in
     omega (arith, most, weighed-picks group place lead line account events is waits, ap (λ (n : ℕ). (lead + 1) * n) count)
 
-within-length : (group : ℕ) (xs : List Account) (place : ℕ) → is_rival group (account_at xs place) ≡ true → place < length xs
+within-length : (group : ℕ) (xs : List ShareAccount) (place : ℕ) → is_rival group (account_at xs place) ≡ true → place < length xs
 within-length group [] place rival = absurd (never place rival) where
   never : (place : ℕ) → is_rival group (account_at [] place) ≡ true → ⊥
   never place h = grind arith
 within-length group (x ∷ xs) zero rival = omega arith
 within-length group (x ∷ xs) (suc place) rival = omega (arith, within-length group xs place rival)
 
-more-most : (y : Account) (amount : ℕ) → (account_charged amount y).served ≤ y.served + amount
+more-most : (y : ShareAccount) (amount : ℕ) → (account_charged amount y).served ≤ y.served + amount
 more-most y amount = grind arith
 
 -- after a pick the lead is what it cost
 pub lead-after : (group place amount most : ℕ) (line : LineOf) → IsNextAccount group line.accounts place → amount ≤ most → (other : ℕ) → is_rival group (account_at line.accounts other) ≡ true →
     (account_at (charged place amount line).accounts place).served ≤ (account_at (charged place amount line).accounts other).served + most
 lead-after group place amount most line next few other rival =
-    let y : Account = account_at line.accounts place in
+    let y : ShareAccount = account_at line.accounts place in
     let after = set line.accounts place (account_charged amount y) in
     let own : account_at after place ≡ account_charged amount y = get_or-set_same line.accounts place (account_charged amount y) free_account (within-length group line.accounts place next.is_one) in
     let cost : (account_charged amount y).served ≤ y.served + amount = more-most y amount in
     let least : y.served ≤ (account_at line.accounts other).served = not-before (account_at line.accounts other) y (next.none_before other rival) in
-    let here : (account_at after place).served ≤ y.served + amount = omega (arith, ap (λ (a : Account). a.served) own, cost) in
+    let here : (account_at after place).served ≤ y.served + amount = omega (arith, ap (λ (a : ShareAccount). a.served) own, cost) in
     elim (nat_eq other place) as (λ b. nat_eq other place ≡ b → (account_at after place).served ≤ (account_at after other).served + most) [
       | true ↦ λ same. (let is : other ≡ place = eqb-true other place same in omega (arith, ap (λ (k : ℕ). (account_at after k).served) is))
       | false ↦ λ differs. (let stays = other-at line.accounts other place (account_charged amount y) (λ same. eqb-false other place differs (sym same)) in
-          omega (arith, here, least, few, ap (λ (a : Account). a.served) stays))
+          omega (arith, here, least, few, ap (λ (a : ShareAccount). a.served) stays))
     ] refl

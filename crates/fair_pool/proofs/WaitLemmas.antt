@@ -1,5 +1,5 @@
 -- Who waits comes next after those ahead of it.
-use Rattle.fair_pool.proofs.Common.{◌≡◌, ◌≢◌, ℕ, zero, suc, ◌+◌, ◌*◌, ◌<◌, ◌≤◌, Bool, true, false, List, [], ◌∷◌, set, sym, ◌∙◌, refl, ap, subst, arith, Option, Some, None, cond, unwrap_or, sum_by, get_or-set_other, sum_by-cons, Account, free_account, is_active, is_rival, is_before, capped_sum, account_charged, woken_from, rested, LineOf, account_at, lesser, least_from, floor_of, LineEvent, Comes, Wakes, Rests, Serves, Picks, line_after, place_in, IsFair, Waits, picks_in, tasks_in, IsEach, is_ahead, IsLeast}
+use Rattle.fair_pool.proofs.Common.{◌≡◌, ◌≢◌, ℕ, zero, suc, ◌+◌, ◌*◌, ◌<◌, ◌≤◌, Bool, true, false, List, [], ◌∷◌, set, sym, ◌∙◌, refl, ap, subst, arith, Option, Some, None, cond, unwrap_or, sum_by, get_or-set_other, sum_by-cons, ShareAccount, free_account, is_active, is_rival, is_before, capped_sum, account_charged, woken_from, rested, LineOf, account_at, lesser, least_from, floor_of, LineEvent, Comes, Wakes, Rests, Serves, Picks, line_after, place_in, IsFair, Waits, picks_in, tasks_in, IsEach, is_ahead, IsLeast}
 
 abbrev pub one : Bool → ℕ
 one b = cond b 1 0
@@ -14,14 +14,14 @@ few-tasks many since (Serves place amount ∷ events) each less = omega (arith, 
 few-tasks many since (Picks place amount ∷ events) each less = omega (arith, few-tasks many 0 events each (omega arith))
 
 -- one more is before
-charged-behind : (a b : Account) (amount : ℕ) → 0 < amount → a.served < 18446744073709551615 → a.served ≤ b.served → is_before a (account_charged amount b) ≡ true
+charged-behind : (a b : ShareAccount) (amount : ℕ) → 0 < amount → a.served < 18446744073709551615 → a.served ≤ b.served → is_before a (account_charged amount b) ≡ true
 charged-behind a b amount some few least = grind arith
 
-pub not-before : (a b : Account) → is_before a b ≡ false → b.served ≤ a.served
+pub not-before : (a b : ShareAccount) → is_before a b ≡ false → b.served ≤ a.served
 not-before a b is = grind arith
 
 -- a sum over the accounts after one has changed
-pub sum-set : (w : Account → ℕ) (xs : List Account) (place : ℕ) (y : Account) (k e : ℕ) → w free_account ≡ 0 → w y + k ≤ w (account_at xs place) + e → sum_by w (set xs place y) + k ≤ sum_by w xs + e
+pub sum-set : (w : ShareAccount → ℕ) (xs : List ShareAccount) (place : ℕ) (y : ShareAccount) (k e : ℕ) → w free_account ≡ 0 → w y + k ≤ w (account_at xs place) + e → sum_by w (set xs place y) + k ≤ sum_by w xs + e
 sum-set w [] place y k e none less =
     let same : sum_by w (set [] place y) ≡ 0 = refl in
     let zero-at : w (account_at [] place) ≡ 0 = none in omega arith
@@ -32,11 +32,11 @@ sum-set w (x ∷ xs) (suc place) y k e none less =
     let more : sum_by w (x ∷ set xs place y) + k ≤ sum_by w (x ∷ xs) + e = omega (arith, sum_by-cons w x xs, sum_by-cons w x (set xs place y)) in more
 
 -- what one account has at its place after another has changed
-pub other-at : (xs : List Account) (place other : ℕ) (y : Account) → other ≢ place → account_at (set xs other y) place ≡ account_at xs place
+pub other-at : (xs : List ShareAccount) (place other : ℕ) (y : ShareAccount) → other ≢ place → account_at (set xs other y) place ≡ account_at xs place
 other-at xs place other y differs = get_or-set_other xs other place y free_account (λ same. differs (sym same))
 
 -- the account at any place after one has changed is one of before, or the changed one
-pub any-at : (P : Account → Type 0) (xs : List Account) (place : ℕ) (y : Account) → ((other : ℕ) → P (account_at xs other)) → P y →
+pub any-at : (P : ShareAccount → Type 0) (xs : List ShareAccount) (place : ℕ) (y : ShareAccount) → ((other : ℕ) → P (account_at xs other)) → P y →
     (other : ℕ) → P (account_at (set xs place y) other)
 any-at P [] place y all new other = all other
 any-at P (x ∷ xs) zero y all new zero = new
@@ -54,7 +54,7 @@ lesser-least low count None less has = less
 lesser-least low count (Some n) less has = grind arith
 
 module _ (group low : ℕ) where
-  least-floor : (xs : List Account) (least : Option ℕ) → HasAtLeast low least →
+  least-floor : (xs : List ShareAccount) (least : Option ℕ) → HasAtLeast low least →
       ((other : ℕ) → is_rival group (account_at xs other) ≡ true → low ≤ (account_at xs other).served) → HasAtLeast low (least_from least group xs)
   least-floor [] least has all = has
   least-floor (x ∷ xs) least has all =
@@ -69,7 +69,7 @@ IsThere None = ⊥
 IsThere (Some n) = Unit {0}
 
 module _ (group : ℕ) where
-  least-stays : (xs : List Account) (n : ℕ) → IsThere (least_from (Some n) group xs)
+  least-stays : (xs : List ShareAccount) (n : ℕ) → IsThere (least_from (Some n) group xs)
   least-stays [] n = tt
   least-stays (x ∷ xs) n =
       elim (is_rival group x) as (λ b. IsThere (least_from (cond b (Some (lesser x.served (Some n))) (Some n)) group xs)) [
@@ -77,14 +77,14 @@ module _ (group : ℕ) where
         | false ↦ least-stays xs n
       ]
 
-  least-there : (xs : List Account) (least : Option ℕ) (place : ℕ) → is_rival group (account_at xs place) ≡ true → IsThere (least_from least group xs)
+  least-there : (xs : List ShareAccount) (least : Option ℕ) (place : ℕ) → is_rival group (account_at xs place) ≡ true → IsThere (least_from least group xs)
   least-there [] least place is = absurd (never place is) where
     never : (place : ℕ) → is_rival group (account_at [] place) ≡ true → ⊥
     never place h = grind arith
   least-there (x ∷ xs) least zero is = rw is (least-stays xs (lesser x.served least))
   least-there (x ∷ xs) least (suc place) is = least-there xs (cond (is_rival group x) (Some (lesser x.served least)) least) place is
 
-pub floor-least : (group low : ℕ) (xs : List Account) (place : ℕ) → is_rival group (account_at xs place) ≡ true →
+pub floor-least : (group low : ℕ) (xs : List ShareAccount) (place : ℕ) → is_rival group (account_at xs place) ≡ true →
     ((other : ℕ) → is_rival group (account_at xs other) ≡ true → low ≤ (account_at xs other).served) → low ≤ floor_of group xs
 floor-least group low xs place is all = of (least_from None group xs) (least-there group xs None place is) (least-floor group low xs None tt all) where
   of : (least : Option ℕ) → IsThere least → HasAtLeast low least → low ≤ unwrap_or least 0
@@ -92,31 +92,31 @@ floor-least group low xs place is all = of (least_from None group xs) (least-the
   of (Some n) there has = has
 
 -- an account of which this holds where it isn't active stays out
-out-of : (group : ℕ) (account : Account) (y : Account) → is_active y ≡ false → is_ahead group account y ≡ false
+out-of : (group : ℕ) (account : ShareAccount) (y : ShareAccount) → is_active y ≡ false → is_ahead group account y ≡ false
 out-of group account y rests = grind arith
 
 -- nothing comes before itself
-never-itself : (account : Account) → is_before account account ≡ false
+never-itself : (account : ShareAccount) → is_before account account ≡ false
 never-itself account = grind arith
 
-itself-ahead : (group : ℕ) (account : Account) → is_rival group account ≡ true → is_ahead group account account ≡ true
+itself-ahead : (group : ℕ) (account : ShareAccount) → is_rival group account ≡ true → is_ahead group account account ≡ true
 itself-ahead group account active = grind (arith, never-itself account)
 
 -- who counts is counted
-pub sum-one : (w : Account → ℕ) (xs : List Account) (place : ℕ) → w free_account ≡ 0 → w (account_at xs place) ≤ sum_by w xs
+pub sum-one : (w : ShareAccount → ℕ) (xs : List ShareAccount) (place : ℕ) → w free_account ≡ 0 → w (account_at xs place) ≤ sum_by w xs
 sum-one w [] place none = let zero-there : w (account_at [] place) ≡ 0 = ap w (never place) ∙ none in omega arith where
   never : (place : ℕ) → account_at [] place ≡ free_account
   never place = grind arith
 sum-one w (x ∷ xs) zero none = omega (arith, sum_by-cons w x xs)
 sum-one w (x ∷ xs) (suc place) none = omega (arith, sum_by-cons w x xs, sum-one w xs place none)
 
-abbrev ahead_one : ℕ → Account → Account → ℕ
+abbrev ahead_one : ℕ → ShareAccount → ShareAccount → ℕ
 ahead_one group account y = one (is_ahead group account y)
 
-none-ahead : (group : ℕ) (account : Account) → ahead_one group account free_account ≡ 0
+none-ahead : (group : ℕ) (account : ShareAccount) → ahead_one group account free_account ≡ 0
 none-ahead group account = refl
 
-module _ (group : ℕ) (account y : Account) where
+module _ (group : ℕ) (account y : ShareAccount) where
   -- after a task of somebody served at least as much: it isn't ahead where it wasn't
   task-ahead : (amount : ℕ) → account.served < 18446744073709551615 → (is_rival group y ≡ true → account.served ≤ y.served) → ahead_one group account (account_charged amount y) ≤ ahead_one group account y
   task-ahead amount few least = grind arith
@@ -150,21 +150,21 @@ line_woken line other active =
     let y = account_at line.accounts other in
     cond active line (record { accounts = set line.accounts other (woken_from (floor_of y.group line.accounts) line.turn y); turn = capped_sum line.turn 1 })
 
-module _ (group place : ℕ) (line : LineOf) (account : Account) (is : IsLeast group place line account) where
+module _ (group place : ℕ) (line : LineOf) (account : ShareAccount) (is : IsLeast group place line account) where
   -- the least stays the least after somebody else's account has changed to one that isn't active in the group or was served as much
-  least-set : (other : ℕ) (y : Account) (turn : ℕ) → other ≢ place → (is_rival group y ≡ true → account.served ≤ y.served) → line.turn ≤ turn →
+  least-set : (other : ℕ) (y : ShareAccount) (turn : ℕ) → other ≢ place → (is_rival group y ≡ true → account.served ≤ y.served) → line.turn ≤ turn →
       turn ≤ 18446744073709551615 → IsLeast group place (record { accounts = set line.accounts other y; turn = turn }) account
   least-set other y turn differs less later most = record {
     here = other-at line.accounts place other y differs ∙ is.here;
     active = is.active;
-    least = any-at (λ (a : Account). is_rival group a ≡ true → account.served ≤ a.served) line.accounts other y is.least less;
+    least = any-at (λ (a : ShareAccount). is_rival group a ≡ true → account.served ≤ a.served) line.accounts other y is.least less;
     since = omega (arith, is.since, later);
     turns = most;
     served = is.served;
   }
 
   -- the floor of its own group isn't lower
-  own-floor : (y : Account) → y.group ≡ group → account.served ≤ floor_of y.group line.accounts
+  own-floor : (y : ShareAccount) → y.group ≡ group → account.served ≤ floor_of y.group line.accounts
   own-floor y same = rw same (floor-least group account.served line.accounts place (ap (is_rival group) is.here ∙ is.active) is.least)
 
   -- what happens to others leaves the least the least
@@ -203,7 +203,7 @@ module _ (group place : ℕ) (line : LineOf) (account : Account) (is : IsLeast g
       sum-set (ahead_one group account) line.accounts other (account_charged amount y) 0 0 refl (omega (arith, task-ahead group account y amount is.served (is.least other)))
   ahead-after (Picks other amount) fair =
       let y = account_at line.accounts other in
-      let before = subst (λ (a : Account). is_before a y ≡ false) is.here (fair.0.none_before place (ap (is_rival group) is.here ∙ is.active)) in
+      let before = subst (λ (a : ShareAccount). is_before a y ≡ false) is.here (fair.0.none_before place (ap (is_rival group) is.here ∙ is.active)) in
       sum-set (ahead_one group account) line.accounts other (account_charged amount y) 1 0 refl
       (omega (arith, pick-ahead group account y amount is.served fair.1 fair.0.is_one (is.least other fair.0.is_one) before))
 
@@ -215,7 +215,7 @@ picks-cons (Serves place amount) events = omega arith
 picks-cons (Picks place amount) events = omega arith
 
 -- so the picks are fewer than those ahead, itself among them
-pub few-picks : (group place : ℕ) (line : LineOf) (account : Account) (events : List LineEvent) → IsLeast group place line account →
+pub few-picks : (group place : ℕ) (line : LineOf) (account : ShareAccount) (events : List LineEvent) → IsLeast group place line account →
     Waits group place line events → picks_in events < sum_by (ahead_one group account) line.accounts
 few-picks group place line account [] is waits =
     omega (arith, sum-one (ahead_one group account) line.accounts place (none-ahead group account), ap (ahead_one group account) is.here, ap one (itself-ahead group account is.active))

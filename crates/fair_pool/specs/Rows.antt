@@ -1,10 +1,10 @@
 -- Representation: small lines, and shares in which something happened.
 use Rattle.std.specs.Prelude.{ℕ, true, List, [], ◌∷◌}
-use Rattle.fair_pool.specs.declared.account.Account.{Account}
+use Rattle.fair_pool.specs.declared.account.ShareAccount.{ShareAccount}
 use Rattle.fair_pool.specs.Lines.{LineOf}
 use Rattle.fair_pool.specs.Shares.{SharesOf, new_shares, tenant_entered, tenant_seen, served_all}
 
-abbrev pub account : ℕ → ℕ → ℕ → ℕ → Account
+abbrev pub account : ℕ → ℕ → ℕ → ℕ → ShareAccount
 account name group served since = record { name = name; group = group; served = served; since = since }
 
 -- in group 0: one active since turn 3 that was served 50, one active since turn 2 that was served as much, one that isn't active and was
@@ -13,7 +13,7 @@ abbrev pub four : LineOf
 four = record { accounts = account 1 0 50 3 ∷ account 2 0 50 2 ∷ account 3 0 10 0 ∷ account 4 1 0 1 ∷ []; turn = 4 }
 
 -- what each was served
-abbrev pub counts : List Account → List ℕ
+abbrev pub counts : List ShareAccount → List ℕ
 counts [] = []
 counts (account ∷ accounts) = account.served ∷ counts accounts
 

@@ -1,6 +1,6 @@
 -- Meaning: who shares a pool: customers, the networks of each, and the tenants of each network.
 use Rattle.std.specs.Prelude.{ℕ, ◌+◌, ◌-◌, ◌≡◌, ◌==◌, Bool, false, ◌||◌, ◌⊎◌, List, Option, Some, None, if◌then◌else◌, replicate, slice_index, slice_set}
-use Rattle.fair_pool.specs.declared.account.Account.{Account}
+use Rattle.fair_pool.specs.declared.account.ShareAccount.{ShareAccount}
 use Rattle.fair_pool.specs.Accounts.{free_account, is_active, is_rival, capped_sum}
 use Rattle.fair_pool.specs.Lines.{LineOf, IsNextAccount, empty_line, account_at, has_rival, has_member, woken, rested_at, charged, put_at, joined, joined_place}
 
@@ -17,7 +17,7 @@ abbrev pub new_shares : ℕ → SharesOf
 new_shares many = record { customers = empty_line; networks = empty_line; tenants = empty_line; kept = replicate many 0 }
 
 -- the tenant at a place, the place of its network, and that of its customer
-abbrev pub tenant_in_place : SharesOf → ℕ → Account
+abbrev pub tenant_in_place : SharesOf → ℕ → ShareAccount
 tenant_in_place shares place = account_at shares.tenants.accounts place
 
 abbrev pub network_at : SharesOf → ℕ → ℕ
@@ -34,7 +34,7 @@ pub record IsPick (shares : SharesOf) (place : ℕ) : Type 0 where
   pub tenant : IsNextAccount (network_at shares place) shares.tenants.accounts place
 
 -- nobody of a group is active
-abbrev pub HasNone : ℕ → List Account → Type 0
+abbrev pub HasNone : ℕ → List ShareAccount → Type 0
 HasNone group accounts = (place : ℕ) → is_rival group (account_at accounts place) ≡ false
 
 -- nobody comes next: no customer is active, or the next one has no active network, or its next network has no active tenant
@@ -55,7 +55,7 @@ woken_all place shares =
     }
 
 -- the line after the account at a place has rested, unless somebody of the line below is active in its group
-abbrev pub rested_unless : ℕ → List Account → LineOf → LineOf
+abbrev pub rested_unless : ℕ → List ShareAccount → LineOf → LineOf
 rested_unless place below line = if has_rival place below then line else rested_at place line
 
 -- after a tenant has no ready frame any more: it isn't active, and with it its network and its customer, where nobody of them is

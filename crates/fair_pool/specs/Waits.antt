@@ -1,13 +1,13 @@
 -- Meaning: what happens to a line, one after another, while somebody waits in it.
 use Rattle.std.specs.Prelude.{ℕ, ◌+◌, ◌≡◌, ◌≢◌, ◌==◌, ◌<◌, ◌≤◌, Bool, true, false, ◌&&◌, not, List, [], ◌∷◌, if◌then◌else◌}
-use Rattle.fair_pool.specs.declared.account.Account.{Account}
+use Rattle.fair_pool.specs.declared.account.ShareAccount.{ShareAccount}
 use Rattle.fair_pool.specs.Accounts.{is_active, is_rival, is_before, rested}
 use Rattle.fair_pool.specs.Lines.{LineOf, IsNextAccount, account_at, woken, rested_at, charged, put_at}
 
 -- what happens to a line: another account comes to a place, which isn't active yet (a free place's where somebody goes); the account at a
 -- place becomes active, or isn't any more; somebody's task is done, which costs so much; or the task of one that was picked
 pub data LineEvent : Type 0 where
-  Comes : ℕ → Account → LineEvent
+  Comes : ℕ → ShareAccount → LineEvent
   Wakes : ℕ → LineEvent
   Rests : ℕ → LineEvent
   Serves : ℕ → ℕ → LineEvent
@@ -71,12 +71,12 @@ IsEach many since (Serves place amount ∷ events) = (since + 1 < many) × IsEac
 IsEach many since (Picks place amount ∷ events) = IsEach many 0 events
 
 -- whether the second is active in the group, and the first doesn't come before it
-abbrev pub is_ahead : ℕ → Account → Account → Bool
+abbrev pub is_ahead : ℕ → ShareAccount → ShareAccount → Bool
 is_ahead group first second = is_rival group second && not (is_before first second)
 
 -- whoever is at the place is active in the group, was served no more than anybody active there, became active before this turn, and may be
 -- served more
-pub record IsLeast (group place : ℕ) (line : LineOf) (account : Account) : Type 0 where
+pub record IsLeast (group place : ℕ) (line : LineOf) (account : ShareAccount) : Type 0 where
   pub here : account_at line.accounts place ≡ account
   pub active : is_rival group account ≡ true
   pub least : (other : ℕ) → is_rival group (account_at line.accounts other) ≡ true → account.served ≤ (account_at line.accounts other).served
@@ -85,7 +85,7 @@ pub record IsLeast (group place : ℕ) (line : LineOf) (account : Account) : Typ
   pub served : account.served < 18446744073709551615
 
 -- whether somebody is at this account's place, of the group
-abbrev pub is_member : ℕ → Account → Bool
+abbrev pub is_member : ℕ → ShareAccount → Bool
 is_member group account = (if account.name == 0 then false else true) && (account.group == group)
 
 -- how many come to the group
@@ -98,7 +98,7 @@ arrivals_in group (Serves place amount ∷ events) = arrivals_in group events
 arrivals_in group (Picks place amount ∷ events) = arrivals_in group events
 
 -- whoever is at the place is active in the group, and was served at most so much more than anybody active there; who is active is somebody
-pub record IsLed (group place lead : ℕ) (line : LineOf) (account : Account) : Type 0 where
+pub record IsLed (group place lead : ℕ) (line : LineOf) (account : ShareAccount) : Type 0 where
   pub here : account_at line.accounts place ≡ account
   pub active : is_rival group account ≡ true
   pub led : (other : ℕ) → is_rival group (account_at line.accounts other) ≡ true → account.served ≤ (account_at line.accounts other).served + lead

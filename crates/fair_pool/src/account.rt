@@ -3,7 +3,7 @@ ghost use Rattle.fair_pool.specs.Accounts.{free_account, is_active, is_rival, is
 
 /// What is kept of one that shares with others: of a tenant, of a network, or of a customer.
 #[derive(Clone, Copy, Debug)]
-pub struct Account {
+pub struct ShareAccount {
     /// Who it is, from 1 on; 0 where the place is free.
     pub name: u64,
     /// The group in which it shares.
@@ -14,12 +14,12 @@ pub struct Account {
     pub since: u64,
 }
 
-impl Account {
+impl ShareAccount {
     /// A free place's.
-    pub(crate) fn nobody() -> Account
+    pub(crate) fn nobody() -> ShareAccount
         ensures { result ≡ free_account }
     {
-        Account {
+        ShareAccount {
             name: 0,
             group: 0,
             served: 0,
@@ -42,27 +42,27 @@ impl Account {
     }
 
     /// Whether it comes before the other: it was served less, or as much and it became active earlier.
-    pub(crate) fn is_before(self, other: Account) -> bool
+    pub(crate) fn is_before(self, other: ShareAccount) -> bool
         ensures { result ≡ is_before self other }
     {
         self.served < other.served || (self.served == other.served && self.since < other.since)
     }
 
     /// After it was served so much more.
-    pub(crate) fn with_more(self, amount: u64) -> Account
+    pub(crate) fn with_more(self, amount: u64) -> ShareAccount
         ensures { result ≡ account_charged amount self }
     {
-        Account {
+        ShareAccount {
             served: capped_sum(self.served, amount),
             ..self
         }
     }
 
     /// Active since this turn, served as much as it was, or as this floor where that is more.
-    pub(crate) fn woken_from(self, floor: u64, turn: u64) -> Account
+    pub(crate) fn woken_from(self, floor: u64, turn: u64) -> ShareAccount
         ensures { result ≡ woken_from floor turn self }
     {
-        Account {
+        ShareAccount {
             served: if self.served < floor {
                 floor
             } else {
@@ -74,10 +74,10 @@ impl Account {
     }
 
     /// No more active.
-    pub(crate) fn rested(self) -> Account
+    pub(crate) fn rested(self) -> ShareAccount
         ensures { result ≡ rested self }
     {
-        Account { since: 0, ..self }
+        ShareAccount { since: 0, ..self }
     }
 }
 

@@ -3,7 +3,7 @@
 //! whoever comes meanwhile. One that is active all along waits for k tasks for each unit that it was served more than the least active,
 //! times the others that are there or come.
 ghost use Rattle.std.specs.Prelude.{◌≡◌, ◌≢◌, ℕ, ◌+◌, ◌*◌, ◌<◌, ◌≤◌, List, count_by, true};
-ghost use Rattle.fair_pool.specs.declared.account.Account.{Account};
+ghost use Rattle.fair_pool.specs.declared.account.ShareAccount.{ShareAccount};
 ghost use Rattle.fair_pool.specs.Accounts.{is_active, is_rival};
 ghost use Rattle.fair_pool.specs.Lines.{LineOf, IsNextAccount, account_at, charged};
 ghost use Rattle.fair_pool.specs.Waits.{LineEvent, Waits, IsEach, IsLeast, IsLed, is_ahead, is_member, picks_in, tasks_in, arrivals_in};
@@ -13,9 +13,9 @@ ghost use Rattle.fair_pool.specs.Waits.{LineEvent, Waits, IsEach, IsLeast, IsLed
 /// that are active and that it doesn't come before, itself among them; and where of so many tasks one is a pick, the tasks until then
 /// are fewer than so many times these.
 pub fn who_is_least_is_picked_soon()
-    ensures picks { (group place : ℕ) (line : LineOf) (account : Account) (events : List LineEvent) → IsLeast group place line account → Waits group place line events →
+    ensures picks { (group place : ℕ) (line : LineOf) (account : ShareAccount) (events : List LineEvent) → IsLeast group place line account → Waits group place line events →
         picks_in events < count_by (is_ahead group account) line.accounts }
-    ensures tasks { (group place many : ℕ) (line : LineOf) (account : Account) (events : List LineEvent) → IsLeast group place line account → Waits group place line events →
+    ensures tasks { (group place many : ℕ) (line : LineOf) (account : ShareAccount) (events : List LineEvent) → IsLeast group place line account → Waits group place line events →
         0 < many → IsEach many 0 events → tasks_in events < many * count_by (is_ahead group account) line.accounts }
 {}
 
@@ -26,9 +26,9 @@ pub fn who_is_least_is_picked_soon()
 /// After a pick its lead is at most what that task cost. So where no task costs more than this, one that is picked again and again
 /// waits for its next pick for a number of tasks that only this, the others and the number of tasks to a pick determine.
 pub fn who_is_ready_is_picked()
-    ensures picks { (group place lead others : ℕ) (line : LineOf) (account : Account) (events : List LineEvent) → IsLed group place lead line account → Waits group place line events →
+    ensures picks { (group place lead others : ℕ) (line : LineOf) (account : ShareAccount) (events : List LineEvent) → IsLed group place lead line account → Waits group place line events →
         count_by (is_member group) line.accounts + arrivals_in group events ≡ others + 1 → picks_in events ≤ (lead + 1) * others }
-    ensures tasks { (group place lead others many : ℕ) (line : LineOf) (account : Account) (events : List LineEvent) → IsLed group place lead line account → Waits group place line events →
+    ensures tasks { (group place lead others many : ℕ) (line : LineOf) (account : ShareAccount) (events : List LineEvent) → IsLed group place lead line account → Waits group place line events →
         count_by (is_member group) line.accounts + arrivals_in group events ≡ others + 1 → 0 < many → IsEach many 0 events → tasks_in events < many * ((lead + 1) * others + 1) }
     ensures lead { (group place amount most : ℕ) (line : LineOf) → IsNextAccount group line.accounts place → amount ≤ most → (other : ℕ) → is_rival group (account_at line.accounts other) ≡ true →
         (account_at (charged place amount line).accounts place).served ≤ (account_at (charged place amount line).accounts other).served + most }

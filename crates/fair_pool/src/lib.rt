@@ -43,11 +43,11 @@ pub mod rows;
 mod shares;
 mod worker;
 
-pub use account::Account;
+pub use account::ShareAccount;
 pub use hands::Hands;
 pub use held::{HeldHall, steps};
 pub use picks::{charge, fair_task};
-pub use pool::{PoolEnd, PoolFault, run_pool};
+pub use pool::{FairPoolEnd, FairPoolFault, run_pool};
 pub use rhythm::Rhythm;
 pub use shares::FairShare;
 pub use worker::{Site, run_worker};

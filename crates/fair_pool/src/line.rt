@@ -1,10 +1,10 @@
 //! A line of accounts: who shares something in some group, and who comes next there.
 ghost use Rattle.std.specs.Prelude.{◌≡◌, ℕ, ◌+◌, ◌<◌, List, IfOk, IfNone, IfSome, false};
-ghost use Rattle.fair_pool.specs.declared.account.Account.{Account};
+ghost use Rattle.fair_pool.specs.declared.account.ShareAccount.{ShareAccount};
 ghost use Rattle.fair_pool.specs.Accounts.{is_rival};
 ghost use Rattle.fair_pool.specs.Lines.{empty_line, account_at, has_rival, IsNextAccount, IsBestBelow, lesser, least_served, woken, rested_at, charged, put_at, account_place, place_named, place_among, joined_place, joined, has_member};
 
-use crate::account::{Account, capped_sum};
+use crate::account::{ShareAccount, capped_sum};
 use std::alloc::{AllocError, Global};
 use std::marker::Model;
 
@@ -13,15 +13,15 @@ pub(crate) const PLACES: usize = 64;
 
 /// 64 accounts by their places, and the turn at which the next one becomes active.
 #[derive(Drop)]
-pub(crate) struct Line {
-    accounts: Vec<Account>,
+pub(crate) struct ShareLine {
+    accounts: Vec<ShareAccount>,
     /// The accounts' names, side by side. A charge writes to no name, so that the search for one finds all of them in the cache of any
     /// processor, where the accounts are in that of the processor that charged last.
     names: Vec<u64>,
     turn: u64,
 }
 
-impl Model for Line {
+impl Model for ShareLine {
     ghost use Rattle.std.specs.Prelude.{◌≡◌, length};
     ghost use Rattle.fair_pool.specs.Lines.{LineOf, account_names};
 
@@ -32,18 +32,18 @@ impl Model for Line {
     ghost invariant = { λ l. (length l.accounts.items ≡ 64) × (l.names.items ≡ account_names l.accounts.items) };
 }
 
-impl Line {
+impl ShareLine {
     /// A line whose places are all free. Err where the allocator refuses its memory.
-    pub(crate) fn new(alloc: Global) -> Result<Line, AllocError>
+    pub(crate) fn new(alloc: Global) -> Result<ShareLine, AllocError>
         ensures { IfOk result (λ line. line ≡ empty_line) }
     {
         let mut accounts = Vec::with_capacity(alloc, PLACES)?;
         let mut names = Vec::with_capacity(alloc, PLACES)?;
         for _place in 0..PLACES {
-            accounts.push_reserved(Account::nobody());
+            accounts.push_reserved(ShareAccount::nobody());
             names.push_reserved(0);
         }
-        Ok(Line {
+        Ok(ShareLine {
             accounts,
             names,
             turn: 1,
@@ -51,13 +51,13 @@ impl Line {
     }
 
     /// The account at a place.
-    pub(crate) fn at(&self, place: usize) -> Account
+    pub(crate) fn at(&self, place: usize) -> ShareAccount
         ensures { result ≡ account_at self.now.accounts place }
     {
         if place < self.accounts.len() {
             self.accounts[place]
         } else {
-            Account::nobody()
+            ShareAccount::nobody()
         }
     }
 
@@ -120,7 +120,7 @@ impl Line {
             return Some(place);
         }
         let place = self.place_of(0, 0)?;
-        let account = Account {
+        let account = ShareAccount {
             name,
             group,
             served,
@@ -158,7 +158,7 @@ impl Line {
     }
 
     /// Another account comes to a place.
-    pub(crate) fn put(&mut self, place: usize, account: Account)
+    pub(crate) fn put(&mut self, place: usize, account: ShareAccount)
         ensures { self.new ≡ put_at place account self.old }
     {
         if place < self.accounts.len() {
@@ -171,7 +171,7 @@ impl Line {
 }
 
 /// The place of who comes next in a group; None where nobody is active there.
-fn next_in(accounts: &[Account], group: usize) -> Option<usize>
+fn next_in(accounts: &[ShareAccount], group: usize) -> Option<usize>
     ensures next { IfSome result (IsNextAccount group accounts.now) }
     ensures none { IfNone result ((other : ℕ) → is_rival group (account_at accounts.now other) ≡ false) }
 {
@@ -187,12 +187,12 @@ fn next_in(accounts: &[Account], group: usize) -> Option<usize>
 
 /// The better of the best so far and the account at a place.
 fn better(
-    best: Option<(usize, Account)>,
+    best: Option<(usize, ShareAccount)>,
     group: usize,
     place: usize,
-    account: Account,
-) -> Option<(usize, Account)>
-    ensures { (accounts : List Account) → account ≡ account_at accounts place → IsBestBelow group accounts place best → IsBestBelow group accounts (place + 1) result }
+    account: ShareAccount,
+) -> Option<(usize, ShareAccount)>
+    ensures { (accounts : List ShareAccount) → account ≡ account_at accounts place → IsBestBelow group accounts place best → IsBestBelow group accounts (place + 1) result }
 {
     if !account.is_rival(group) {
         return best;
@@ -210,7 +210,7 @@ fn better(
 }
 
 /// Whether some account of a group is active.
-fn has_rival(accounts: &[Account], group: usize) -> bool
+fn has_rival(accounts: &[ShareAccount], group: usize) -> bool
     ensures { result ≡ has_rival group accounts.now }
 {
     for account in accounts {
@@ -222,7 +222,7 @@ fn has_rival(accounts: &[Account], group: usize) -> bool
 }
 
 /// Whether an account that isn't a free place's is of a group.
-fn has_member(accounts: &[Account], group: usize) -> bool
+fn has_member(accounts: &[ShareAccount], group: usize) -> bool
     ensures { result ≡ has_member group accounts.now }
 {
     for account in accounts {
@@ -244,7 +244,7 @@ fn lesser(count: u64, other: Option<u64>) -> u64
 }
 
 /// The least that was served to one active in a group.
-fn least_served(accounts: &[Account], group: usize) -> Option<u64>
+fn least_served(accounts: &[ShareAccount], group: usize) -> Option<u64>
     ensures { result ≡ least_served group accounts.now }
 {
     let mut least = None;
@@ -257,7 +257,7 @@ fn least_served(accounts: &[Account], group: usize) -> Option<u64>
 }
 
 /// The first place whose account has this name in this group.
-fn place_of(accounts: &[Account], group: usize, name: u64) -> Option<usize>
+fn place_of(accounts: &[ShareAccount], group: usize, name: u64) -> Option<usize>
     ensures { result ≡ account_place group name accounts.now }
 {
     for (place, account) in accounts.iter().enumerate() {

@@ -24,7 +24,7 @@ const ROOM: usize = 1_024;
 
 /// Why no pool ran. The site is closed then, and the workers that were started have ended.
 #[derive(Clone, Copy, Debug, PartialEq, Eq, Error)]
-pub enum PoolFault {
+pub enum FairPoolFault {
     /// There was no memory for the deques of tasks, or for the threads' handles. No worker was started.
     #[error("out of memory")]
     OutOfMemory,
@@ -35,7 +35,7 @@ pub enum PoolFault {
 
 /// What a pool ends with.
 #[derive(Drop)]
-pub struct PoolEnd<B> {
+pub struct FairPoolEnd<B> {
     /// How many workers it had.
     pub workers: usize,
     /// All workers' badges, joined.
@@ -64,7 +64,7 @@ type Handle<B> = PromisedHandle<(B, DequeEnds), SameEnds>;
 /// All memory that a pool takes at its start: its workers' deque ends, the room for those that come back, and the room for the threads'
 /// handles.
 #[derive(Drop)]
-struct Stock<B> {
+struct FairStock<B> {
     dealt: Vec<DequeEnds>,
     back: Returned,
     handles: Vec<Handle<B>>,
@@ -76,16 +76,16 @@ struct Stock<B> {
     ghost handle_room: { vec_len dealt ≤ vec_capacity handles },
 }
 
-impl<B> Stock<B> {
+impl<B> FairStock<B> {
     /// The memory for the workers 1 to `last`. `Err` only where memory is refused.
-    fn made(alloc: Global, last: Worker) -> Result<Stock<B>, AllocError>
+    fn made(alloc: Global, last: Worker) -> Result<FairStock<B>, AllocError>
         ensures { IfOk result (λ stock. vec_len stock.dealt ≡ last) }
     {
         let dealt = deal(alloc, last, ROOM)?;
         let many = dealt.len();
         let back = Returned::with_room(alloc, many)?;
         let handles = Vec::with_capacity(alloc, many)?;
-        Ok(Stock {
+        Ok(FairStock {
             dealt,
             back,
             handles,
@@ -104,7 +104,7 @@ struct Crew<'s, E, S, R> {
 
 /// What the workers of a pool leave when they have ended: their badges, joined, and the ends of all deques.
 #[derive(Drop)]
-struct Worked<B> {
+struct FairWorked<B> {
     badge: B,
     back: Returned,
     ghost whole: { IsWhole (map posts_of (returned back)) },
@@ -119,12 +119,12 @@ pub fn run_pool<S: Site + Sync, R: Threads + Wait + Sync>(
     site: &S,
     workers: Worker,
     stack: Option<usize>,
-) -> Result<PoolEnd<S::Badge>, PoolFault>
+) -> Result<FairPoolEnd<S::Badge>, FairPoolFault>
     ensures { IfOk result (λ end. end.workers ≡ workers) }
 {
-    let Ok(stock) = Stock::made(alloc, workers) else {
+    let Ok(stock) = FairStock::made(alloc, workers) else {
         site.close(rt);
-        return Err(PoolFault::OutOfMemory);
+        return Err(FairPoolFault::OutOfMemory);
     };
     let worked = thread::scope(thread::scope_env(), rt, move |scope| {
         let crew = Crew {
@@ -145,15 +145,15 @@ pub fn run_pool<S: Site + Sync, R: Threads + Wait + Sync>(
 /// the site, waits for the workers that it started, and returns the fault.
 fn run_all<'s, E, S: Site + Sync, R: Threads + Wait + Sync>(
     crew: &Crew<'s, E, S, R>,
-    stock: Stock<S::Badge>,
-) -> Result<Worked<S::Badge>, PoolFault>
+    stock: FairStock<S::Badge>,
+) -> Result<FairWorked<S::Badge>, FairPoolFault>
     ensures { IfOk result (λ worked. length (returned worked.back) ≡ vec_len stock.dealt) }
 {
     let Some(own) = crew.site.badge(crew.rt) else {
         crew.site.close(crew.rt);
-        return Err(PoolFault::NoThread);
+        return Err(FairPoolFault::NoThread);
     };
-    let Stock {
+    let FairStock {
         dealt,
         back,
         handles,
@@ -166,7 +166,7 @@ fn run_all<'s, E, S: Site + Sync, R: Threads + Wait + Sync>(
     }
     let badge = join_all::<S, R>(crew.rt, own, handles, &mut back);
     match started {
-        Ok(()) => Ok(Worked { badge, back }),
+        Ok(()) => Ok(FairWorked { badge, back }),
         Err(fault) => Err(fault),
     }
 }
@@ -177,7 +177,7 @@ fn start_all<'s, E, S: Site + Sync, R: Wait + Sync>(
     crew: &Crew<'s, E, S, R>,
     dealt: Vec<DequeEnds>,
     handles: &mut Vec<Handle<S::Badge>>,
-) -> Result<(), PoolFault>
+) -> Result<(), FairPoolFault>
     requires none { vec_len handles.old ≡ 0 }
     requires room { vec_len dealt ≤ vec_capacity handles.old }
     requires few { vec_len dealt ≤ 32 }
@@ -188,7 +188,7 @@ fn start_all<'s, E, S: Site + Sync, R: Wait + Sync>(
     for ends in dealt {
         number += 1;
         let Some(worker) = Worker::new(number) else {
-            return Err(PoolFault::NoThread);
+            return Err(FairPoolFault::NoThread);
         };
         let handle = start(crew, worker, ends)?;
         handles.push_reserved(handle);
@@ -202,7 +202,7 @@ fn start<'s, E, S: Site + Sync, R: Wait + Sync>(
     crew: &Crew<'s, E, S, R>,
     worker: Worker,
     ends: DequeEnds,
-) -> Result<Handle<S::Badge>, PoolFault>
+) -> Result<Handle<S::Badge>, FairPoolFault>
     ensures { IfOk result (λ handle. posts handle.promise.0.value ≡ posts ends) }
 {
     let Crew {
@@ -212,7 +212,7 @@ fn start<'s, E, S: Site + Sync, R: Wait + Sync>(
         stack,
     } = *crew;
     let Some(badge) = site.badge(rt) else {
-        return Err(PoolFault::NoThread);
+        return Err(FairPoolFault::NoThread);
     };
     let thread = match stack {
         Some(size) => Stack::new().stack_size(size),
@@ -221,7 +221,7 @@ fn start<'s, E, S: Site + Sync, R: Wait + Sync>(
     let promise = SameEnds(Snapshot::of(&ends));
     match thread.spawn_scoped_with(scope, promise, move || work(rt, site, worker, badge, ends)) {
         Ok(handle) => Ok(handle),
-        Err(_) => Err(PoolFault::NoThread),
+        Err(_) => Err(FairPoolFault::NoThread),
     }
 }
 
@@ -261,16 +261,16 @@ fn join_all<S: Site, R: Threads>(
 }
 
 /// What a pool ends with, by what its workers left.
-fn end_of<B>(worked: Worked<B>) -> PoolEnd<B>
+fn end_of<B>(worked: FairWorked<B>) -> FairPoolEnd<B>
     ensures workers { result.workers ≡ length (returned worked.back) }
     ensures pushed { result.pushed ≡ sum_by (λ deque. length deque.tally.pushed) (whole_deques (returned worked.back)) }
     ensures taken { result.taken ≡ sum_by (λ deque. length deque.tally.taken) (whole_deques (returned worked.back)) }
     ensures each_once { All IsAccounted (whole_deques (returned worked.back)) }
 {
-    let Worked { badge, back } = worked;
+    let FairWorked { badge, back } = worked;
     let workers = back.count();
     let sums = back.sums();
-    PoolEnd {
+    FairPoolEnd {
         workers,
         badge,
         pushed: sums.pushed,

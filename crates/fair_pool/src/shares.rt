@@ -29,17 +29,17 @@ ghost use Rattle.fair_pool.specs.Accounts.{free_account};
 ghost use Rattle.fair_pool.specs.Lines.{account_at, place_named};
 ghost use Rattle.fair_pool.specs.Shares.{new_shares, tenant_in_place, IsPick, IsNobody, woken_all, rested_all, tenant_seen, served_all, tenant_entered, entered_place, customer_freed, network_freed, left_all};
 
-use crate::account::{Account, capped_sum};
-use crate::line::Line;
+use crate::account::{ShareAccount, capped_sum};
+use crate::line::ShareLine;
 use std::alloc::{AllocError, Global};
 use std::marker::Model;
 
 /// Who shares a pool: up to 64 tenants, each of a network of a customer, and what each of these was served.
 #[derive(Drop)]
 pub struct FairShare {
-    customers: Line,
-    networks: Line,
-    tenants: Line,
+    customers: ShareLine,
+    networks: ShareLine,
+    tenants: ShareLine,
     kept: Vec<u64>,
 }
 
@@ -63,9 +63,9 @@ impl FairShare {
             kept.push_reserved(0);
         }
         Ok(FairShare {
-            customers: Line::new(alloc)?,
-            networks: Line::new(alloc)?,
-            tenants: Line::new(alloc)?,
+            customers: ShareLine::new(alloc)?,
+            networks: ShareLine::new(alloc)?,
+            tenants: ShareLine::new(alloc)?,
             kept,
         })
     }
@@ -99,7 +99,7 @@ impl FairShare {
         let network = tenant.group;
         let customer = self.networks.at(network).group;
         self.rest(place);
-        self.tenants.put(place, Account::nobody());
+        self.tenants.put(place, ShareAccount::nobody());
         self.free_network(network, customer);
     }
 
@@ -195,7 +195,7 @@ impl FairShare {
         if self.tenants.has_member(network) {
             return;
         }
-        self.networks.put(network, Account::nobody());
+        self.networks.put(network, ShareAccount::nobody());
         self.free_customer(customer);
     }
 
@@ -210,6 +210,6 @@ impl FairShare {
         if number < self.kept.len() {
             self.kept[number] = account.served;
         }
-        self.customers.put(place, Account::nobody());
+        self.customers.put(place, ShareAccount::nobody());
     }
 }

@@ -1,5 +1,5 @@
 -- Acts and their windows.
-use Rattle.jamboree.proofs.Common.{◌≡◌, ℕ, ◌+◌, ◌<◌, ◌^◌, ◌==◌, ◌&&◌, nat_lt, nat_le, Bool, true, false, ℤ, pos, negsuc, neg_ℤ, ◌+ℤ◌, ◌-ℤ◌, ◌≤ℤ◌, List, [], ◌∷◌, length, slice_index, slice_index_or, slice_get, unwrap_or, Option, Some, bit_and, refl, to_z, of_z, w32, sym, ◌∙◌, ap, arith, ints, eq-eqb, unwrap_or-slice_get, Cell, cells_of, Choice, Pass, choices, after, Act, Continuation, Frame, board, choice_at, own_word, opp_word, Spawned, Status, pairs_of, spawns, opening_on, first_search, tests, tests_from, act_by, act_of, own-is, opp-is, View, Role, Test, role_number, map, cond_both, Square, plies, Low, changes_by, changes_of, frame_in, int_le, int_lt, kind_by, kind_of, floor, seen}
+use Rattle.jamboree.proofs.Common.{◌≡◌, ℕ, ◌+◌, ◌<◌, ◌^◌, ◌==◌, ◌&&◌, nat_lt, nat_le, Bool, true, false, ℤ, pos, negsuc, neg_ℤ, ◌+ℤ◌, ◌-ℤ◌, ◌≤ℤ◌, List, [], ◌∷◌, length, slice_index, slice_index_or, slice_get, unwrap_or, Option, Some, bit_and, refl, to_z, of_z, w32, sym, ◌∙◌, ap, arith, ints, eq-eqb, unwrap_or-slice_get, Cell, cells_of, Choice, Pass, choices, after, Act, Continuation, Frame, board, choice_at, own_word, opp_word, Spawned, Status, pairs_of, spawns, opening_on, first_search, tests, tests_from, act_by, act_of, own-is, opp-is, FrameView, Role, Test, role_number, map, cond_both, Square, plies, Low, changes_by, changes_of, frame_in, int_le, int_lt, kind_by, kind_of, floor, seen}
 use Rattle.std.proofs.Common.{suc}
 
 -- what a call says of a score: whose it is, and its range
@@ -17,17 +17,17 @@ seen-wide r s score = omega (arith, ints)
 floor-wide : (r s : ℤ) → IsScore (pos 200000) r s → as_i32 r ≡ s
 floor-wide r s score = omega (arith, ints)
 
-beta-wide : (v : View) → as_i32 v.goal.beta ≡ v.goal.beta
+beta-wide : (v : FrameView) → as_i32 v.goal.beta ≡ v.goal.beta
 beta-wide v = omega (arith, ints)
 
-pub best-wide : (v : View) → as_i32 v.best ≡ v.best
+pub best-wide : (v : FrameView) → as_i32 v.best ≡ v.best
 best-wide v = omega (arith, ints)
 
 -- and so are minus alpha, beta, the floor and one more than that
-pub negated-alpha : (v : View) → as_i32 (pos 0 -ℤ as_i32 v.goal.alpha) ≡ neg_ℤ v.goal.alpha
+pub negated-alpha : (v : FrameView) → as_i32 (pos 0 -ℤ as_i32 v.goal.alpha) ≡ neg_ℤ v.goal.alpha
 negated-alpha v = omega (arith, ints)
 
-pub negated-beta : (v : View) → as_i32 (pos 0 -ℤ as_i32 v.goal.beta) ≡ neg_ℤ v.goal.beta
+pub negated-beta : (v : FrameView) → as_i32 (pos 0 -ℤ as_i32 v.goal.beta) ≡ neg_ℤ v.goal.beta
 negated-beta v = omega (arith, ints)
 
 pub negated-floor : (r s : ℤ) → IsScore (pos 200000) r s → as_i32 (pos 0 -ℤ as_i32 r) ≡ neg_ℤ s
@@ -86,7 +86,7 @@ by-tests : (f c : Frame) (stores : List (ℕ × ℕ)) (cuts test low higher : Bo
     stores ≡ pairs_of (changes_of f c)
 by-tests f c stores cuts test low higher a b d e is = rw (a, b, d, e) is
 
-module _ (v w : View) (r : ℤ) (score : IsScore (pos 1000000) r (seen (frame_in w))) (stores : List (ℕ × ℕ)) where
+module _ (v w : FrameView) (r : ℤ) (score : IsScore (pos 1000000) r (seen (frame_in w))) (stores : List (ℕ × ℕ)) where
   reaches : (t : Bool) → int_le (as_i32 v.goal.beta) (as_i32 r) ≡ t → int_le v.goal.beta (seen (frame_in w)) ≡ t
   reaches t h = rw (beta-wide v, seen-wide r _ score) at h
 
@@ -112,11 +112,11 @@ module _ (v w : View) (r : ℤ) (score : IsScore (pos 1000000) r (seen (frame_in
       by-tests (frame_in v) (frame_in w) stores false false _ higher (reaches false under) (other-role w.role other) refl
       (rw (floor-wide m _ above, seen-wide r _ score) at h) (e true)
 
-pub is-low : (w : View) (r s : ℤ) (low : Bool) → IsScore (pos 1000000) r s → int_le (as_i32 r) (as_i32 (pos 0 -ℤ as_i32 w.goal.beta)) ≡ low →
+pub is-low : (w : FrameView) (r s : ℤ) (low : Bool) → IsScore (pos 1000000) r s → int_le (as_i32 r) (as_i32 (pos 0 -ℤ as_i32 w.goal.beta)) ≡ low →
     low ≡ int_le s (neg_ℤ w.goal.beta)
 is-low w r s low score h = sym (rw (seen-wide r s score, negated-beta w) at h)
 
-pub is-high : (w : View) (r s : ℤ) (high : Bool) → IsScore (pos 1000000) r s → int_le (as_i32 (pos 0 -ℤ as_i32 w.goal.alpha)) (as_i32 r) ≡ high →
+pub is-high : (w : FrameView) (r s : ℤ) (high : Bool) → IsScore (pos 1000000) r s → int_le (as_i32 (pos 0 -ℤ as_i32 w.goal.alpha)) (as_i32 r) ≡ high →
     high ≡ int_le (neg_ℤ w.goal.alpha) s
 is-high w r s high score h = sym (rw (seen-wide r s score, negated-alpha w) at h)
 

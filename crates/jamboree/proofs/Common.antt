@@ -49,11 +49,11 @@ pub use Rattle.jamboree.specs.Numbers.{frame_by, phase_number, role_number}
 pub use Rattle.jamboree.specs.Plans.{act_for}
 pub use Rattle.jamboree.specs.Replies.{table_of}
 pub use Rattle.jamboree.specs.Views.{entries_in, entries_of, frame_from, frame_in, frame_with, head_of, rests_in, statuses_in}
-pub use Rattle.jamboree.specs.declared.entry.Known.{Known}
-pub use Rattle.jamboree.specs.declared.frame.View.{View}
+pub use Rattle.jamboree.specs.declared.entry.KnownBound.{KnownBound}
+pub use Rattle.jamboree.specs.declared.frame.FrameView.{FrameView}
 pub use Rattle.jamboree.specs.declared.phases.Phase.{Phase}
 pub use Rattle.jamboree.specs.declared.phases.Role.{Role}
 pub use Rattle.jamboree.specs.declared.phases.Role.TheVariants.{Test}
-pub use Rattle.jamboree.specs.declared.plan.Plan.TheVariants.{Ends, Waits}
+pub use Rattle.jamboree.specs.declared.plan.FramePlan.TheVariants.{Ends, Waits}
 pub use Rattle.jamboree.specs.declared.reply.Reply.{Reply}
 pub use Rattle.jamboree.specs.declared.view.Head.{Head}

@@ -1,5 +1,5 @@
 -- What a job keeps of a returned root.
-use Rattle.jamboree.proofs.Common.{◌≡◌, ℕ, zero, suc, ◌<◌, ◌≤◌, ◌==◌, Bool, true, false, List, [], ◌∷◌, length, drop, Option, Some, None, find, All, IfSome, cond, if◌then◌else◌, refl, sym, ◌∙◌, ap, subst, arith, lt-ltb, length-map, length-drop, take_all, All-head, All-tail, Cell, Choice, Square, Pass, choices, IsAllowed, choices_allowed, minimax, best_choice, choice_value, int_equal, best_choice-leaf, best_choice-deeper, HasReturned, entered, IsTable, Frame, board, coded, entry_rest, frame_of, are_entries, is_formed, bounds_of, AreFitting, IsRoot, IsKeptRoot, IsFormed, formed-told, entered-few, root_value, root-whole, decoded, nat_le, map, slice_index, slice_index_or, slice_get, and_parts, length-take, Bound, status_of, is_rest, is_entry, bounds_in, Known, known_of, bound_by, bounds_by, cells, rests_in, table_of, Reply}
+use Rattle.jamboree.proofs.Common.{◌≡◌, ℕ, zero, suc, ◌<◌, ◌≤◌, ◌==◌, Bool, true, false, List, [], ◌∷◌, length, drop, Option, Some, None, find, All, IfSome, cond, if◌then◌else◌, refl, sym, ◌∙◌, ap, subst, arith, lt-ltb, length-map, length-drop, take_all, All-head, All-tail, Cell, Choice, Square, Pass, choices, IsAllowed, choices_allowed, minimax, best_choice, choice_value, int_equal, best_choice-leaf, best_choice-deeper, HasReturned, entered, IsTable, Frame, board, coded, entry_rest, frame_of, are_entries, is_formed, bounds_of, AreFitting, IsRoot, IsKeptRoot, IsFormed, formed-told, entered-few, root_value, root-whole, decoded, nat_le, map, slice_index, slice_index_or, slice_get, and_parts, length-take, Bound, status_of, is_rest, is_entry, bounds_in, KnownBound, known_of, bound_by, bounds_by, cells, rests_in, table_of, Reply}
 use Rattle.std.specs.Prelude.{take}
 
 found-by : {A : Type 0} (P : A → Type 0) (passes : Bool) (c : A) (more : Option A) → P c → IfSome more P → IfSome (cond passes (Some c) more) P
@@ -74,7 +74,7 @@ rest-at es i rest are inside e =
     ap is_rest e ∙ (and_parts (nat_le (status_of (slice_index es i)) 4) (is_rest (entry_rest (slice_index es i))) (entry-at es i are inside)).1
 
 -- what the first entries say
-abbrev pub said_by : List ℕ → List Known
+abbrev pub said_by : List ℕ → List KnownBound
 said_by es = map known_of (map entry_rest es)
 
 -- the bounds of choices by what their rests say
@@ -83,7 +83,7 @@ bounds-said (c ∷ cs) (rest ∷ rests) = ap (λ (more : List Bound). bound_by c
 bounds-said cs rests = grind arith
 
 -- the bound with a number
-pub bound-at : (cs : List Choice) (ks : List Known) (n i : ℕ) (c : Choice) (d : Known) → slice_get cs i ≡ Some c → i < n → n ≤ length ks →
+pub bound-at : (cs : List Choice) (ks : List KnownBound) (n i : ℕ) (c : Choice) (d : KnownBound) → slice_get cs i ≡ Some c → i < n → n ≤ length ks →
     Some (bound_by c (slice_index_or ks i d)) ≡ slice_get (bounds_by cs (take n ks)) i
 bound-at (e ∷ cs) (k ∷ ks) (suc n) (suc i) c d got below few = bound-at cs ks n i c d got (omega arith) (omega arith)
 bound-at cs ks n i c d got below few = grind arith
@@ -95,21 +95,21 @@ bound-holds P (e ∷ bs) zero b all got = subst P (cc) (All-head P e bs all)
 bound-holds P (e ∷ bs) (suc i) b all got = bound-holds P bs i b (All-tail P e bs all) got
 
 -- the bounds that are read of a frame's words
-pub table-read : (cs : List Choice) (es w : List ℕ) (ks : List Known) → ks ≡ said_by es → es ≡ drop 12 w → bounds_by cs ks ≡ bounds_in cs (rests_in w)
+pub table-read : (cs : List Choice) (es w : List ℕ) (ks : List KnownBound) → ks ≡ said_by es → es ≡ drop 12 w → bounds_by cs ks ≡ bounds_in cs (rests_in w)
 table-read cs es w ks read is = ap (bounds_by cs) read ∙ bounds-said cs (map entry_rest es) ∙ ap (λ (xs : List ℕ). bounds_in cs (map entry_rest xs)) is
 
 -- there are no more bounds than is known of
-bounds-few : (cs : List Choice) (ks : List Known) → length (bounds_by cs ks) ≤ length ks
+bounds-few : (cs : List Choice) (ks : List KnownBound) → length (bounds_by cs ks) ≤ length ks
 bounds-few (c ∷ cs) (k ∷ ks) = let more : length (bounds_by cs ks) ≤ length ks = bounds-few cs ks in omega (arith, more)
 bounds-few cs ks = grind arith
 
 -- where the bounds of a table are read of so many places, these are there
-places-held : (depth : ℕ) (b : List Cell) (ks : List Known) (n : ℕ) → IsTable depth b (bounds_by (choices b) (take n ks)) →
+places-held : (depth : ℕ) (b : List Cell) (ks : List KnownBound) (n : ℕ) → IsTable depth b (bounds_by (choices b) (take n ks)) →
     n ≡ length (entered depth b) → n ≤ length ks
 places-held depth b ks n table counted = grind (arith, length-map, bounds-few, length-take)
 
 -- the bound with a number of a reply's table
-pub bound-of : (reply : Reply) (i : ℕ) (c : Choice) (d : Known) (bound : Bound) → bound ≡ bound_by c (slice_index_or reply.known i d) →
+pub bound-of : (reply : Reply) (i : ℕ) (c : Choice) (d : KnownBound) (bound : Bound) → bound ≡ bound_by c (slice_index_or reply.known i d) →
     slice_get (choices (cells reply.board)) i ≡ Some c → i < reply.count → Some bound ≡ slice_get (table_of reply) i
 bound-of reply i c d bound is got below =
     let room = places-held reply.depth (cells reply.board) reply.known reply.count reply.table reply.counted in

@@ -6,8 +6,8 @@ use Rattle.jamboree_rules.specs.sched_rules.declared.act.Continuation.TheVariant
 use Rattle.jamboree_rules.specs.Acts.{returns, opening}
 use Rattle.jamboree_rules.specs.Places.{Phase, Spawned, Status, pairs_of, given_words, frame_size}
 use Rattle.jamboree.specs.declared.plan.NewChild.{NewChild}
-use Rattle.jamboree.specs.declared.plan.Plan.{Plan}
-use Rattle.jamboree.specs.declared.plan.Plan.TheVariants.{Returns, Waits, Computes, Ends, Computed, Counts, Starts, Again}
+use Rattle.jamboree.specs.declared.plan.FramePlan.{FramePlan}
+use Rattle.jamboree.specs.declared.plan.FramePlan.TheVariants.{Returns, Waits, Computes, Ends, Computed, Counts, Starts, Again}
 use Rattle.jamboree.specs.Numbers.{role_number}
 
 -- what an act does after its stores, where it opens this child
@@ -15,7 +15,7 @@ abbrev pub spawn_of : NewChild → Continuation
 spawn_of c = Spawn (given_words c.goal.depth c.goal.alpha c.goal.beta (role_number c.role) c.number) frame_size
 
 -- the act that a plan stands for (phase 4 is done; status 1 runs, 4 is searched again)
-abbrev pub act_for : Plan → Act
+abbrev pub act_for : FramePlan → Act
 act_for Returns = returns
 act_for Waits = record { stores = []; after = Wait }
 act_for Computes = record { stores = []; after = Compute }

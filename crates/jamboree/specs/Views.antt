@@ -1,7 +1,7 @@
 -- Representation: the typed view of a frame's words: which frame it stands for.
 use Rattle.std.specs.Prelude.{ℕ, zero, suc, ◌*◌, List, [], map, drop, take, slice_index}
 use Rattle.jamboree.specs.declared.view.Head.{Head}
-use Rattle.jamboree.specs.declared.frame.View.{View}
+use Rattle.jamboree.specs.declared.frame.FrameView.{FrameView}
 use Rattle.jamboree_rules.specs.Frames.{Frame}
 use Rattle.jamboree_rules.specs.Places.{score_of, status_of, entry_rest}
 use Rattle.jamboree.specs.Numbers.{frame_by}
@@ -55,11 +55,11 @@ abbrev pub rests_in : List ℕ → List ℕ
 rests_in words = map entry_rest (entries_of words)
 
 -- the frame that a view shows, where its choices have these entries
-abbrev pub frame_with : View → List ℕ → Frame
+abbrev pub frame_with : FrameView → List ℕ → Frame
 frame_with v entries = frame_by v.board.own v.board.opp v.goal.depth v.goal.alpha v.goal.beta v.role v.number v.phase v.best v.choice v.count v.spawned (map status_of entries) (map entry_rest entries)
 
 -- the frame that a view shows, without entries: for what doesn't depend on them
-abbrev pub frame_in : View → Frame
+abbrev pub frame_in : FrameView → Frame
 frame_in v = frame_with v []
 
 -- the entries of choices in the segment of this number, of 16 words each: in segment 0 they are the four after

@@ -9,8 +9,8 @@ use crate::codes::NONE;
 use crate::entry::PackedBound;
 use crate::inlet_plan::{ChildBound, InletPlan, SettledChoice, Verdict};
 use crate::phases::{Phase, Status};
-use crate::plan::{NewChild, Plan};
-use crate::view::{Change, set, spawn};
+use crate::plan::{FramePlan, NewChild};
+use crate::view::{FrameChange, set, spawn};
 use jamboree_rules::leaf_search::INF;
 use jamboree_rules::sched_rules::{Act, Continuation, InletAct, Stores};
 use othello_board::Board;
@@ -24,58 +24,58 @@ impl NewChild {
         ensures stores { stores.new ≡ stores.old ++ pairs_of (ToStatus self.now.number (status_number status) rest.word ∷ []) }
         ensures after { result ≡ spawn_of self.now }
     {
-        set(stores, Change::Status(self.number, status, rest));
+        set(stores, FrameChange::Status(self.number, status, rest));
         spawn(self)
     }
 }
 
-impl Plan {
+impl FramePlan {
     /// The act that carries out the plan: what the frame stores, and what it does after that.
     #[inline(always)]
     pub(crate) fn act(self) -> Act
         ensures { result ≡ act_for self }
     {
         match self {
-            Plan::Returns => return without_stores(Continuation::Return),
-            Plan::Waits => return without_stores(Continuation::Wait),
-            Plan::Computes => return without_stores(Continuation::Compute),
-            Plan::Ends => {
+            FramePlan::Returns => return without_stores(Continuation::Return),
+            FramePlan::Waits => return without_stores(Continuation::Wait),
+            FramePlan::Computes => return without_stores(Continuation::Compute),
+            FramePlan::Ends => {
                 let mut stores = Stores::new();
-                set(&mut stores, Change::Phase(Phase::Done));
+                set(&mut stores, FrameChange::Phase(Phase::Done));
                 return Act {
                     stores,
                     after: Continuation::Return,
                 };
             }
-            Plan::Computed(board) => {
+            FramePlan::Computed(board) => {
                 let mut stores = Stores::new();
                 set_board(&mut stores, board);
-                set(&mut stores, Change::Phase(Phase::Computing));
+                set(&mut stores, FrameChange::Phase(Phase::Computing));
                 return Act {
                     stores,
                     after: Continuation::Compute,
                 };
             }
-            Plan::Counts(board, count) => {
+            FramePlan::Counts(board, count) => {
                 let mut stores = Stores::new();
                 set_board(&mut stores, board);
-                set(&mut stores, Change::Phase(Phase::First));
-                set(&mut stores, Change::Best(-INF));
-                set(&mut stores, Change::Chosen(NONE));
-                set(&mut stores, Change::Count(count));
-                set(&mut stores, Change::Spawned(0));
+                set(&mut stores, FrameChange::Phase(Phase::First));
+                set(&mut stores, FrameChange::Best(-INF));
+                set(&mut stores, FrameChange::Chosen(NONE));
+                set(&mut stores, FrameChange::Count(count));
+                set(&mut stores, FrameChange::Spawned(0));
                 return Act {
                     stores,
                     after: Continuation::Grow(count),
                 };
             }
-            Plan::Starts(child, rest) => {
+            FramePlan::Starts(child, rest) => {
                 let mut stores = Stores::new();
-                set(&mut stores, Change::Spawned(child.number + 1));
+                set(&mut stores, FrameChange::Spawned(child.number + 1));
                 let after = child.open(&mut stores, Status::Runs, rest);
                 return Act { stores, after };
             }
-            Plan::Again(child, rest) => {
+            FramePlan::Again(child, rest) => {
                 let mut stores = Stores::new();
                 let after = child.open(&mut stores, Status::RunsAgain, rest);
                 return Act { stores, after };
@@ -90,8 +90,8 @@ fn set_board(stores: &mut Stores, board: Board)
     requires { length stores.old ≤ 6 }
     ensures { stores.new ≡ stores.old ++ pairs_of (OwnBits board.own ∷ OppBits board.opp ∷ []) }
 {
-    set(stores, Change::OwnBits(board.own));
-    set(stores, Change::OppBits(board.opp));
+    set(stores, FrameChange::OwnBits(board.own));
+    set(stores, FrameChange::OppBits(board.opp));
 }
 
 /// Adds, at the end of the stores, those for a choice that is settled: the frame's best score, its best choice where
@@ -101,14 +101,14 @@ fn settle(stores: &mut Stores, told: SettledChoice, code: Option<u64>)
     requires { length stores.old ≤ 5 }
     ensures { stores.new ≡ stores.old ++ settled told code }
 {
-    set(stores, Change::Best(told.best));
+    set(stores, FrameChange::Best(told.best));
     if let Some(code) = code {
-        set(stores, Change::Chosen(code));
+        set(stores, FrameChange::Chosen(code));
     }
     let rest = told.said.rest();
     set(
         stores,
-        Change::Status(told.said.number, Status::Settled, rest),
+        FrameChange::Status(told.said.number, Status::Settled, rest),
     );
 }
 
@@ -145,21 +145,21 @@ impl Verdict {
             Verdict::Failed(said) => {
                 set(
                     &mut stores,
-                    Change::Status(said.number, Status::Failed, said.rest()),
+                    FrameChange::Status(said.number, Status::Failed, said.rest()),
                 );
             }
             Verdict::Low(told) => settle(&mut stores, told, None),
             Verdict::Kept(told) => {
                 settle(&mut stores, told, None);
-                set(&mut stores, Change::Phase(Phase::Tests));
+                set(&mut stores, FrameChange::Phase(Phase::Tests));
             }
             Verdict::Raised(told, code) => {
                 settle(&mut stores, told, Some(code));
-                set(&mut stores, Change::Phase(Phase::Tests));
+                set(&mut stores, FrameChange::Phase(Phase::Tests));
             }
             Verdict::Ended(told, code) => {
                 settle(&mut stores, told, Some(code));
-                set(&mut stores, Change::Phase(Phase::Done));
+                set(&mut stores, FrameChange::Phase(Phase::Done));
             }
         }
         stores

@@ -15,7 +15,7 @@ use jamboree_rules::othello_eval::BoundKind;
 
 /// What is known of a choice: a score, and what that says of the value of the choice.
 #[derive(Clone, Copy, Debug, PartialEq, Eq)]
-pub(crate) struct Known {
+pub(crate) struct KnownBound {
     pub(crate) score: i32,
     pub(crate) kind: BoundKind,
 }
@@ -38,7 +38,7 @@ impl PackedBound {
 
     /// The rest with this kind and this score.
     #[inline(always)]
-    pub(crate) fn saying(known: Known) -> PackedBound
+    pub(crate) fn saying(known: KnownBound) -> PackedBound
         requires low { negsuc 999999 ≤ℤ known.score }
         requires high { known.score ≤ℤ pos 1000000 }
         ensures { result.word ≡ rest_with known.kind known.score }
@@ -50,11 +50,11 @@ impl PackedBound {
 
     /// The kind and the score in a rest that is valid (`is_rest`). Where it is 0 nothing is known, and what is
     /// returned means nothing.
-    pub(crate) fn known(self) -> Known
+    pub(crate) fn known(self) -> KnownBound
         requires { is_rest self.word ≡ true }
         ensures { result ≡ known_of self.word }
     {
-        Known {
+        KnownBound {
             score: score_of_word(self.word / 4),
             kind: kind_of_number(self.word % 4),
         }

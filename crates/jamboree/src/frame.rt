@@ -19,7 +19,7 @@ pub(crate) struct Goal {
 
 /// A frame: what its first twelve words say.
 #[derive(Drop)]
-pub(crate) struct View {
+pub(crate) struct FrameView {
     /// The board, seen by the player to move. A child in phase `New` has none yet: both words are 0.
     pub(crate) board: Board,
     /// The remaining depth, and the window.

@@ -10,8 +10,8 @@ ghost use Rattle.jamboree.specs.InletPlans.{inlet_for, stores_for, rest_said};
 ghost use Rattle.jamboree.specs.Views.{frame_in};
 
 use crate::codes::code_at;
-use crate::entry::Known;
-use crate::frame::View;
+use crate::entry::KnownBound;
+use crate::frame::FrameView;
 use crate::inlet_plan::{ChildBound, InletPlan, SettledChoice, Verdict};
 use crate::next::floor;
 use crate::phases::Role;
@@ -30,7 +30,7 @@ pub(crate) fn wakes() -> InletPlan
 
 /// The score of a child, seen from the parent.
 #[inline(always)]
-fn seen(child: &View) -> i32
+fn seen(child: &FrameView) -> i32
     ensures value { result ≡ seen (frame_in child.now) }
     ensures low { negsuc 199999 ≤ℤ result }
     ensures high { result ≤ℤ pos 1000000 }
@@ -42,7 +42,7 @@ fn seen(child: &View) -> i32
 /// -alpha of the child. A score at or below that window is an upper bound of the value (`Low`), one at or above
 /// it a lower bound (`High`), and one inside it is the value (`Exact`).
 #[inline(always)]
-fn kind_of(child: &View) -> BoundKind
+fn kind_of(child: &FrameView) -> BoundKind
     ensures { result ≡ kind_of (neg_ℤ child.now.goal.beta) (neg_ℤ child.now.goal.alpha) (seen (frame_in child.now)) }
 {
     let score = seen(child);
@@ -57,7 +57,7 @@ fn kind_of(child: &View) -> BoundKind
 
 /// The greater of the frame's best score and the child's score.
 #[inline(always)]
-fn best_of(frame: &View, child: &View) -> i32
+fn best_of(frame: &FrameView, child: &FrameView) -> i32
     ensures value { result ≡ int_max frame.now.best (seen (frame_in child.now)) }
     ensures low { negsuc 199999 ≤ℤ result }
     ensures high { result ≤ℤ pos 1000000 }
@@ -67,7 +67,7 @@ fn best_of(frame: &View, child: &View) -> i32
 
 /// The number of the child's choice among those of the frame.
 #[inline(always)]
-fn number_of(frame: &View, child: &View) -> usize
+fn number_of(frame: &FrameView, child: &FrameView) -> usize
     requires { may_be_child (frame_in frame.now) (frame_in child.now) ≡ true }
     ensures value { result ≡ child.now.number }
     ensures inside { result < length (choices (cells frame.now.board)) }
@@ -79,7 +79,7 @@ fn number_of(frame: &View, child: &View) -> usize
 /// What the inlet of `frame` does about a child that has returned. A score of at least beta ends the frame and
 /// aborts all else below it.
 #[inline(always)]
-pub(crate) fn takes_in(frame: &View, child: &View) -> InletPlan
+pub(crate) fn takes_in(frame: &FrameView, child: &FrameView) -> InletPlan
     requires { may_be_child (frame_in frame.now) (frame_in child.now) ≡ true }
     ensures { inlet_for result ≡ inlet_of (frame_in frame.now) (frame_in child.now) }
 {
@@ -91,7 +91,7 @@ pub(crate) fn takes_in(frame: &View, child: &View) -> InletPlan
 
 /// What the frame does about the child's score, by the child's role.
 #[inline(always)]
-fn verdict_of(frame: &View, child: &View) -> Verdict
+fn verdict_of(frame: &FrameView, child: &FrameView) -> Verdict
     requires { may_be_child (frame_in frame.now) (frame_in child.now) ≡ true }
     ensures { stores_for result ≡ pairs_of (changes_of (frame_in frame.now) (frame_in child.now)) }
 {
@@ -120,7 +120,7 @@ fn verdict_of(frame: &View, child: &View) -> Verdict
 /// The verdict on a score of at least beta: it becomes the frame's best score, the child's choice becomes the
 /// frame's, and the frame is done.
 #[inline(always)]
-fn ended(frame: &View, child: &View) -> Verdict
+fn ended(frame: &FrameView, child: &FrameView) -> Verdict
     requires { may_be_child (frame_in frame.now) (frame_in child.now) ≡ true }
     ensures { (test low higher : Bool) → stores_for result ≡ pairs_of (changes_by true test low higher (frame_in frame.now) (frame_in child.now)) }
 {
@@ -132,7 +132,7 @@ fn ended(frame: &View, child: &View) -> Verdict
 
 /// The number of the child's choice, and what the child's score says of it.
 #[inline(always)]
-fn said(frame: &View, child: &View) -> ChildBound
+fn said(frame: &FrameView, child: &FrameView) -> ChildBound
     requires { may_be_child (frame_in frame.now) (frame_in child.now) ≡ true }
     ensures number { result.number ≡ child.now.number }
     ensures inside { result.number < length (choices (cells frame.now.board)) }
@@ -143,14 +143,14 @@ fn said(frame: &View, child: &View) -> ChildBound
     let kind = kind_of(child);
     ChildBound {
         number,
-        known: Known { score, kind },
+        known: KnownBound { score, kind },
     }
 }
 
 /// What the child says of its choice, and the frame's best score from then on: the greater of its own and the
 /// child's.
 #[inline(always)]
-fn told(frame: &View, child: &View) -> SettledChoice
+fn told(frame: &FrameView, child: &FrameView) -> SettledChoice
     requires { may_be_child (frame_in frame.now) (frame_in child.now) ≡ true }
     ensures best { result.best ≡ int_max frame.now.best (seen (frame_in child.now)) }
     ensures number { result.said.number ≡ child.now.number }
@@ -164,7 +164,7 @@ fn told(frame: &View, child: &View) -> SettledChoice
 
 /// The verdict on a test whose score isn't above its window: its choice is settled.
 #[inline(always)]
-fn low(frame: &View, child: &View) -> Verdict
+fn low(frame: &FrameView, child: &FrameView) -> Verdict
     requires { may_be_child (frame_in frame.now) (frame_in child.now) ≡ true }
     ensures { (higher : Bool) → stores_for result ≡ pairs_of (changes_by false true true higher (frame_in frame.now) (frame_in child.now)) }
 {
@@ -173,7 +173,7 @@ fn low(frame: &View, child: &View) -> Verdict
 
 /// The verdict on a test whose score is above its window: it has failed, as the choice is worth more.
 #[inline(always)]
-fn failed(frame: &View, child: &View) -> Verdict
+fn failed(frame: &FrameView, child: &FrameView) -> Verdict
     requires { may_be_child (frame_in frame.now) (frame_in child.now) ≡ true }
     ensures { (higher : Bool) → stores_for result ≡ pairs_of (changes_by false true false higher (frame_in frame.now) (frame_in child.now)) }
 {
@@ -183,7 +183,7 @@ fn failed(frame: &View, child: &View) -> Verdict
 /// The verdict on a full search whose score is above the floor: that is the best score, and its choice the
 /// frame's.
 #[inline(always)]
-fn raised(frame: &View, child: &View) -> Verdict
+fn raised(frame: &FrameView, child: &FrameView) -> Verdict
     requires { may_be_child (frame_in frame.now) (frame_in child.now) ≡ true }
     ensures { (low : Bool) → stores_for result ≡ pairs_of (changes_by false false low true (frame_in frame.now) (frame_in child.now)) }
 {
@@ -195,7 +195,7 @@ fn raised(frame: &View, child: &View) -> Verdict
 /// The verdict on a full search whose score isn't above the floor: its choice is settled, and the frame's choice
 /// stays.
 #[inline(always)]
-fn kept(frame: &View, child: &View) -> Verdict
+fn kept(frame: &FrameView, child: &FrameView) -> Verdict
     requires { may_be_child (frame_in frame.now) (frame_in child.now) ≡ true }
     ensures { (low : Bool) → stores_for result ≡ pairs_of (changes_by false false low false (frame_in frame.now) (frame_in child.now)) }
 {

@@ -1,14 +1,14 @@
 //! What an inlet does, as a small value: the inlet's act, which is large, is made of it once, at the end.
 ghost use Rattle.std.specs.Prelude.{◌≤◌, ◌≤ℤ◌, pos, negsuc};
 
-use crate::entry::Known;
+use crate::entry::KnownBound;
 
 /// What a returned child tells its parent: the number of the choice that it searched, and what is known of that choice
 /// by the child's score.
 #[derive(Drop)]
 pub(crate) struct ChildBound {
     pub(crate) number: usize,
-    pub(crate) known: Known,
+    pub(crate) known: KnownBound,
     ghost few: { number ≤ 64 },
     ghost low: { negsuc 199999 ≤ℤ known.score },
     ghost high: { known.score ≤ℤ pos 1000000 },

@@ -9,9 +9,9 @@ ghost use Rattle.jamboree.specs.Plans.{act_for, spawn_of};
 ghost use Rattle.jamboree.specs.Views.{frame_in, frame_with, entries_of, statuses_in};
 
 use crate::entry::PackedBound;
-use crate::frame::{Goal, View};
+use crate::frame::{FrameView, Goal};
 use crate::phases::{Phase, Role};
-use crate::plan::{NewChild, Plan};
+use crate::plan::{FramePlan, NewChild};
 use crate::statuses::{first_open, has_failed, rest_at};
 use cactus_stack::Words;
 use othello_board::Board;
@@ -21,21 +21,21 @@ use othello_moves::{after, choice, choice_count, plies};
 /// worker computes it by itself; else it gets an entry for each of its choices. At a depth within the grain its
 /// choices aren't looked for.
 #[inline(always)]
-pub(crate) fn opening(grain: u8, frame: &View, board: Board) -> Plan
+pub(crate) fn opening(grain: u8, frame: &FrameView, board: Board) -> FramePlan
     ensures { act_for result ≡ opening_on grain (frame_in frame.now) board.own board.opp }
 {
     if frame.goal.depth <= grain {
-        return Plan::Computed(board);
+        return FramePlan::Computed(board);
     }
     match choice_count(board) {
-        0 => Plan::Computed(board),
-        count => Plan::Counts(board, count),
+        0 => FramePlan::Computed(board),
+        count => FramePlan::Counts(board, count),
     }
 }
 
 /// The greater of alpha and the best score: only a choice that is worth more still matters.
 #[inline(always)]
-pub(crate) fn floor(frame: &View) -> i32
+pub(crate) fn floor(frame: &FrameView) -> i32
     ensures value { result ≡ floor (frame_in frame.now) }
     ensures low { negsuc 199999 ≤ℤ result }
     ensures high { result ≤ℤ pos 200000 }
@@ -47,7 +47,7 @@ pub(crate) fn floor(frame: &View) -> i32
 /// board, so where there are more the choice isn't looked up.
 #[inline(always)]
 #[tactic(auto, using(crate::proofs::ActLemmas::square_of_more))]
-fn plies_of(frame: &View, number: usize) -> u8
+fn plies_of(frame: &FrameView, number: usize) -> u8
     requires choices { frame.now.count ≡ length (choices (cells frame.now.board)) }
     requires inside { number < frame.now.count }
     ensures value { result ≡ plies (choice_at (frame_in frame.now) number) }
@@ -61,7 +61,7 @@ fn plies_of(frame: &View, number: usize) -> u8
 
 /// A new child that searches the choice of this number, in this role and with this window.
 #[inline(always)]
-fn child(frame: &View, role: Role, number: usize, alpha: i32, beta: i32) -> NewChild
+fn child(frame: &FrameView, role: Role, number: usize, alpha: i32, beta: i32) -> NewChild
     requires deep { 0 < frame.now.goal.depth }
     requires choices { frame.now.count ≡ length (choices (cells frame.now.board)) }
     requires inside { number < frame.now.count }
@@ -88,14 +88,14 @@ fn child(frame: &View, role: Role, number: usize, alpha: i32, beta: i32) -> NewC
 /// waits for that child.
 #[inline(always)]
 #[tactic(auto, using(crate::proofs::Rules::first_search_rules))]
-fn first_search(frame: &View, words: &Words) -> Plan
+fn first_search(frame: &FrameView, words: &Words) -> FramePlan
     requires deep { 0 < frame.now.goal.depth }
     requires choices { frame.now.count ≡ length (choices (cells frame.now.board)) }
     requires some { 0 < frame.now.count }
     ensures { act_for result ≡ first_search (frame.now.spawned == 0) (frame_with frame.now (entries_of words.now)) }
 {
     if frame.spawned != 0 {
-        return Plan::Waits;
+        return FramePlan::Waits;
     }
     let child = child(
         frame,
@@ -104,14 +104,14 @@ fn first_search(frame: &View, words: &Words) -> Plan
         -frame.goal.beta,
         -frame.goal.alpha,
     );
-    Plan::Starts(child, rest_at(words, 0))
+    FramePlan::Starts(child, rest_at(words, 0))
 }
 
 /// What a frame does while its later choices are tested. Where the first choice that isn't settled has failed its
 /// test, it is searched again; else the next choice is tested, if there is one; else the frame is done, or waits
 /// for a child where a choice isn't settled.
 #[inline(always)]
-fn tests(frame: &View, words: &Words) -> Plan
+fn tests(frame: &FrameView, words: &Words) -> FramePlan
     requires deep { 0 < frame.now.goal.depth }
     requires choices { frame.now.count ≡ length (choices (cells frame.now.board)) }
     requires entries { length words.now ≡ 12 + frame.now.count }
@@ -126,28 +126,28 @@ fn tests(frame: &View, words: &Words) -> Plan
         return test(frame, frame.spawned, rest_at(words, frame.spawned));
     }
     if frame.count <= open {
-        return Plan::Ends;
+        return FramePlan::Ends;
     }
-    Plan::Waits
+    FramePlan::Waits
 }
 
 /// Searches the choice of this number again, with the window from the floor to beta. What its entry says of its
 /// value stays.
 #[inline(always)]
-fn search_again(frame: &View, number: usize, rest: PackedBound) -> Plan
+fn search_again(frame: &FrameView, number: usize, rest: PackedBound) -> FramePlan
     requires deep { 0 < frame.now.goal.depth }
     requires choices { frame.now.count ≡ length (choices (cells frame.now.board)) }
     requires inside { number < frame.now.count }
     ensures { (more all : Bool) (entries : List ℕ) → rest.word ≡ rest_at (frame_with frame.now entries) number → act_for result ≡ tests true more all (frame_with frame.now entries) number }
 {
     let child = child(frame, Role::Again, number, -frame.goal.beta, -floor(frame));
-    Plan::Again(child, rest)
+    FramePlan::Again(child, rest)
 }
 
 /// Tests the next choice, with the window of width one just above the floor. What its entry says of its value
 /// stays.
 #[inline(always)]
-fn test(frame: &View, number: usize, rest: PackedBound) -> Plan
+fn test(frame: &FrameView, number: usize, rest: PackedBound) -> FramePlan
     requires deep { 0 < frame.now.goal.depth }
     requires choices { frame.now.count ≡ length (choices (cells frame.now.board)) }
     requires next { number ≡ (frame_in frame.now).spawned }
@@ -156,28 +156,28 @@ fn test(frame: &View, number: usize, rest: PackedBound) -> Plan
 {
     let floor = floor(frame);
     let child = child(frame, Role::Test, number, -(floor + 1), -floor);
-    Plan::Starts(child, rest)
+    FramePlan::Starts(child, rest)
 }
 
 /// What a frame that isn't new does next, by its phase. `words` are all of its words. One that is done returns.
 #[inline(always)]
-pub(crate) fn later(frame: &View, words: &Words) -> Plan
+pub(crate) fn later(frame: &FrameView, words: &Words) -> FramePlan
     requires later { (frame_in frame.now).phase ≢ 0 }
     requires entries { length words.now ≡ 12 + frame.now.count }
     ensures { (grain : ℕ) (parent : Option Frame) → act_for result ≡ act_of grain (frame_with frame.now (entries_of words.now)) parent }
 {
     match frame.phase {
-        Phase::Computing => Plan::Computes,
+        Phase::Computing => FramePlan::Computes,
         Phase::First => first_search(frame, words),
         Phase::Tests => tests(frame, words),
-        Phase::New | Phase::Done => Plan::Returns,
+        Phase::New | Phase::Done => FramePlan::Returns,
     }
 }
 
 /// What a root does next; `words` are all of its words. Whatever the grain, one worker computes it by itself only at
 /// depth 0 or where the game is over; else it gets an entry for each choice at its first act.
 #[inline(always)]
-pub(crate) fn of_root(grain: u8, frame: &View, words: &Words) -> Plan
+pub(crate) fn of_root(grain: u8, frame: &FrameView, words: &Words) -> FramePlan
     requires { length words.now ≡ 12 + frame.now.count }
     ensures { act_for result ≡ act_of grain (frame_with frame.now (entries_of words.now)) None }
 {
@@ -189,7 +189,7 @@ pub(crate) fn of_root(grain: u8, frame: &View, words: &Words) -> Plan
 
 /// The board of a new child of this parent: the parent's board after the child's choice.
 #[inline(always)]
-pub(crate) fn board_under(frame: &View, parent: &View) -> Board
+pub(crate) fn board_under(frame: &FrameView, parent: &FrameView) -> Board
     requires { may_be_child (frame_in parent.now) (frame_in frame.now) ≡ true }
     ensures { (grain : ℕ) (others entries : List ℕ) → (frame_in frame.now).phase ≡ 0 →
         opening_on grain (frame_with frame.now entries) result.own result.opp ≡ act_of grain (frame_with frame.now entries) (Some (frame_with parent.now others)) }

@@ -27,7 +27,7 @@ pub(crate) struct NewChild {
 
 /// What a frame does next. "Computed" means: searched by one worker without children, outside the scheduler's lock.
 #[derive(Drop)]
-pub(crate) enum Plan {
+pub(crate) enum FramePlan {
     /// It returns, and stores nothing.
     Returns,
     /// It waits for a child, and stores nothing.

@@ -14,13 +14,13 @@ ghost use Rattle.jamboree.specs.Plans.{act_for};
 ghost use Rattle.jamboree.specs.Views.{frame_in, frame_with, entries_of};
 
 use crate::codes::coded;
-use crate::frame::View;
+use crate::frame::FrameView;
 use crate::inlet::{takes_in, wakes};
 use crate::inlet_plan::InletPlan;
 use crate::next::{board_under, later, of_root, opening};
 use crate::phases::{Phase, Role};
-use crate::plan::Plan;
-use crate::view::{Change, SIZE, are_root_words, is_formed, read_leaf, set, view};
+use crate::plan::FramePlan;
+use crate::view::{FrameChange, SIZE, are_root_words, is_formed, read_leaf, set, view};
 use cactus_stack::{Sight, Words};
 use jamboree_rules::sched_rules::{Act, InletAct, Procedure, Stores};
 use jamboree_rules::{Leaf, LeafAnswer};
@@ -49,7 +49,7 @@ impl Jamboree {
     }
 }
 
-impl View {
+impl FrameView {
     /// Whether the frame has a choice of this number: it is below the frame's count and below the number of its
     /// board's choices. While choices are searched these two are equal, so the board's aren't counted again.
     fn has_choice(&self, number: u64) -> bool
@@ -66,7 +66,7 @@ impl View {
 
     /// Whether this may be the frame of a child of that one: it is no root, and its number is that of
     /// a choice of the parent.
-    fn may_be_under(&self, parent: &View) -> bool
+    fn may_be_under(&self, parent: &FrameView) -> bool
         ensures { result ≡ may_be_child (frame_in parent.now) (frame_in self.now) }
     {
         match self.role {
@@ -78,24 +78,24 @@ impl View {
 
 /// What a frame in these words does next with no level above it. One that isn't a root returns.
 #[inline(always)]
-fn plan_alone(grain: u8, frame: &View, own: &Words) -> Plan
+fn plan_alone(grain: u8, frame: &FrameView, own: &Words) -> FramePlan
     requires { length own.now ≡ 12 + frame.now.count }
     ensures { act_for result ≡ (if (frame_in frame.now).role == 0 then act_of grain (frame_with frame.now (entries_of own.now)) None else returns) }
 {
     match frame.role {
         Role::Root => of_root(grain, frame, own),
-        _ => Plan::Returns,
+        _ => FramePlan::Returns,
     }
 }
 
 /// What a frame in these words does next under this parent. One that can't be a child of it returns.
 #[inline(always)]
-fn plan_under(grain: u8, frame: &View, own: &Words, parent: &View) -> Plan
+fn plan_under(grain: u8, frame: &FrameView, own: &Words, parent: &FrameView) -> FramePlan
     requires { length own.now ≡ 12 + frame.now.count }
     ensures { (others : List ℕ) → act_for result ≡ (if may_be_child (frame_with parent.now others) (frame_in frame.now) then act_of grain (frame_with frame.now (entries_of own.now)) (Some (frame_with parent.now others)) else returns) }
 {
     if !frame.may_be_under(parent) {
-        return Plan::Returns;
+        return FramePlan::Returns;
     }
     match frame.phase {
         Phase::New => opening(grain, frame, board_under(frame, parent)),
@@ -105,23 +105,23 @@ fn plan_under(grain: u8, frame: &View, own: &Words, parent: &View) -> Plan
 
 /// What a frame in the words `own` does next under a parent in the words `above`, whose form is checked. It returns
 /// where `above` doesn't have the form of a frame, or the frame can't be a child of that parent.
-fn plan_below(grain: u8, frame: &View, own: &Words, above: &Words) -> Plan
+fn plan_below(grain: u8, frame: &FrameView, own: &Words, above: &Words) -> FramePlan
     requires { length own.now ≡ 12 + frame.now.count }
     ensures { act_for result ≡ (if is_formed above.now && may_be_child (frame_of above.now) (frame_in frame.now) then act_of grain (frame_with frame.now (entries_of own.now)) (Some (frame_of above.now)) else returns) }
 {
     if !is_formed(above) {
-        return Plan::Returns;
+        return FramePlan::Returns;
     }
     plan_under(grain, frame, own, &view(above))
 }
 
 /// What a frame in the words `own` does next under a parent in these words, or with no level above it (None). The
 /// form of both is checked: it returns where one of them doesn't have the form of a frame.
-fn plan_tested(grain: u8, own: &Words, parent: Option<Words>) -> Plan
+fn plan_tested(grain: u8, own: &Words, parent: Option<Words>) -> FramePlan
     ensures { act_for result ≡ next_act grain (own.now ∷ above_of parent.entry) }
 {
     if !is_formed(own) {
-        return Plan::Returns;
+        return FramePlan::Returns;
     }
     let frame = view(own);
     match parent {
@@ -132,12 +132,12 @@ fn plan_tested(grain: u8, own: &Words, parent: Option<Words>) -> Plan
 
 /// What a frame that sees these words does next. The form of its own words and of its parent's is checked.
 #[tactic(auto, using(crate::proofs::Rules::plan_seen_rules))]
-fn plan_seen(grain: u8, sight: &Sight) -> Plan
+fn plan_seen(grain: u8, sight: &Sight) -> FramePlan
     ensures { act_for result ≡ next_act grain sight.now }
 {
     match sight.up(0) {
         Some(own) => plan_tested(grain, &own, sight.up(1)),
-        None => Plan::Returns,
+        None => FramePlan::Returns,
     }
 }
 
@@ -145,20 +145,20 @@ fn plan_seen(grain: u8, sight: &Sight) -> Plan
 /// form isn't checked.
 #[inline(always)]
 #[tactic(auto, using(crate::proofs::Rules::plan_fitting_rules))]
-fn plan_fitting(grain: u8, sight: &Sight) -> Plan
+fn plan_fitting(grain: u8, sight: &Sight) -> FramePlan
     requires { AllFit AreFitting sight.now }
     ensures { act_for result ≡ next_act grain sight.now }
 {
     match sight.up(0) {
         Some(own) => plan_formed(grain, &own, sight.up(1)),
-        None => Plan::Returns,
+        None => FramePlan::Returns,
     }
 }
 
 /// What a frame in the words `own` does next under a parent in these words, or with no level above it (None).
 /// Both are known to have the form of a frame.
 #[inline(always)]
-fn plan_formed(grain: u8, own: &Words, parent: Option<Words>) -> Plan
+fn plan_formed(grain: u8, own: &Words, parent: Option<Words>) -> FramePlan
     requires own { is_formed own.now ≡ true }
     requires parent { IfSome parent (λ above. is_formed above ≡ true) }
     ensures { act_for result ≡ next_act grain (own.now ∷ above_of parent.entry) }
@@ -173,7 +173,7 @@ fn plan_formed(grain: u8, own: &Words, parent: Option<Words>) -> Plan
 /// What a frame that sees these words does next. Where `fitting` is true all of them are known to fit
 /// (`AreFitting`), and their form isn't checked.
 #[inline(always)]
-fn plan_of(grain: u8, fitting: bool, sight: &Sight) -> Plan
+fn plan_of(grain: u8, fitting: bool, sight: &Sight) -> FramePlan
     requires { fitting ≡ true → AllFit AreFitting sight.now }
     ensures { act_for result ≡ next_act grain sight.now }
 {
@@ -184,9 +184,9 @@ fn plan_of(grain: u8, fitting: bool, sight: &Sight) -> Plan
 }
 
 /// The inlet of `frame` for a returned child whose words are unchecked. Where they don't have the form of a
-/// frame, or can't be a child of `frame`, it only wakes it. `entries` are what a `View` leaves out, and don't
+/// frame, or can't be a child of `frame`, it only wakes it. `entries` are what a `FrameView` leaves out, and don't
 /// matter.
-fn plan_inlet_below(frame: &View, words: &Words) -> InletPlan
+fn plan_inlet_below(frame: &FrameView, words: &Words) -> InletPlan
     ensures { (entries : List ℕ) → inlet_for result ≡ (if is_formed words.now && may_be_child (frame_with frame.now entries) (frame_of words.now) then inlet_of (frame_with frame.now entries) (frame_of words.now) else wakes) }
 {
     if !is_formed(words) {
@@ -197,7 +197,7 @@ fn plan_inlet_below(frame: &View, words: &Words) -> InletPlan
 
 /// The inlet of `frame` for a returned child. One that can't be a child of it only wakes it.
 #[inline(always)]
-fn plan_inlet_under(frame: &View, child: &View) -> InletPlan
+fn plan_inlet_under(frame: &FrameView, child: &FrameView) -> InletPlan
     ensures { (own below : List ℕ) → inlet_for result ≡ (if may_be_child (frame_with frame.now own) (frame_with child.now below) then inlet_of (frame_with frame.now own) (frame_with child.now below) else wakes) }
 {
     if !child.may_be_under(frame) {
@@ -327,8 +327,8 @@ fn answered(answer: &LeafAnswer) -> Stores
     ensures { result ≡ pairs_of (changes_of_answer answer.now) }
 {
     let mut stores = Stores::new();
-    set(&mut stores, Change::Best(answer.score()));
-    set(&mut stores, Change::Chosen(coded(answer.choice())));
-    set(&mut stores, Change::Phase(Phase::Done));
+    set(&mut stores, FrameChange::Best(answer.score()));
+    set(&mut stores, FrameChange::Chosen(coded(answer.choice())));
+    set(&mut stores, FrameChange::Phase(Phase::Done));
     stores
 }

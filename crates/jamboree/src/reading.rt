@@ -5,7 +5,7 @@ ghost use Rattle.jamboree_rules.specs.Entries.{bounds_of};
 ghost use Rattle.jamboree.specs.Knowledge.{known_of, bound_by};
 
 use crate::codes::decoded;
-use crate::entry::{Known, PackedBound};
+use crate::entry::{KnownBound, PackedBound};
 use crate::reply::{MOST, Reply};
 use crate::view::{kept_entries, kept_view};
 use jamboree_rules::othello_eval::{Bound, BoundKind};
@@ -13,12 +13,12 @@ use othello_board::Board;
 use othello_moves::{Choice, choice};
 
 /// What is known of the choices with these entries, in their order; the places after them hold a filler.
-fn known_in(entries: &[u64]) -> [Known; MOST]
+fn known_in(entries: &[u64]) -> [KnownBound; MOST]
     requires few { length entries.now ≤ 64 }
     requires entries { are_entries entries.now ≡ true }
     ensures { take (length entries.now) result ≡ map known_of (map entry_rest entries.now) }
 {
-    let nothing = Known {
+    let nothing = KnownBound {
         score: 0,
         kind: BoundKind::Low,
     };
@@ -29,7 +29,7 @@ fn known_in(entries: &[u64]) -> [Known; MOST]
     known
 }
 
-impl Known {
+impl KnownBound {
     /// What is known of this choice, as an entry of a table.
     fn of(self, choice: Choice) -> Bound
         ensures { result ≡ bound_by choice self }

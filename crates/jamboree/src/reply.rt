@@ -8,7 +8,7 @@ ghost use Rattle.jamboree_rules.specs.othello_eval.Tables.{entered, IsTable};
 ghost use Rattle.jamboree_rules.proofs.EvalLemmas.TableProps.{table-prop};
 ghost use Rattle.jamboree.specs.Knowledge.{bounds_by};
 
-use crate::entry::Known;
+use crate::entry::KnownBound;
 use othello_board::Board;
 use othello_moves::Choice;
 
@@ -26,7 +26,7 @@ pub struct Reply {
     /// How many choices have an entry.
     pub(crate) count: usize,
     /// What is known of these, in their order. The places after them hold a filler.
-    pub(crate) known: [Known; MOST],
+    pub(crate) known: [KnownBound; MOST],
     ghost shallow: { depth ≤ 12 },
     ghost is_value: { value ≡ minimax depth (cells board) } by { Prim.hlevel props },
     ghost is_best: { choice ≡ best_choice depth (cells board) } by { Prim.hlevel props },

@@ -15,7 +15,7 @@ ghost use Rattle.jamboree.specs.Changes.{store_of, score_set, number_set};
 ghost use Rattle.jamboree.specs.Views.{head_of, frame_from, frame_with, entries_of, entries_in};
 
 use crate::entry::PackedBound;
-use crate::frame::{Goal, View};
+use crate::frame::{FrameView, Goal};
 use crate::phases::{Phase, Role, Status};
 use crate::plan::NewChild;
 use crate::score::{score_of_word, word_of_score};
@@ -218,14 +218,14 @@ impl Head {
 
     /// The typed view of these twelve words, after which `count` entries stand.
     #[inline(always)]
-    fn view(self, count: usize) -> View
+    fn view(self, count: usize) -> FrameView
         requires form { is_frame (frame_from self []) ≡ true }
         requires few { count ≤ 116 }
         requires counted { count ≡ self.count }
         ensures frame { (entries : List ℕ) → frame_with result entries ≡ frame_from self entries }
         ensures count { result.count ≡ count }
     {
-        View {
+        FrameView {
             board: Board {
                 own: self.own,
                 opp: self.opp,
@@ -267,7 +267,7 @@ pub(crate) fn is_formed(words: &Words) -> bool
 
 /// The frame in words that have the form of one.
 #[inline(always)]
-pub(crate) fn view(words: &Words) -> View
+pub(crate) fn view(words: &Words) -> FrameView
     requires { is_formed words.now ≡ true }
     ensures frame { frame_with result (entries_of words.now) ≡ frame_of words.now }
     ensures entries { length words.now ≡ 12 + result.count }
@@ -298,7 +298,7 @@ pub(crate) fn read_leaf(words: &Words) -> Leaf
 
 /// What one store sets in a frame's words.
 #[derive(Drop)]
-pub(crate) enum Change {
+pub(crate) enum FrameChange {
     /// The bits of the mover's discs.
     OwnBits(u64),
     /// The bits of the opponent's discs.
@@ -319,7 +319,7 @@ pub(crate) enum Change {
 
 /// Adds the store that makes this change at the end of these stores, which have room for 8.
 #[inline(always)]
-pub(crate) fn set(stores: &mut Stores, change: Change)
+pub(crate) fn set(stores: &mut Stores, change: FrameChange)
     requires room { length stores.old < 8 }
     requires low { negsuc 999999 ≤ℤ score_set change }
     requires high { score_set change ≤ℤ pos 1000000 }
@@ -327,14 +327,14 @@ pub(crate) fn set(stores: &mut Stores, change: Change)
     ensures { stores.new ≡ stores.old ++ pair_of (store_of change) ∷ [] }
 {
     match change {
-        Change::OwnBits(bits) => stores.push(0, bits),
-        Change::OppBits(bits) => stores.push(1, bits),
-        Change::Phase(phase) => stores.push(7, phase.number()),
-        Change::Best(score) => stores.push(8, word_of_score(score)),
-        Change::Chosen(code) => stores.push(9, code),
-        Change::Count(count) => stores.push(10, count as u64),
-        Change::Spawned(count) => stores.push(11, count as u64),
-        Change::Status(number, status, rest) => {
+        FrameChange::OwnBits(bits) => stores.push(0, bits),
+        FrameChange::OppBits(bits) => stores.push(1, bits),
+        FrameChange::Phase(phase) => stores.push(7, phase.number()),
+        FrameChange::Best(score) => stores.push(8, word_of_score(score)),
+        FrameChange::Chosen(code) => stores.push(9, code),
+        FrameChange::Count(count) => stores.push(10, count as u64),
+        FrameChange::Spawned(count) => stores.push(11, count as u64),
+        FrameChange::Status(number, status, rest) => {
             stores.push(SIZE + number, rest.entry(status));
         }
     }
@@ -361,7 +361,7 @@ pub(crate) fn spawn(child: &NewChild) -> Continuation
 
 /// The frame in the words that a job keeps of its returned root.
 #[tactic(auto, using(crate::proofs::Rules::kept_view_rules))]
-pub(crate) fn kept_view(words: &[u64]) -> View
+pub(crate) fn kept_view(words: &[u64]) -> FrameView
     requires form { is_formed words.now ≡ true }
     requires few { length words.now ≤ 128 }
     ensures frame { frame_with result (entries_of words.now) ≡ frame_of words.now }

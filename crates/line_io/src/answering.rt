@@ -20,7 +20,7 @@ const MOST_BYTES: u64 = 1 << 62;
 
 /// Answers lines, one after another, and keeps the last answer until the next. An array of the answerer's own holds
 /// it, so each answerer chooses how long its answers can be.
-pub trait Answer {
+pub trait LineAnswerer {
     /// Which texts may answer a line, and the states before and after it.
     ghost answers: { Self → LineText → List ℕ → Self → Type 0 };
 
@@ -37,7 +37,7 @@ pub trait Answer {
 }
 
 /// Answers one line, and writes the answer with its LF.
-pub(crate) fn answer_line<K: Sink, A: Answer>(
+pub(crate) fn answer_line<K: Sink, A: LineAnswerer>(
     sink: &mut K,
     answerer: &mut A,
     line: Line<'_>,
@@ -49,7 +49,7 @@ pub(crate) fn answer_line<K: Sink, A: Answer>(
 }
 
 /// Cuts this block into lines, and answers each line that an LF ends in it. Err at the first write that fails.
-fn answer_block<K: Sink, A: Answer>(
+fn answer_block<K: Sink, A: LineAnswerer>(
     sink: &mut K,
     answerer: &mut A,
     cutter: &mut LineCutter,
@@ -70,7 +70,7 @@ fn answer_block<K: Sink, A: Answer>(
 }
 
 /// Answers the line that the end of the input ends; does nothing where no byte came since the last LF.
-pub(crate) fn answer_last<K: Sink, A: Answer>(
+pub(crate) fn answer_last<K: Sink, A: LineAnswerer>(
     sink: &mut K,
     answerer: &mut A,
     cutter: &LineCutter,
@@ -89,7 +89,7 @@ pub(crate) fn answer_last<K: Sink, A: Answer>(
 /// ends it. Fault 1 comes where the source failed, and fault 3 once 2^62 bytes were read: the lines that an LF
 /// ended are answered and written then. Fault 2 comes where the sink failed: the first lines are answered, and
 /// what was written of the last answer is a beginning.
-pub fn answer_lines<S: Source, K: Sink, A: Answer>(
+pub fn answer_lines<S: Source, K: Sink, A: LineAnswerer>(
     source: &mut S,
     sink: &mut K,
     answerer: &mut A,

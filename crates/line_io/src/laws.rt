@@ -11,14 +11,14 @@ ghost use Rattle.line_io.specs.declared.faults.LineFault.{LineFault};
 ghost use Rattle.line_io.specs.Lines.{LineText, lines_of};
 ghost use Rattle.line_io.specs.Runs.{Run, FunctionRun, answers_to};
 
-use crate::answering::Answer;
+use crate::answering::LineAnswerer;
 use crate::input::{FromReader, Source};
 use crate::output::{FromWriter, Sink};
 use std::io::{Read, Write};
 
 /// Where each answer is a function of its line, what a run writes is a function of what it reads: the answers to
 /// the lines of all bytes, at faults 1 and 3 of those up to the last LF, and at fault 2 a beginning of that.
-pub fn run_by_function<S: Source, K: Sink, A: Answer>()
+pub fn run_by_function<S: Source, K: Sink, A: LineAnswerer>()
     ensures { (answer : LineText → List ℕ)
         → ((a : A) (line : LineText) (text : List ℕ) (b : A) → A.answers a line text b → text ≡ answer line)
         → (source source' : S) (sink sink' : K) (answerer answerer' : A) (r : Result (Unit {0}) LineFault)

@@ -8,7 +8,7 @@
 //!
 //! Values and what they stand for. A `LineCutter` is the bytes since the last LF, or `None` where they are too
 //! many for a line; its invariant is that only beyond 128 kept bytes does it note a CR or more. A `Source`, a
-//! `Sink` and an `Answer` are states, each with a relation of its own: what one read may give, what one write
+//! `Sink` and a `LineAnswerer` are states, each with a relation of its own: what one read may give, what one write
 //! may take, and which text may answer a line. What a run did is told by chains of these states
 //! (`specs/Leads.antt`, `specs/Runs.antt`), so that no read, no write and no fault can be made up: each is that
 //! of a call. Where each answer is a function of its line, what was written is a function of what was read
@@ -45,7 +45,7 @@ mod output;
 pub mod rows;
 mod talking;
 
-pub use answering::{Answer, answer_lines};
+pub use answering::{LineAnswerer, answer_lines};
 pub use cutting::{LF, Line, LineCutter};
 pub use faults::{LineFault, ReadFailed, WriteFailed};
 pub use input::{FromReader, Source};

@@ -7,7 +7,7 @@ ghost use Rattle.line_io.specs.Views.{text_of};
 ghost use Rattle.line_io.specs.Writes.{LinesAnswered};
 ghost use Rattle.line_io.specs.Talks.{Talk, upto, none_ends, written, end_of};
 
-use crate::answering::{Answer, BLOCK_BYTES, answer_line};
+use crate::answering::{BLOCK_BYTES, LineAnswerer, answer_line};
 use crate::cutting::{LF, Line, LineCutter};
 use crate::faults::{LineFault, WriteFailed};
 use crate::input::Source;
@@ -34,7 +34,7 @@ pub enum TalkEnd {
 }
 
 /// Answers the line that an LF ends now, and tells whether it ends the talk.
-fn talk_line<K: Sink, A: Answer + Ends>(
+fn talk_line<K: Sink, A: LineAnswerer + Ends>(
     sink: &mut K,
     answerer: &mut A,
     cutter: &mut LineCutter,
@@ -50,7 +50,7 @@ fn talk_line<K: Sink, A: Answer + Ends>(
 }
 
 /// Answers each line that ends in this block, up to one that ends the talk, and tells whether one did.
-fn talk_block<K: Sink, A: Answer + Ends>(
+fn talk_block<K: Sink, A: LineAnswerer + Ends>(
     sink: &mut K,
     answerer: &mut A,
     cutter: &mut LineCutter,
@@ -73,7 +73,7 @@ fn talk_block<K: Sink, A: Answer + Ends>(
 }
 
 /// Answers the line that the end of the input ends, if there is one, and tells how the talk ended.
-fn talk_last<K: Sink, A: Answer + Ends>(
+fn talk_last<K: Sink, A: LineAnswerer + Ends>(
     sink: &mut K,
     answerer: &mut A,
     cutter: &LineCutter,
@@ -98,7 +98,7 @@ fn talk_last<K: Sink, A: Answer + Ends>(
 /// is answered, the last one too where no LF ends it. Fault 1 comes where the source failed: the lines that an LF
 /// ended are answered then. Fault 2 comes where the sink failed: the first lines are answered, and what was written
 /// of the last answer is a beginning. There is no fault 3: a talk may last for ever.
-pub fn talk_lines<S: Source, K: Sink, A: Answer + Ends, R: Wait>(
+pub fn talk_lines<S: Source, K: Sink, A: LineAnswerer + Ends, R: Wait>(
     rt: &R,
     source: &mut S,
     sink: &mut K,

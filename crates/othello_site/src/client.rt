@@ -1,16 +1,16 @@
 //! One connection, from its first byte to its last.
 ghost use Rattle.std.specs.Prelude.{◌≤◌, length};
 
-use crate::caller::Caller;
 use crate::counts::{FULL, HEADER, NAMES, SILENCE};
-use crate::links::{Incoming, MOST_BYTES, Outgoing, Reading, Received, Talk};
+use crate::links::{Incoming, MOST_BYTES, Outgoing, Reading, Received, TalkState};
 use crate::shared::Shared;
+use crate::site_house::SiteHouse;
 use crate::telling::{address_text, log_refusal};
 use line_io::{LineFault, Sink, TalkEnd};
 use site_book::{Told, Who};
 use site_file::Address;
 use site_office::{SiteOffice, serve_connection};
-use site_rules::{Arrival, Caller as Origin, Port, Times, identify};
+use site_rules::{Arrival, Caller, Port, Times, identify};
 use std::alloc::{AllocError, Global};
 use std::net::TcpStream;
 use std::sync::{Arc, Wait};
@@ -21,7 +21,7 @@ const NO_ROOM: &[u8] = b"ERR 14\n";
 
 /// A connection whose customer is known.
 #[derive(Clone, Copy)]
-struct Known {
+struct KnownClient {
     who: Who,
     address: Address,
     /// How many bytes its header had.
@@ -29,8 +29,8 @@ struct Known {
 }
 
 /// What came of a connection's first bytes.
-enum Met {
-    Is(Known),
+enum FirstBytes {
+    Is(KnownClient),
     Unfinished,
     Foreign,
 }
@@ -41,9 +41,15 @@ fn millis(seconds: u32) -> u64 {
 }
 
 /// Whose a connection is that begins with these bytes.
-fn identified<R: Wait>(rt: &R, shared: &Shared, port: Port, bytes: &[u8], peer: Address) -> Met {
+fn identified<R: Wait>(
+    rt: &R,
+    shared: &Shared,
+    port: Port,
+    bytes: &[u8],
+    peer: Address,
+) -> FirstBytes {
     match identify(port, bytes, peer) {
-        Origin::From {
+        Caller::From {
             address,
             certificate,
             used,
@@ -54,10 +60,10 @@ fn identified<R: Wait>(rt: &R, shared: &Shared, port: Port, bytes: &[u8], peer: 
                 .directory
                 .keys
                 .by_connection(certificate, address);
-            Met::Is(Known { who, address, used })
+            FirstBytes::Is(KnownClient { who, address, used })
         }
-        Origin::Unfinished => Met::Unfinished,
-        Origin::Foreign => Met::Foreign,
+        Caller::Unfinished => FirstBytes::Unfinished,
+        Caller::Foreign => FirstBytes::Foreign,
     }
 }
 
@@ -69,15 +75,15 @@ fn greet<R: Clock + Wait>(
     port: Port,
     source: &mut Incoming<'_, R>,
     peer: Address,
-) -> Option<Known> {
+) -> Option<KnownClient> {
     for _ in 0..MOST_BYTES {
         match identified(rt, shared, port, source.ahead.bytes(), peer) {
-            Met::Is(known) => return Some(known),
-            Met::Foreign => {
+            FirstBytes::Is(known) => return Some(known),
+            FirstBytes::Foreign => {
                 refuse(rt, alloc, shared, peer, HEADER);
                 return None;
             }
-            Met::Unfinished => {}
+            FirstBytes::Unfinished => {}
         }
         let mut block = [0; 512];
         let most = source.ahead.left().min(block.len());
@@ -148,7 +154,7 @@ pub(crate) fn serve_client<R: Clock + Wait>(
     let Ok(own) = Arc::try_clone(&outgoing) else {
         return None;
     };
-    let talk = Talk::new(shared.now(rt), false);
+    let talk = TalkState::new(shared.now(rt), false);
     let mut source = Incoming {
         rt,
         shared,
@@ -177,11 +183,11 @@ fn receive<R: Clock + Wait>(
     rt: &R,
     alloc: Global,
     shared: &Shared,
-    talk: &Talk,
+    talk: &TalkState,
     source: &mut Incoming<'_, R>,
     sink: &mut Outgoing,
     stream: Arc<TcpStream, Global>,
-    known: Known,
+    known: KnownClient,
 ) {
     let (arrival, hall) = {
         let mut register = shared.register(rt);
@@ -199,7 +205,7 @@ fn receive<R: Clock + Wait>(
             return;
         }
     };
-    let caller = Caller {
+    let house = SiteHouse {
         rt,
         alloc,
         shared,
@@ -215,26 +221,26 @@ fn receive<R: Clock + Wait>(
         asked: 0,
     };
     let Some(desk) = shared.desks.get(hall) else {
-        caller.leave();
+        house.leave();
         return;
     };
     let mut office = SiteOffice::new(
         rt,
         shared.desks.as_slice(),
         desk,
-        caller,
+        house,
         known.who,
         shared.grain,
     );
     let end = serve_connection(rt, source, sink, &mut office);
-    let caller = office.close();
-    caller.leave();
+    let house = office.close();
+    house.leave();
     tell_end(
         rt,
         alloc,
         shared,
-        &caller,
-        word_of(end, talk.reading.get(), caller.told),
+        &house,
+        word_of(end, talk.reading.get(), house.told),
     );
     if talk.reading.get() == Reading::Late && !talk.pace.get().welcomed {
         refuse(rt, alloc, shared, known.address, SILENCE);
@@ -269,15 +275,15 @@ fn tell_end<R: Clock + Wait>(
     rt: &R,
     alloc: Global,
     shared: &Shared,
-    caller: &Caller<'_, R>,
+    house: &SiteHouse<'_, R>,
     end: &str,
 ) {
-    let Some((number, who)) = caller.session else {
+    let Some((number, who)) = house.session else {
         return;
     };
-    let seconds = shared.now(rt).saturating_sub(caller.since) / 1_000;
-    let lines = caller.talk.lines.get();
-    let hall = caller.hall.saturating_add(1);
+    let seconds = shared.now(rt).saturating_sub(house.since) / 1_000;
+    let lines = house.talk.lines.get();
+    let hall = house.hall.saturating_add(1);
     let name = {
         let register = shared.register(rt);
         register.config.directory.name_of(alloc, who)
@@ -285,7 +291,7 @@ fn tell_end<R: Clock + Wait>(
     let Ok(name) = name else {
         return;
     };
-    let Ok(address) = address_text(alloc, caller.address) else {
+    let Ok(address) = address_text(alloc, house.address) else {
         return;
     };
     let line = format!(in alloc;

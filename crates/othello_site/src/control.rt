@@ -6,7 +6,7 @@ use crate::shared::Shared;
 use crate::telling::stats_of;
 use crate::visits::{PAUSE_MILLIS, Shut, Visits};
 use crate::watching::{shut_told, tell};
-use site_book::{Part, Told, Who, Whom};
+use site_book::{Group, Told, Who, Whom};
 use site_file::Address;
 use site_rules::{Command, Whose, read_command};
 use std::alloc::{AllocError, Global};
@@ -78,25 +78,25 @@ fn address_in(text: &[u8]) -> Option<Address> {
 }
 
 /// Whose sessions are meant; `None` where nobody of the file is.
-fn part_of<R: Wait>(rt: &R, shared: &Shared, whose: Whose<'_>) -> Option<Part> {
+fn part_of<R: Wait>(rt: &R, shared: &Shared, whose: Whose<'_>) -> Option<Group> {
     match whose {
         Whose::Customer(name) => {
             let register = shared.register(rt);
             for (number, terms) in register.config.directory.customers.iter().enumerate() {
                 if terms.name.as_bytes() == name {
                     let number = u32::try_from(number).unwrap_or(u32::MAX);
-                    return Some(Part::Own(Who::Named(number)));
+                    return Some(Group::Own(Who::Named(number)));
                 }
             }
             None
         }
-        Whose::Address(text) => Some(Part::Own(address_in(text)?.guest())),
+        Whose::Address(text) => Some(Group::Own(address_in(text)?.guest())),
         Whose::Session(_, _) => None,
     }
 }
 
 /// Tells a part's sessions of all halls to end, and returns how many these are.
-fn tell_all<R: Wait>(rt: &R, shared: &Shared, part: Part) -> u64 {
+fn tell_all<R: Wait>(rt: &R, shared: &Shared, part: Group) -> u64 {
     let mut many: u64 = 0;
     for hall in 0..shared.desks.len() {
         let told = tell(rt, shared, hall, Whom::Each(part), Told::ByOperator);

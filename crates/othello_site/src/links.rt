@@ -32,7 +32,7 @@ pub(crate) enum Reading {
 
 /// What a connection's source and its office both know.
 #[derive(Drop)]
-pub(crate) struct Talk {
+pub(crate) struct TalkState {
     /// How far it has come.
     pub(crate) pace: Cell<Pace>,
     /// Whether it is heard for its first line alone.
@@ -45,10 +45,10 @@ pub(crate) struct Talk {
     pub(crate) reading: Cell<Reading>,
 }
 
-impl Talk {
+impl TalkState {
     /// That of a connection that comes now.
-    pub(crate) fn new(now: u64, is_extra: bool) -> Talk {
-        Talk {
+    pub(crate) fn new(now: u64, is_extra: bool) -> TalkState {
+        TalkState {
             pace: Cell::new(Pace::new(now)),
             is_extra: Cell::new(is_extra),
             had_line: Cell::new(false),
@@ -99,7 +99,7 @@ pub(crate) struct Incoming<'a, R> {
     pub(crate) rt: &'a R,
     pub(crate) shared: &'a Shared,
     pub(crate) stream: Arc<TcpStream, Global>,
-    pub(crate) talk: &'a Talk,
+    pub(crate) talk: &'a TalkState,
     pub(crate) times: Times,
     /// The bytes that were read with the header.
     pub(crate) ahead: Received,

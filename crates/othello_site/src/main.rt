@@ -18,8 +18,8 @@
 //! ```
 #![tactic(auto)]
 
-mod caller;
 mod client;
+mod connections;
 mod control;
 mod counts;
 mod ending;
@@ -33,7 +33,7 @@ mod reloading;
 mod running;
 mod serving;
 mod shared;
-mod tallies;
+mod site_house;
 mod telling;
 mod visits;
 mod watching;

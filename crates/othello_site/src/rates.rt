@@ -11,7 +11,7 @@ const LAST_MOMENT: u64 = 1 << 61;
 
 /// A customer's meter.
 #[derive(Drop)]
-struct Account {
+struct CustomerMeter {
     who: Who,
     meter: Meter,
     /// When it was last asked.
@@ -21,7 +21,7 @@ struct Account {
 /// The meters of those who were heard of late.
 #[derive(Drop)]
 pub(crate) struct Rates {
-    accounts: Vec<Account>,
+    accounts: Vec<CustomerMeter>,
 }
 
 impl Rates {
@@ -57,7 +57,7 @@ impl Rates {
             self.forget_oldest();
         }
         let place = self.accounts.len();
-        let account = Account {
+        let account = CustomerMeter {
             who,
             meter: Meter::new(),
             last: 0,

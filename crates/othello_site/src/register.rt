@@ -1,10 +1,10 @@
 //! What all connections share beside the desks, under one lock: the file's words, rates, connections, who can be shut, and the counts.
+use crate::connections::ConnectionCounts;
 use crate::counts::Counts;
 use crate::rates::Rates;
-use crate::tallies::Tallies;
 use site_book::{Told, Who};
-use site_file::{Address, Config};
-use site_rules::{Arrival, Crowd, Seen, Watch, arrival_of};
+use site_file::{Address, SiteConfig};
+use site_rules::{Arrival, ClientState, Crowd, Watch, arrival_of};
 use std::alloc::Global;
 use std::io::ErrorKind;
 use std::net::{Shutdown, TcpStream};
@@ -12,7 +12,7 @@ use std::sync::Arc;
 
 /// A session that is there, and its connection.
 #[derive(Drop)]
-pub(crate) struct Link {
+pub(crate) struct SessionLink {
     /// Its hall, from 0.
     pub(crate) hall: usize,
     /// Its number.
@@ -30,13 +30,13 @@ pub(crate) struct Link {
 /// What connections share.
 #[derive(Drop)]
 pub(crate) struct Register {
-    pub(crate) config: Arc<Config, Global>,
+    pub(crate) config: Arc<SiteConfig, Global>,
     pub(crate) rates: Rates,
-    tallies: Tallies,
+    connections: ConnectionCounts,
     /// Connections in all, and those that count as nobody's.
     pub(crate) all: u32,
     pub(crate) extra: u32,
-    pub(crate) links: Vec<Link>,
+    pub(crate) links: Vec<SessionLink>,
     pub(crate) counts: Counts,
     /// Until when those stay who are there, where nobody else may come.
     pub(crate) draining: Option<u64>,
@@ -44,11 +44,11 @@ pub(crate) struct Register {
 
 impl Register {
     /// Nobody is there.
-    pub(crate) fn new(alloc: Global, config: Arc<Config, Global>) -> Register {
+    pub(crate) fn new(alloc: Global, config: Arc<SiteConfig, Global>) -> Register {
         Register {
             config,
             rates: Rates::new(alloc),
-            tallies: Tallies::new(alloc),
+            connections: ConnectionCounts::new(alloc),
             all: 0,
             extra: 0,
             links: Vec::new(alloc),
@@ -74,7 +74,7 @@ impl Register {
     /// How a connection of this customer is taken. (It is one of all already.)
     pub(crate) fn arrive(&mut self, who: Who) -> Arrival {
         let crowd = Crowd {
-            own: self.tallies.of(who),
+            own: self.connections.of(who),
             most_own: self.config.directory.terms(who).connections,
             extra: self.extra,
             all: self.all.saturating_sub(1),
@@ -83,7 +83,7 @@ impl Register {
         let arrival = arrival_of(&crowd);
         match arrival {
             Arrival::Counted => {
-                let _ = self.tallies.arrive(who);
+                let _ = self.connections.arrive(who);
             }
             Arrival::Heard => self.extra = self.extra.saturating_add(1),
             Arrival::Closed => {}
@@ -94,7 +94,7 @@ impl Register {
     /// A connection leaves that counts as this customer's, or as nobody's.
     pub(crate) fn depart(&mut self, account: Option<Who>) {
         match account {
-            Some(who) => self.tallies.depart(who),
+            Some(who) => self.connections.depart(who),
             None => self.extra = self.extra.saturating_sub(1),
         }
     }
@@ -106,10 +106,10 @@ impl Register {
                 return true;
             }
         }
-        if self.tallies.of(who) >= self.config.directory.terms(who).connections {
+        if self.connections.of(who) >= self.config.directory.terms(who).connections {
             return false;
         }
-        let _ = self.tallies.arrive(who);
+        let _ = self.connections.arrive(who);
         self.depart(account);
         true
     }
@@ -134,7 +134,7 @@ impl Register {
         stream: Arc<TcpStream, Global>,
     ) -> bool {
         self.links
-            .push(Link {
+            .push(SessionLink {
                 hall,
                 session,
                 address,
@@ -211,30 +211,30 @@ impl Register {
 }
 
 /// What is seen of a connection that nobody reads.
-fn seen_of(stream: &TcpStream) -> Seen {
+fn seen_of(stream: &TcpStream) -> ClientState {
     if stream.set_nonblocking(true).is_err() {
-        return Seen::Lost;
+        return ClientState::Lost;
     }
     let mut block = [0; 1];
     let peeked = stream.peek(&mut block);
     let seen = match peeked {
-        Ok(0) => Seen::Ended,
+        Ok(0) => ClientState::Ended,
         Ok(_) => seen_by(stream),
         Err(error) => match error.kind() {
-            ErrorKind::WouldBlock | ErrorKind::Interrupted => Seen::Silent,
-            _ => Seen::Lost,
+            ErrorKind::WouldBlock | ErrorKind::Interrupted => ClientState::Silent,
+            _ => ClientState::Lost,
         },
     };
     if stream.set_nonblocking(false).is_err() {
-        return Seen::Lost;
+        return ClientState::Lost;
     }
     seen
 }
 
 /// What is seen of a connection whose bytes wait to be read.
-fn seen_by(stream: &TcpStream) -> Seen {
+fn seen_by(stream: &TcpStream) -> ClientState {
     match stream.take_error() {
-        Ok(None) => Seen::Silent,
-        _ => Seen::Lost,
+        Ok(None) => ClientState::Silent,
+        _ => ClientState::Lost,
     }
 }

@@ -2,8 +2,8 @@
 use crate::paths::Paths;
 use crate::shared::Shared;
 use crate::watching::shut_told;
-use site_book::{Amount, Part, Plan, Who};
-use site_file::{Config, FileFault, amount_text, read_config_again};
+use site_book::{Amount, Group, Plan, Who};
+use site_file::{FileFault, SiteConfig, amount_text, read_config_again};
 use std::alloc::{AllocError, Global};
 use std::fmt::Write;
 use std::sync::{Arc, Wait};
@@ -53,8 +53,8 @@ pub(crate) fn copied(
         plan.totals(),
         budgets,
         plan.budget(nobody),
-        plan.limit(Part::Network(nobody)),
-        plan.limit(Part::Guests),
+        plan.limit(Group::Network(nobody)),
+        plan.limit(Group::Guests),
     ))
 }
 
@@ -83,7 +83,7 @@ pub(crate) fn reload<R: Paths + AllocGlobal + Clock + Wait>(
 }
 
 /// Tells those to end who don't stay under another plan, and waits a little until they have left.
-fn end_beyond<R: Clock + Wait>(rt: &R, shared: &Shared, config: &Config) {
+fn end_beyond<R: Clock + Wait>(rt: &R, shared: &Shared, config: &SiteConfig) {
     for (hall, desk) in shared.desks.iter().enumerate() {
         if let Some(plan) = config.halls.get(hall) {
             desk.tell_by(rt, plan);
@@ -98,7 +98,7 @@ fn end_beyond<R: Clock + Wait>(rt: &R, shared: &Shared, config: &Config) {
 }
 
 /// Has each hall go by its plan, or none.
-fn go_by<R: AllocGlobal + Wait>(rt: &R, shared: &Shared, config: Config) -> Result<(), Unread> {
+fn go_by<R: AllocGlobal + Wait>(rt: &R, shared: &Shared, config: SiteConfig) -> Result<(), Unread> {
     let customers = config.directory.customers.len();
     let mut was: Vec<Plan> = Vec::new(rt.alloc());
     for (hall, desk) in shared.desks.iter().enumerate() {

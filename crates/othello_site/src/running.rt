@@ -2,8 +2,8 @@
 use crate::ending::{Unheard, Why};
 use crate::paths::Paths;
 use crate::serving::serve_config;
-use site_book::{Part, Plan, Who};
-use site_file::{Config, amount_text, read_config};
+use site_book::{Group, Plan, Who};
+use site_file::{SiteConfig, amount_text, read_config};
 use std::alloc::{AllocError, Global};
 use std::fmt::{Display, Write};
 use std::io;
@@ -126,7 +126,7 @@ fn say<R: Print>(rt: &R, text: &str) -> u8 {
 }
 
 /// What a file says; Err with the status where it can't be read or is wrong.
-fn config_at<R: Paths + Eprint + AllocGlobal>(rt: &R, path: &str) -> Result<Config, u8> {
+fn config_at<R: Paths + Eprint + AllocGlobal>(rt: &R, path: &str) -> Result<SiteConfig, u8> {
     let text = match rt.text_of(path) {
         Ok(text) => text,
         Err(error) => return Err(refuse_file(rt, path, &error)),
@@ -166,12 +166,12 @@ fn check<R: Paths + Print + Eprint + AllocGlobal>(rt: &R, path: &str) -> u8 {
 }
 
 /// What each hall has and its guests may have, and each customer where it is at home.
-fn check_text(alloc: Global, config: &Config) -> Result<String, AllocError> {
+fn check_text(alloc: Global, config: &SiteConfig) -> Result<String, AllocError> {
     let mut out = String::new(alloc);
     for (hall, plan) in config.halls.iter().enumerate() {
         let number = hall.saturating_add(1);
         let whole = amount_text(alloc, plan.totals())?;
-        let guests = amount_text(alloc, plan.limit(Part::Guests))?;
+        let guests = amount_text(alloc, plan.limit(Group::Guests))?;
         writeln!(out, "hall {number}: {whole}; all guests: {guests}")?;
         push_customers(&mut out, alloc, config, hall, plan)?;
     }
@@ -182,7 +182,7 @@ fn check_text(alloc: Global, config: &Config) -> Result<String, AllocError> {
 fn push_customers(
     out: &mut String,
     alloc: Global,
-    config: &Config,
+    config: &SiteConfig,
     hall: usize,
     plan: &Plan,
 ) -> Result<(), AllocError> {
@@ -214,14 +214,14 @@ where
         + Sync
         + 'static,
 {
-    match Config::without_file(rt.alloc(), PORT) {
+    match SiteConfig::without_file(rt.alloc(), PORT) {
         Ok(Some(config)) => serve(rt, "", config),
         _ => EXIT_FAILED,
     }
 }
 
 /// Serves by a file until it is told why the site ends, and says why.
-fn serve<R>(rt: &R, path: &str, config: Config) -> u8
+fn serve<R>(rt: &R, path: &str, config: SiteConfig) -> u8
 where
     R: Net<Listener = TcpListener, Stream = TcpStream>
         + Threads

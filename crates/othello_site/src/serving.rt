@@ -19,9 +19,9 @@ use crate::working::Workshop;
 use fair_pool::{FairShare, run_pool};
 use hall::{Config as Totals, Hall};
 use sched_rules::Worker;
-use site_book::{Book, Plan};
+use site_book::{CustomerBook, Plan};
 use site_desk::{BookedHall, SiteDesk};
-use site_file::Config;
+use site_file::SiteConfig;
 use site_rules::Port;
 use std::alloc::{AllocError, Global};
 use std::io;
@@ -42,7 +42,7 @@ struct Listeners {
 
 /// What a site serves with.
 #[derive(Drop)]
-struct Site {
+struct SiteService {
     shared: Shared,
     listeners: Listeners,
     workers: u8,
@@ -71,7 +71,7 @@ where
 }
 
 /// The operator's socket, if there is one.
-fn control_at<R: Paths>(rt: &R, config: &Config) -> Result<Option<UnixListener>, Unheard> {
+fn control_at<R: Paths>(rt: &R, config: &SiteConfig) -> Result<Option<UnixListener>, Unheard> {
     let Some(path) = &config.control else {
         return Ok(None);
     };
@@ -86,7 +86,7 @@ fn control_at<R: Paths>(rt: &R, config: &Config) -> Result<Option<UnixListener>,
 }
 
 /// Listens as a file says.
-fn listeners_of<R>(rt: &R, config: &Config) -> Result<Listeners, Unheard>
+fn listeners_of<R>(rt: &R, config: &SiteConfig) -> Result<Listeners, Unheard>
 where
     R: Net<Listener = TcpListener, Stream = TcpStream> + Paths,
 {
@@ -131,13 +131,13 @@ fn desk_of(
         return Ok(None);
     };
     let hall = Hall::new(alloc, totals, grain.min(6))?;
-    let book = Book::new(alloc, plan)?;
+    let book = CustomerBook::new(alloc, plan)?;
     let shares = FairShare::new(alloc, customers.saturating_add(LATER))?;
     Ok(Some(SiteDesk::new(BookedHall::new(hall, book), shares)))
 }
 
 /// The desks of a site, one for each plan; `None` where one's totals are beyond any hall's.
-fn desks_of(alloc: Global, config: &Config) -> Result<Option<Vec<SiteDesk>>, AllocError> {
+fn desks_of(alloc: Global, config: &SiteConfig) -> Result<Option<Vec<SiteDesk>>, AllocError> {
     let mut desks = Vec::new(alloc);
     for plan in &config.halls {
         let customers = config.directory.customers.len();
@@ -153,7 +153,7 @@ fn desks_of(alloc: Global, config: &Config) -> Result<Option<Vec<SiteDesk>>, All
 }
 
 /// How many workers a hall has.
-fn workers_of<R: Threads>(rt: &R, config: &Config) -> u8 {
+fn workers_of<R: Threads>(rt: &R, config: &SiteConfig) -> u8 {
     match config.workers.count {
         Some(count) => count,
         None => match thread::available_parallelism(rt) {
@@ -167,7 +167,7 @@ fn workers_of<R: Threads>(rt: &R, config: &Config) -> u8 {
 fn shared_of<R: Clock + AllocGlobal>(
     rt: &R,
     path: &str,
-    config: Config,
+    config: SiteConfig,
     ending: Arc<Ending, Global>,
 ) -> io::Result<Option<Shared>> {
     let alloc = rt.alloc();
@@ -190,7 +190,7 @@ fn shared_of<R: Clock + AllocGlobal>(
 }
 
 /// Listens as a file says, and serves until it is told why the site ends; `None` where a hall's totals are beyond any hall's.
-pub(crate) fn serve_config<R>(rt: &R, path: &str, config: Config) -> io::Result<Option<Why>>
+pub(crate) fn serve_config<R>(rt: &R, path: &str, config: SiteConfig) -> io::Result<Option<Why>>
 where
     R: Net<Listener = TcpListener, Stream = TcpStream>
         + Threads
@@ -214,7 +214,7 @@ where
     let Some(shared) = shared_of(rt, path, config, theirs)? else {
         return Ok(None);
     };
-    let site = Site {
+    let site = SiteService {
         shared,
         listeners,
         workers,
@@ -303,7 +303,7 @@ where
 }
 
 /// Starts all threads of a site.
-fn serve_site<R>(rt: &R, site: Site)
+fn serve_site<R>(rt: &R, site: SiteService)
 where
     R: Net<Listener = TcpListener, Stream = TcpStream>
         + Threads
@@ -315,7 +315,7 @@ where
         + AllocGlobal
         + Sync,
 {
-    let Site {
+    let SiteService {
         shared,
         listeners,
         workers,

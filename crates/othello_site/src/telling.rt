@@ -1,7 +1,7 @@
 //! What the site says of itself: STATS and metrics.
 use crate::counts::{BOUNDS, Buckets, Counts, NAMES};
 use crate::shared::Shared;
-use site_book::{Amount, Part};
+use site_book::{Amount, Group};
 use site_file::Address;
 use std::alloc::{AllocError, Global};
 use std::fmt::Write;
@@ -86,10 +86,10 @@ fn push_hall<R: AllocGlobal + Clock + Wait>(
     };
     let config = Arc::try_clone(&shared.register(rt).config)?;
     let number = hall.saturating_add(1);
-    let (may, has) = desk.part(rt, Part::All);
+    let (may, has) = desk.part(rt, Group::All);
     write!(out, "hall={number} ")?;
     push_amounts(out, may, has)?;
-    let (may, has) = desk.part(rt, Part::Guests);
+    let (may, has) = desk.part(rt, Group::Guests);
     write!(out, "guests hall={number} ")?;
     push_amounts(out, may, has)?;
     let now = shared.now(rt);
@@ -100,7 +100,7 @@ fn push_hall<R: AllocGlobal + Clock + Wait>(
             .iter()
             .any(|other| other.who.is(present.who));
         if is_first {
-            let (may, has) = desk.part(rt, Part::Own(present.who));
+            let (may, has) = desk.part(rt, Group::Own(present.who));
             write!(out, "customer=\"{name}\" hall={number} ")?;
             push_amounts(out, may, has)?;
         }
@@ -199,8 +199,8 @@ fn push_halls<R: Wait>(rt: &R, shared: &Shared, out: &mut String) -> Result<(), 
     push_head(out, "sessions", "Sessions now.", "gauge")?;
     for (hall, desk) in shared.desks.iter().enumerate() {
         let number = hall.saturating_add(1);
-        let (_, all) = desk.part(rt, Part::All);
-        let (_, guests) = desk.part(rt, Part::Guests);
+        let (_, all) = desk.part(rt, Group::All);
+        let (_, guests) = desk.part(rt, Group::Guests);
         let named = all.sessions.saturating_sub(guests.sessions);
         let guests = guests.sessions;
         writeln!(
@@ -210,7 +210,7 @@ fn push_halls<R: Wait>(rt: &R, shared: &Shared, out: &mut String) -> Result<(), 
     }
     push_head(out, "segments", "Segments that are reserved now.", "gauge")?;
     for (hall, desk) in shared.desks.iter().enumerate() {
-        let (number, all) = (hall.saturating_add(1), desk.part(rt, Part::All).1);
+        let (number, all) = (hall.saturating_add(1), desk.part(rt, Group::All).1);
         let segments = all.segments;
         writeln!(out, "othello_site_segments{{hall=\"{number}\"}} {segments}")?;
     }

@@ -1,7 +1,7 @@
 //! Each second: sessions whose client is gone, and connections that are to be shut.
 use crate::ending::Why;
 use crate::shared::Shared;
-use site_book::{Part, Present, Told, Whom};
+use site_book::{Group, Present, Told, Whom};
 use std::sync::Wait;
 use std::thread;
 use std::time::{Clock, Duration};
@@ -89,7 +89,7 @@ fn is_drained<R: Clock + Wait>(rt: &R, shared: &Shared) -> bool {
     }
     if until <= shared.now(rt) {
         for hall in 0..shared.desks.len() {
-            let _ = tell(rt, shared, hall, Whom::Each(Part::All), Told::ByOperator);
+            let _ = tell(rt, shared, hall, Whom::Each(Group::All), Told::ByOperator);
         }
     }
     false

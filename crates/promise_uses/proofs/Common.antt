@@ -71,7 +71,7 @@ pub use Rattle.site_book.specs.Books.{new_book}
 pub use Rattle.site_book.specs.Events.{answers_of, book_after_events}
 pub use Rattle.site_book.specs.Grants.{used}
 pub use Rattle.site_book.specs.Names.{same_who}
-pub use Rattle.site_book.specs.declared.held.Part.TheVariants.{All, Guests, Own}
+pub use Rattle.site_book.specs.declared.held.Group.TheVariants.{All, Guests, Own}
 pub use Rattle.site_book.specs.declared.who.Who.TheVariants.{Named, V4, V6}
 pub use Rattle.solve_engine.specs.Solving.{SolvedRun, answers_unless, line_question, question_answer, solve_line_unless, solve_out_unless, solved_unless}
 pub use Rattle.solve_engine.specs.Solving.{words_question}

@@ -9,7 +9,7 @@ use crate::faults::{End, SessionFault};
 use crate::office::Office;
 use crate::texts::SessionText;
 use crate::turns::{leave_if_seated, take_turn};
-use line_io::{Answer, Ends, LF, Line, LineFault, Sink, Source, TalkEnd, talk_lines};
+use line_io::{Ends, LF, Line, LineAnswerer, LineFault, Sink, Source, TalkEnd, talk_lines};
 use std::sync::Wait;
 
 /// Answers the lines of one session, and knows whether its tenant is there. Its text is the last answer, over which the
@@ -37,7 +37,7 @@ impl<'a, O: Office> Clerk<'a, O> {
     }
 }
 
-impl<O: Office> Answer for Clerk<'_, O> {
+impl<O: Office> LineAnswerer for Clerk<'_, O> {
     ghost answers = { λ s line text t. (t.office.ghost_name ≡ s.office.ghost_name)
         × Turned O.does (request s.seated line) s.office.now s.seated text t.office.now t.seated };
 

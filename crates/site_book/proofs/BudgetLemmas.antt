@@ -1,10 +1,10 @@
 -- Nothing is refused exactly where everything that is needed is left.
-use Rattle.site_book.proofs.Common.{◌≡◌, ℕ, true, false, List, Some, None, refl, arith, ltb-false, le-ltb, eqb-false, eq-eqb, ne_eqb, or_parts, or_from, and_right, and_parts, and_from, Quota, IsAbove, Held, Part, Own, Network, Guests, All, Who, same_who, is_guest, network_of, of_one, plus, IsAmountWithin, PlanOf, limit_of, is_in, used, grants_without, is_no_raise, is_beyond_part, why_over, why_no_raise, HasBudgetFor, MayGrow}
+use Rattle.site_book.proofs.Common.{◌≡◌, ℕ, true, false, List, Some, None, refl, arith, ltb-false, le-ltb, eqb-false, eq-eqb, ne_eqb, or_parts, or_from, and_right, and_parts, and_from, Quota, IsAbove, Grant, Group, Own, Network, Guests, All, Who, same_who, is_guest, network_of, of_one, plus, IsAmountWithin, PlanOf, limit_of, is_in, used, grants_without, is_no_raise, is_beyond_part, why_over, why_no_raise, HasBudgetFor, MayGrow}
 use Rattle.site_book.proofs.AmountLemmas.{within-test, test-within}
 use Rattle.site_book.proofs.NameLemmas.{same-is, is-same, in-own}
 
 -- the parts that a plan limits by budgets
-abbrev pub IsPart : Part → Type 0
+abbrev pub IsPart : Group → Type 0
 IsPart (Own who) = Unit {0}
 IsPart (Network who) = Unit {0}
 IsPart Guests = Unit {0}
@@ -14,8 +14,8 @@ IsPart All = ⊥
 pub in-network : (who : Who) → is_guest who ≡ true → is_in (Network (network_of who)) who ≡ true
 in-network who guest = and_from _ _ guest (is-same (network_of who))
 
-module _ (plan : PlanOf) (who : Who) (ask : Quota) (gs : List Held) where
-  within-part : (part : Part) → is_beyond_part plan part who ask (used part gs) ≡ false → is_in part who ≡ true → IsAmountWithin (plus (of_one ask) (used part gs)) (limit_of plan part)
+module _ (plan : PlanOf) (who : Who) (ask : Quota) (gs : List Grant) where
+  within-part : (part : Group) → is_beyond_part plan part who ask (used part gs) ≡ false → is_in part who ≡ true → IsAmountWithin (plus (of_one ask) (used part gs)) (limit_of plan part)
   within-part part nay own = within-test _ _ (grind arith)
 
   pub allowed : why_over plan who ask gs ≡ None → HasBudgetFor plan who ask gs
@@ -29,7 +29,7 @@ module _ (plan : PlanOf) (who : Who) (ask : Quota) (gs : List Held) where
         guests = within-part Guests guests_not;
       }
 
-  part-beyond : (part : Part) → (is_in part who ≡ true → IsAmountWithin (plus (of_one ask) (used part gs)) (limit_of plan part)) → is_beyond_part plan part who ask (used part gs) ≡ false
+  part-beyond : (part : Group) → (is_in part who ≡ true → IsAmountWithin (plus (of_one ask) (used part gs)) (limit_of plan part)) → is_beyond_part plan part who ask (used part gs) ≡ false
   part-beyond part so = grind (arith, test-within)
 
   pub allowed-to : HasBudgetFor plan who ask gs → why_over plan who ask gs ≡ None
@@ -38,7 +38,7 @@ module _ (plan : PlanOf) (who : Who) (ask : Quota) (gs : List Held) where
       rw (part-beyond (Own who) (λ _. has.own), network, part-beyond Guests has.guests) refl
 
   -- so of each part of which the customer is one
-  pub passes : HasBudgetFor plan who ask gs → (part : Part) → IsPart part → is_in part who ≡ true → IsAmountWithin (plus (of_one ask) (used part gs)) (limit_of plan part)
+  pub passes : HasBudgetFor plan who ask gs → (part : Group) → IsPart part → is_in part who ≡ true → IsAmountWithin (plus (of_one ask) (used part gs)) (limit_of plan part)
   passes has part is own = grind (arith, same-is, and_parts)
 
 -- more
@@ -50,7 +50,7 @@ module _ (now ask : Quota) where
   more-to : IsAbove now ask → is_no_raise now ask ≡ false
   more-to more = grind (arith, or_from, le-ltb, ne_eqb, and_right)
 
-module _ (plan : PlanOf) (who : Who) (session : ℕ) (ask : Quota) (gs : List Held) (held : Held) where
+module _ (plan : PlanOf) (who : Who) (session : ℕ) (ask : Quota) (gs : List Grant) (held : Grant) where
   -- what a raise that isn't refused has passed
   pub grow-from : why_no_raise plan who session ask gs (Some held) ≡ None → MayGrow plan who session ask gs held
   grow-from none = grind (arith, more-from, allowed)

@@ -1,5 +1,5 @@
 -- What comes of who asks for a session, and of another plan.
-use Rattle.site_book.proofs.Common.{◌≡◌, ℕ, suc, ◌+◌, ◌-◌, ◌<◌, ◌≤◌, ◌⊎◌, inl, inr, Bool, true, false, length-append, List, [], ◌∷◌, ◌++◌, length, Option, Some, None, refl, ap, ◌∙◌, subst, append_assoc, arith, Contains, cases_Bool, and_parts, not-true, ltb-true, is_some, is_none, Held, Refusal, OverGuests, is_guest, PlanOf, IsKept, Enters, Ends, Refused, Told as those_told, Idle as those_idle, Present, ByPlan, first_told, is_idle, idler, idlest, remaining, by_book, unless_idle, stays, told_by, told_unless, with_staying}
+use Rattle.site_book.proofs.Common.{◌≡◌, ℕ, suc, ◌+◌, ◌-◌, ◌<◌, ◌≤◌, ◌⊎◌, inl, inr, Bool, true, false, length-append, List, [], ◌∷◌, ◌++◌, length, Option, Some, None, refl, ap, ◌∙◌, subst, append_assoc, arith, Contains, cases_Bool, and_parts, not-true, ltb-true, is_some, is_none, Grant, BookRefusal, OverGuests, is_guest, PlanOf, IsKept, Enters, Ends, Refused, Told as those_told, Idle as those_idle, Present, ByPlan, first_told, is_idle, idler, idlest, remaining, by_book, unless_idle, stays, told_by, told_unless, with_staying}
 use Rattle.site_book.proofs.Keepings.{kept-open}
 use Rattle.site_book.specs.declared.present.Told.{Told}
 
@@ -10,14 +10,14 @@ pub record IsEnded (i : Option Present) (n : ℕ) : Type 0 where
 
 -- of one for whom all guests have too much
 
-module _ (r : Refusal) (w : Option Refusal) (i : Option Present) where
+module _ (r : BookRefusal) (w : Option BookRefusal) (i : Option Present) where
   not-enters : unless_idle r w i ≡ Enters → ⊥
   not-enters e = grind arith
 
-  unless-ends : (n : ℕ) (q : Refusal) → unless_idle r w i ≡ Ends n q → IsEnded i n
+  unless-ends : (n : ℕ) (q : BookRefusal) → unless_idle r w i ≡ Ends n q → IsEnded i n
   unless-ends n q e = grind arith
 
-  unless-refused : (q : Refusal) → unless_idle r w i ≡ Refused q → r ≡ q
+  unless-refused : (q : BookRefusal) → unless_idle r w i ≡ Refused q → r ≡ q
   unless-refused q e = grind arith
 
   unless-none : unless_idle r w i ≡ Refused OverGuests → w ≡ None → i ≡ None
@@ -25,17 +25,17 @@ module _ (r : Refusal) (w : Option Refusal) (i : Option Present) where
 
 -- who enters, who is to end, and who is refused
 
-module _ (o s w : Option Refusal) (i : Option Present) where
+module _ (o s w : Option BookRefusal) (i : Option Present) where
   pub only_enters : by_book o s w i ≡ Enters → o ≡ None
   only_enters e = grind (arith, not-enters)
 
-  pub ends-idle : (n : ℕ) (q : Refusal) → by_book o s w i ≡ Ends n q → IsEnded i n
+  pub ends-idle : (n : ℕ) (q : BookRefusal) → by_book o s w i ≡ Ends n q → IsEnded i n
   ends-idle n q e = grind (arith, unless-ends)
 
-  pub refused-now : (r : Refusal) → by_book o s w i ≡ Refused r → o ≡ Some r
+  pub refused-now : (r : BookRefusal) → by_book o s w i ≡ Refused r → o ≡ Some r
   refused-now r e = grind (arith, unless-refused)
 
-  pub refused-then : (r : Refusal) → by_book o s w i ≡ Refused r → s ≡ None → ⊥
+  pub refused-then : (r : BookRefusal) → by_book o s w i ≡ Refused r → s ≡ None → ⊥
   refused-then r e none = grind arith
 
   pub refused-idle : by_book o s w i ≡ Refused OverGuests → w ≡ None → i ≡ None
@@ -79,13 +79,13 @@ module _ (now most : ℕ) where
   idle-parts p idle = grind (arith, and_parts, none-told, not-true, ltb-true)
 
   -- where nobody is idle only those go who were told to
-  pub nobody-idle : (gs : List Held) (roll : List Present) → idlest now most roll ≡ None → remaining (those_idle now most) gs roll ≡ remaining those_told gs roll
+  pub nobody-idle : (gs : List Grant) (roll : List Present) → idlest now most roll ≡ None → remaining (those_idle now most) gs roll ≡ remaining those_told gs roll
   nobody-idle (g ∷ gs) (p ∷ roll) e = elim (cases_Bool (is_idle now most p)) [
     | inl aye ↦ absurd (idler-some p (idlest now most roll) (rw aye at e))
     | inr nay ↦ (let rest = nobody-idle gs roll (rw nay at e) in
         elim (cases_Bool (is_some p.told)) [
           | inl told ↦ rw told rest
-          | inr keeps ↦ rw (nay, keeps) (ap (λ (l : List Held). g ∷ l) rest)
+          | inr keeps ↦ rw (nay, keeps) (ap (λ (l : List Grant). g ∷ l) rest)
         ])
   ]
   nobody-idle gs roll e = grind arith
@@ -98,15 +98,15 @@ some-told o why = grind arith
 none-some : (o : Option Told) → is_none o ≡ true → is_some o ≡ false
 none-some o e = grind arith
 
-none-over : (o : Option Refusal) → is_none o ≡ true → o ≡ None
+none-over : (o : Option BookRefusal) → is_none o ≡ true → o ≡ None
 none-over o e = grind arith
 
-append-none : (gs : List Held) → gs ++ [] ≡ gs
+append-none : (gs : List Grant) → gs ++ [] ≡ gs
 append-none [] = refl
-append-none (g ∷ gs) = ap (λ (l : List Held). g ∷ l) (append-none gs)
+append-none (g ∷ gs) = ap (λ (l : List Grant). g ∷ l) (append-none gs)
 
 module _ (plan : PlanOf) where
-  pub left-kept : (before gs : List Held) (roll : List Present) → IsKept plan before → length roll ≡ length gs → IsKept plan (before ++ remaining those_told gs (told_by plan before gs roll))
+  pub left-kept : (before gs : List Grant) (roll : List Present) → IsKept plan before → length roll ≡ length gs → IsKept plan (before ++ remaining those_told gs (told_by plan before gs roll))
   left-kept before (g ∷ gs) (p ∷ roll) kept alike =
       let rest_alike : length roll ≡ length gs = omega (arith, alike) in
       elim (cases_Bool (stays plan before g p)) [
@@ -119,11 +119,11 @@ module _ (plan : PlanOf) where
   left-kept before gs roll kept alike = grind (arith, append-none)
 
   -- a step of the loop over all grants
-  pub told-step : (before after gs : List Held) (g : Held) (roll : List Present) (p j : Present) (told more whole : List Present) → j ≡ told_unless (stays plan before g p) p →
+  pub told-step : (before after gs : List Grant) (g : Grant) (roll : List Present) (p j : Present) (told more whole : List Present) → j ≡ told_unless (stays plan before g p) p →
       after ≡ with_staying (stays plan before g p) before g → more ≡ told ++ j ∷ [] → told ++ told_by plan before (g ∷ gs) (p ∷ roll) ≡ whole → more ++ told_by plan after gs roll ≡ whole
   told-step before after gs g roll p j told more whole judged kept pushed so =
       ap (λ (l : List Present). l ++ told_by plan after gs roll) pushed
       ∙ (append_assoc told (j ∷ []) (told_by plan after gs roll) ∙ ((λ i. told ++ (judged i ∷ told_by plan (kept i) gs roll)) ∙ so))
 
-pub staying-length : (b : Bool) (before after : List Held) (g : Held) → after ≡ with_staying b before g → length after ≤ length before + 1
+pub staying-length : (b : Bool) (before after : List Grant) (g : Grant) → after ≡ with_staying b before g → length after ≤ length before + 1
 staying-length b before after g is = grind (arith, length-append)

@@ -24,13 +24,13 @@ pub use Rattle.site_book.specs.Plans.{PlanOf, limit_of, sums_fit}
 pub use Rattle.site_book.specs.Rolls.{first_told, idler, idlest, is_idle, marked_all, remaining, without_present}
 pub use Rattle.site_book.specs.declared.amount.Amount.{Amount}
 pub use Rattle.site_book.specs.declared.coming.Coming.TheVariants.{Ends, Enters, Refused}
-pub use Rattle.site_book.specs.declared.held.Held.{Held}
-pub use Rattle.site_book.specs.declared.held.Part.{Part}
-pub use Rattle.site_book.specs.declared.held.Part.TheVariants.{All, Guests, Network, Own}
+pub use Rattle.site_book.specs.declared.held.Grant.{Grant}
+pub use Rattle.site_book.specs.declared.held.Group.{Group}
+pub use Rattle.site_book.specs.declared.held.Group.TheVariants.{All, Guests, Network, Own}
 pub use Rattle.site_book.specs.declared.present.Leaver.TheVariants.{Idle, Told}
 pub use Rattle.site_book.specs.declared.present.Present.{Present}
 pub use Rattle.site_book.specs.declared.present.Told.TheVariants.{ByPlan}
-pub use Rattle.site_book.specs.declared.refusal.Refusal.{Refusal}
-pub use Rattle.site_book.specs.declared.refusal.Refusal.TheVariants.{Beyond, Gone, Lower, OverBudget, OverGuests, OverNetwork, Unfit}
+pub use Rattle.site_book.specs.declared.refusal.BookRefusal.{BookRefusal}
+pub use Rattle.site_book.specs.declared.refusal.BookRefusal.TheVariants.{Beyond, Gone, Lower, OverBudget, OverGuests, OverNetwork, Unfit}
 pub use Rattle.site_book.specs.declared.who.Who.{Who}
 pub use Rattle.site_book.specs.declared.who.Who.TheVariants.{Named, V4, V6}

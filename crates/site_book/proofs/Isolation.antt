@@ -1,5 +1,5 @@
 -- What others do is nothing to some customers.
-use Rattle.site_book.proofs.Common.{◌≡◌, ℕ, Bool, true, false, not, ◌&&◌, cond, List, [], ◌∷◌, Option, Some, None, refl, ap, sym, ◌∙◌, inl, inr, arith, cases_Bool, and_parts, and_from, is_none, Quota, Amount, Held, Part, Own, Network, Guests, Refusal, OverBudget, OverNetwork, OverGuests, Lower, Who, Named, same_who, is_guest, network_of, of_one, plus, is_amount_within, PlanOf, limit_of, is_in, used, grants_without, is_no_raise, BookOf, BookEvent, Opens, Raises, Closes, Replans, first_refusal, why_over, why_no_raise, part_over, are_within, why_not_replan, answer_of_book, taken, book_after_answer, book_after, book_after_events, is_of, is_event_kept, only_events, answers_of, grants_of}
+use Rattle.site_book.proofs.Common.{◌≡◌, ℕ, Bool, true, false, not, ◌&&◌, cond, List, [], ◌∷◌, Option, Some, None, refl, ap, sym, ◌∙◌, inl, inr, arith, cases_Bool, and_parts, and_from, is_none, Quota, Amount, Grant, Group, Own, Network, Guests, BookRefusal, OverBudget, OverNetwork, OverGuests, Lower, Who, Named, same_who, is_guest, network_of, of_one, plus, is_amount_within, PlanOf, limit_of, is_in, used, grants_without, is_no_raise, BookOf, BookEvent, Opens, Raises, Closes, Replans, first_refusal, why_over, why_no_raise, part_over, are_within, why_not_replan, answer_of_book, taken, book_after_answer, book_after, book_after_events, is_of, is_event_kept, only_events, answers_of, grants_of}
 use Rattle.site_book.proofs.NameLemmas.{same-is}
 use Rattle.site_book.proofs.BudgetLemmas.{IsPart}
 use Rattle.site_book.proofs.Keepings.{comes-in}
@@ -7,7 +7,7 @@ use Rattle.site_book.proofs.Views.{used-theirs, grant-theirs, without-theirs, wi
 
 -- who shares a budget with one of them is one of them
 abbrev pub IsWhole : (Who → Bool) → Type 0
-IsWhole is_one = (part : Part) → IsPart part → (v w : Who) → is_one v ≡ true → is_in part v ≡ true → is_in part w ≡ true → is_one w ≡ true
+IsWhole is_one = (part : Group) → IsPart part → (v w : Who) → is_one v ≡ true → is_in part v ≡ true → is_in part w ≡ true → is_one w ≡ true
 
 -- the book as they see it
 abbrev pub their_book : (Who → Bool) → BookOf → BookOf
@@ -19,33 +19,33 @@ module _ (is_one : Who → Bool) where
   taken-theirs : (book : BookOf) (event : BookEvent) → is_event_kept is_one event None ≡ true → taken (their_book is_one book) event ≡ their_book is_one (taken book event)
   taken-theirs book event own = grind (arith, push-theirs, with-ask-theirs, without-theirs)
 
-  kept-answer : (book : BookOf) (event : BookEvent) (answer : Option Refusal) → answer_of_book book event ≡ answer → is_event_kept is_one event answer ≡ true →
+  kept-answer : (book : BookOf) (event : BookEvent) (answer : Option BookRefusal) → answer_of_book book event ≡ answer → is_event_kept is_one event answer ≡ true →
       answer_of_book (their_book is_one book) event ≡ answer → book_after (their_book is_one book) event ≡ their_book is_one (book_after_answer book event answer)
   kept-answer book event answer is kept same = grind (arith, taken-theirs)
 
   -- one that doesn't
-  other-answer : (book : BookOf) (event : BookEvent) (answer : Option Refusal) → is_event_kept is_one event answer ≡ false → their_book is_one (book_after_answer book event answer) ≡ their_book is_one book
+  other-answer : (book : BookOf) (event : BookEvent) (answer : Option BookRefusal) → is_event_kept is_one event answer ≡ false → their_book is_one (book_after_answer book event answer) ≡ their_book is_one book
   other-answer book event answer other = grind (arith, push-others, with-ask-others, without-others)
 
   module _ (whole : IsWhole is_one) where
-    part-theirs : (part : Part) (who : Who) (gs : List Held) (test : Amount → Bool) → IsPart part → is_one who ≡ true → (is_in part who && test (used part (grants_of is_one gs))) ≡ (is_in part who && test (used part gs))
+    part-theirs : (part : Group) (who : Who) (gs : List Grant) (test : Amount → Bool) → IsPart part → is_one who ≡ true → (is_in part who && test (used part (grants_of is_one gs))) ≡ (is_in part who && test (used part gs))
     part-theirs part who gs test is own = elim (cases_Bool (is_in part who)) [
       | inl aye ↦ ap (λ (a : Amount). is_in part who && test a) (used-theirs is_one (is_in part) gs (λ w one. whole part is who w own aye one))
       | inr nay ↦ rw nay refl
     ]
 
-    over-theirs : (plan : PlanOf) (who : Who) (ask : Quota) (gs : List Held) → is_one who ≡ true → why_over plan who ask (grants_of is_one gs) ≡ why_over plan who ask gs
+    over-theirs : (plan : PlanOf) (who : Who) (ask : Quota) (gs : List Grant) → is_one who ≡ true → why_over plan who ask (grants_of is_one gs) ≡ why_over plan who ask gs
     over-theirs plan who ask gs own =
-        let same = λ (part : Part) (is : IsPart part). part-theirs part who gs (λ a. not (is_amount_within (plus (of_one ask) a) (limit_of plan part))) is own in
+        let same = λ (part : Group) (is : IsPart part). part-theirs part who gs (λ a. not (is_amount_within (plus (of_one ask) a) (limit_of plan part))) is own in
         λ i. first_refusal ((same (Own who) tt i, OverBudget) ∷ (same (Network (network_of who)) tt i, OverNetwork) ∷ (same Guests tt i, OverGuests) ∷ [])
 
-    part_over-theirs : (plan : PlanOf) (who : Who) (gs : List Held) → is_one who ≡ true → part_over plan (grants_of is_one gs) who ≡ part_over plan gs who
+    part_over-theirs : (plan : PlanOf) (who : Who) (gs : List Grant) → is_one who ≡ true → part_over plan (grants_of is_one gs) who ≡ part_over plan gs who
     part_over-theirs plan who gs own =
-        let same = λ (part : Part) (is : IsPart part). part-theirs part who gs (λ a. not (is_amount_within a (limit_of plan part))) is own in
+        let same = λ (part : Group) (is : IsPart part). part-theirs part who gs (λ a. not (is_amount_within a (limit_of plan part))) is own in
         let network = Network (network_of who) in
         λ i. cond (same (Own who) tt i) (Some (Own who)) (cond (same network tt i) (Some network) (cond (same Guests tt i) (Some Guests) None))
 
-    within-theirs : (plan : PlanOf) (all gs : List Held) → are_within plan all gs ≡ true → are_within plan (grants_of is_one all) (grants_of is_one gs) ≡ true
+    within-theirs : (plan : PlanOf) (all gs : List Grant) → are_within plan all gs ≡ true → are_within plan (grants_of is_one all) (grants_of is_one gs) ≡ true
     within-theirs plan all [] within = refl
     within-theirs plan all (g ∷ gs) within =
         let both = and_parts (is_none (part_over plan all g.who)) (are_within plan all gs) within in
@@ -55,12 +55,12 @@ module _ (is_one : Who → Bool) where
           | inr other ↦ rw other rest
         ]
 
-    raise-theirs : (plan : PlanOf) (who : Who) (session : ℕ) (ask : Quota) (gs : List Held) (found : Option Held) → is_one who ≡ true →
+    raise-theirs : (plan : PlanOf) (who : Who) (session : ℕ) (ask : Quota) (gs : List Grant) (found : Option Grant) → is_one who ≡ true →
         why_no_raise plan who session ask (grants_of is_one gs) found ≡ why_no_raise plan who session ask gs found
     raise-theirs plan who session ask gs None own = refl
     raise-theirs plan who session ask gs (Some held) own =
         let same = ap (why_over plan who ask) (sym (without-theirs is_one who session own gs)) ∙ over-theirs plan who ask (grants_without who session gs) own in
-        ap (λ (o : Option Refusal). cond (is_no_raise held.ask ask) (Some Lower) o) same
+        ap (λ (o : Option BookRefusal). cond (is_no_raise held.ask ask) (Some Lower) o) same
 
     module _ (book : BookOf) where
       pub answer-theirs : (event : BookEvent) → is_of is_one event ≡ true → answer_of_book (their_book is_one book) event ≡ answer_of_book book event
@@ -87,7 +87,7 @@ module _ (few many : Who → Bool) (among : (w : Who) → few w ≡ true → man
   of-many : (event : BookEvent) → is_of few event ≡ true → is_of many event ≡ true
   of-many event own = grind arith
 
-  of-kept : (event : BookEvent) (answer : Option Refusal) → is_event_kept many event answer ≡ false → is_of few event ≡ false
+  of-kept : (event : BookEvent) (answer : Option BookRefusal) → is_event_kept many event answer ≡ false → is_of few event ≡ false
   of-kept event answer other = grind arith
 
   pub told-theirs : IsWhole many → (book : BookOf) (events : List BookEvent) → answers_of few book events ≡ answers_of few (their_book many book) (only_events many book events)

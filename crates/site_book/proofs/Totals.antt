@@ -1,5 +1,5 @@
 -- Where each part is within its budget, and the budgets fit, all sessions together are within the totals.
-use Rattle.site_book.proofs.Common.{◌≡◌, ℕ, suc, ◌+◌, ◌-◌, ◌≤◌, Bool, true, false, ◌&&◌, ◌||◌, leb, eqb, List, [], ◌∷◌, get_or, refl, sym, subst, inl, inr, zero-add, add-zero, arith, cases_Bool, and_parts, leb-true, le-leb, eq-eqb, Amount, Held, Part, Own, Guests, All, Who, Named, V4, V6, same_who, is_guest, nothing, plus, sum_of, is_amount_within, IsAmountWithin, PlanOf, limit_of, sums_fit, is_in, used_by, used}
+use Rattle.site_book.proofs.Common.{◌≡◌, ℕ, suc, ◌+◌, ◌-◌, ◌≤◌, Bool, true, false, ◌&&◌, ◌||◌, leb, eqb, List, [], ◌∷◌, get_or, refl, sym, subst, inl, inr, zero-add, add-zero, arith, cases_Bool, and_parts, leb-true, le-leb, eq-eqb, Amount, Grant, Group, Own, Guests, All, Who, Named, V4, V6, same_who, is_guest, nothing, plus, sum_of, is_amount_within, IsAmountWithin, PlanOf, limit_of, sums_fit, is_in, used_by, used}
 use Rattle.site_book.proofs.AmountLemmas.{within-test, within-trans, within-same, within-more, within-both, plus-swap}
 use Rattle.site_book.proofs.GrantLemmas.{used-split, used-alike}
 use Rattle.site_book.proofs.BudgetLemmas.{IsPart}
@@ -14,10 +14,10 @@ from-all : (w : Who) → is_in All w ≡ from_place 0 w
 from-all w = grind (arith, le-leb)
 
 -- who has nothing isn't there
-out-first : (part : Part) (g : Held) (gs : List Held) → IsAmountWithin (used part (g ∷ gs)) nothing → is_in part g.who ≡ false
+out-first : (part : Group) (g : Grant) (gs : List Grant) → IsAmountWithin (used part (g ∷ gs)) nothing → is_in part g.who ≡ false
 out-first part g gs none = grind arith
 
-used-tail : (part : Part) (g : Held) (gs : List Held) → IsAmountWithin (used part gs) (used part (g ∷ gs))
+used-tail : (part : Group) (g : Grant) (gs : List Grant) → IsAmountWithin (used part gs) (used part (g ∷ gs))
 used-tail part g gs = grind (arith, within-more, within-same)
 
 module _ (k : ℕ) where
@@ -42,14 +42,14 @@ module _ (k : ℕ) where
   from-guests (V4 address) out = refl
   from-guests (V6 network) out = refl
 
-  none-named : (gs : List Held) → ((n : ℕ) → IsAmountWithin (used (Own (Named (k + n))) gs) nothing) → used_by (from_place k) gs ≡ used Guests gs
+  none-named : (gs : List Grant) → ((n : ℕ) → IsAmountWithin (used (Own (Named (k + n))) gs) nothing) → used_by (from_place k) gs ≡ used Guests gs
   none-named [] none = refl
   none-named (g ∷ gs) none = grind (arith, none-named gs, from-guests, out-first, within-trans, used-tail)
 
   next : (n : ℕ) → k + suc n ≡ suc k + n
   next n = omega arith
 
-module _ (gs : List Held) (guests : Amount) (few : IsAmountWithin (used Guests gs) guests) where
+module _ (gs : List Grant) (guests : Amount) (few : IsAmountWithin (used Guests gs) guests) where
   bound : (customers : List Amount) (k : ℕ) → ((n : ℕ) → IsAmountWithin (used (Own (Named (k + n))) gs) (get_or customers n nothing)) → IsAmountWithin (used_by (from_place k) gs) (plus guests (sum_of customers))
   bound [] k own = let same = none-named k gs own in grind arith
   bound (c ∷ cs) k own =
@@ -63,7 +63,7 @@ module _ (plan : PlanOf) where
   sums-within : sums_fit plan ≡ true → (leb plan.totals.sessions 64 ≡ true) × (is_amount_within (plus plan.guests (sum_of plan.customers)) plan.totals ≡ true)
   sums-within fit = and_parts _ _ fit
 
-  pub all-within : (gs : List Held) → sums_fit plan ≡ true → ((part : Part) → IsPart part → IsAmountWithin (used part gs) (limit_of plan part)) → IsAmountWithin (used All gs) plan.totals
+  pub all-within : (gs : List Grant) → sums_fit plan ≡ true → ((part : Group) → IsPart part → IsAmountWithin (used part gs) (limit_of plan part)) → IsAmountWithin (used All gs) plan.totals
   all-within gs fit parts =
       let budgets = λ (n : ℕ). subst (λ m. IsAmountWithin (used (Own (Named m)) gs) (get_or plan.customers n nothing)) (sym (zero-add n)) (parts (Own (Named n)) tt) in
       let all = bound gs plan.guests (parts Guests tt) plan.customers 0 budgets in

@@ -1,9 +1,9 @@
 -- Meaning: what comes of one who asks for a session, and who has to end for another plan.
 use Rattle.std.specs.Prelude.{ℕ, List, [], ◌∷◌, ◌++◌, Bool, ◌&&◌, is_none, Option, Some, None, if◌then◌else◌}
 use Rattle.tenant_quota.specs.Quota.{Quota}
-use Rattle.site_book.specs.declared.held.Held.{Held}
-use Rattle.site_book.specs.declared.refusal.Refusal.{Refusal}
-use Rattle.site_book.specs.declared.refusal.Refusal.TheVariants.{OverGuests}
+use Rattle.site_book.specs.declared.held.Grant.{Grant}
+use Rattle.site_book.specs.declared.refusal.BookRefusal.{BookRefusal}
+use Rattle.site_book.specs.declared.refusal.BookRefusal.TheVariants.{OverGuests}
 use Rattle.site_book.specs.declared.who.Who.{Who}
 use Rattle.site_book.specs.Plans.{PlanOf}
 use Rattle.site_book.specs.Books.{why_over}
@@ -15,34 +15,34 @@ use Rattle.site_book.specs.declared.present.Told.TheVariants.{ByPlan}
 use Rattle.site_book.specs.Rolls.{first_told, remaining, idlest}
 
 -- the idlest guest is to end, if there is one
-abbrev pub ends_or : Refusal → Option Present → Coming
+abbrev pub ends_or : BookRefusal → Option Present → Coming
 ends_or refusal None = Refused refusal
 ends_or refusal (Some present) = Ends present.session refusal
 
 -- of one for whom all guests together have too much: the idlest of them is to end, where there is room once all idle ones have gone
-abbrev pub unless_idle : Refusal → Option Refusal → Option Present → Coming
+abbrev pub unless_idle : BookRefusal → Option BookRefusal → Option Present → Coming
 unless_idle OverGuests None idle = ends_or OverGuests idle
 unless_idle refusal why idle = Refused refusal
 
 -- of one who is refused: it waits where there is room once those have gone who were told to end
-abbrev pub if_refused : Refusal → Option Refusal → Option Refusal → Option Present → Coming
+abbrev pub if_refused : BookRefusal → Option BookRefusal → Option BookRefusal → Option Present → Coming
 if_refused refusal None why idle = Waits refusal
 if_refused refusal (Some staying) why idle = unless_idle refusal why idle
 
 -- of one whom the book refuses, or doesn't
-abbrev pub by_book : Option Refusal → Option Refusal → Option Refusal → Option Present → Coming
+abbrev pub by_book : Option BookRefusal → Option BookRefusal → Option BookRefusal → Option Present → Coming
 by_book None staying why idle = Enters
 by_book (Some refusal) staying why idle = if_refused refusal staying why idle
 
 -- what comes of one who asks for a session: it enters where the book allows it; it waits for those who were told to end, where they leave
 -- room; where guests have too much and idle ones would leave room, the idlest is to end; or else it is refused
-abbrev pub coming : PlanOf → List Held → List Present → Who → Quota → ℕ → ℕ → Coming
+abbrev pub coming : PlanOf → List Grant → List Present → Who → Quota → ℕ → ℕ → Coming
 coming plan grants roll who ask now most =
     by_book (why_over plan who ask grants) (why_over plan who ask (remaining those_told grants roll)) (why_over plan who ask (remaining (those_idle now most) grants roll)) (idlest now most roll)
 
 -- whether a session stays under another plan, by those that stay of those before it: it wasn't told to end, and the plan allows it beside
 -- them
-abbrev pub stays : PlanOf → List Held → Held → Present → Bool
+abbrev pub stays : PlanOf → List Grant → Grant → Present → Bool
 stays plan before held present = is_none present.told && is_none (why_over plan held.who held.ask before)
 
 -- a session that was told to end for another plan, if it wasn't told before
@@ -50,7 +50,7 @@ abbrev pub told_to_end : Present → Present
 told_to_end present = record present { told = first_told present.told ByPlan }
 
 -- those that stay, and a session more where that stays too
-abbrev pub with_staying : Bool → List Held → Held → List Held
+abbrev pub with_staying : Bool → List Grant → Grant → List Grant
 with_staying stays before held = if stays then before ++ held ∷ [] else before
 
 -- a session, told to end where it doesn't stay
@@ -59,7 +59,7 @@ told_unless stays present = if stays then present else told_to_end present
 
 -- the roll, where those that don't stay under another plan are told to end. Those stay, in the order in which they came, that the plan allows
 -- beside those before them that stay
-abbrev pub told_by : PlanOf → List Held → List Held → List Present → List Present
+abbrev pub told_by : PlanOf → List Grant → List Grant → List Present → List Present
 told_by plan before [] roll = roll
 told_by plan before (held ∷ grants) [] = []
 told_by plan before (held ∷ grants) (present ∷ roll) =

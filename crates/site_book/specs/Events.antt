@@ -1,7 +1,7 @@
 -- Meaning: lists of events, and what each customer sees of them.
 use Rattle.std.specs.Prelude.{ℕ, ◌==◌, ◌&&◌, Bool, false, List, [], ◌∷◌, ◌++◌, map, is_none, Option, Some, None, if◌then◌else◌}
-use Rattle.site_book.specs.declared.held.Held.{Held}
-use Rattle.site_book.specs.declared.refusal.Refusal.{Refusal}
+use Rattle.site_book.specs.declared.held.Grant.{Grant}
+use Rattle.site_book.specs.declared.refusal.BookRefusal.{BookRefusal}
 use Rattle.site_book.specs.declared.who.Who.{Who}
 use Rattle.site_book.specs.Names.{same_who}
 use Rattle.site_book.specs.Books.{BookOf, BookEvent, Opens, Raises, Closes, Replans, answer_of_book, book_after}
@@ -12,7 +12,7 @@ book_after_events book [] = book
 book_after_events book (event ∷ events) = book_after_events (book_after book event) events
 
 -- the answer to each of them
-abbrev pub answers : BookOf → List BookEvent → List (Option Refusal)
+abbrev pub answers : BookOf → List BookEvent → List (Option BookRefusal)
 answers book [] = []
 answers book (event ∷ events) = answer_of_book book event ∷ answers (book_after book event) events
 
@@ -24,7 +24,7 @@ is_of is_one (Closes who session) = is_one who
 is_of is_one (Replans plan) = false
 
 -- whether the event stays when all others' are removed: it is theirs, or another plan that came in, by its answer
-abbrev pub is_event_kept : (Who → Bool) → BookEvent → Option Refusal → Bool
+abbrev pub is_event_kept : (Who → Bool) → BookEvent → Option BookRefusal → Bool
 is_event_kept is_one (Opens who session ask) answer = is_one who
 is_event_kept is_one (Raises who session ask) answer = is_one who
 is_event_kept is_one (Closes who session) answer = is_one who
@@ -37,13 +37,13 @@ only_events is_one book (event ∷ events) =
     if is_event_kept is_one event (answer_of_book book event) then event ∷ only_events is_one (book_after book event) events else only_events is_one (book_after book event) events
 
 -- the answers to their events
-abbrev pub answers_of : (Who → Bool) → BookOf → List BookEvent → List (Option Refusal)
+abbrev pub answers_of : (Who → Bool) → BookOf → List BookEvent → List (Option BookRefusal)
 answers_of is_one book [] = []
 answers_of is_one book (event ∷ events) =
     if is_of is_one event then answer_of_book book event ∷ answers_of is_one (book_after book event) events else answers_of is_one (book_after book event) events
 
 -- their grants
-abbrev pub grants_of : (Who → Bool) → List Held → List Held
+abbrev pub grants_of : (Who → Bool) → List Grant → List Grant
 grants_of is_one [] = []
 grants_of is_one (held ∷ grants) = if is_one held.who then held ∷ grants_of is_one grants else grants_of is_one grants
 
@@ -58,7 +58,7 @@ names_without who session (name ∷ names) = if same_who who name.0 && (session 
 
 -- the sessions that are open after an event of which this was the answer: one that was opened is there, and one that was closed
 -- isn't any more
-abbrev pub open_after : List Name → BookEvent → Option Refusal → List Name
+abbrev pub open_after : List Name → BookEvent → Option BookRefusal → List Name
 open_after names (Opens who session ask) None = names ++ (who, session) ∷ []
 open_after names (Opens who session ask) (Some refusal) = names
 open_after names (Raises who session ask) answer = names
@@ -66,11 +66,11 @@ open_after names (Closes who session) answer = names_without who session names
 open_after names (Replans plan) answer = names
 
 -- the sessions that are still open after a list of events, by their answers alone
-abbrev pub still_open : List Name → List BookEvent → List (Option Refusal) → List Name
+abbrev pub still_open : List Name → List BookEvent → List (Option BookRefusal) → List Name
 still_open names [] told = names
 still_open names (event ∷ events) [] = names
 still_open names (event ∷ events) (answer ∷ told) = still_open (open_after names event answer) events told
 
 -- the names of the grants that are out
-abbrev pub names_granted : List Held → List Name
+abbrev pub names_granted : List Grant → List Name
 names_granted grants = map (λ held. (held.who, held.session)) grants

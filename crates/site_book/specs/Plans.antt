@@ -1,8 +1,8 @@
 -- Meaning: what a plan of a hall allows: its named customers, and its guests.
 use Rattle.std.specs.Prelude.{Bool, ◌&&◌, nat_le, List, slice_index_or}
 use Rattle.site_book.specs.declared.amount.Amount.{Amount}
-use Rattle.site_book.specs.declared.held.Part.{Part}
-use Rattle.site_book.specs.declared.held.Part.TheVariants.{Own, Network, Guests, All}
+use Rattle.site_book.specs.declared.held.Group.{Group}
+use Rattle.site_book.specs.declared.held.Group.TheVariants.{Own, Network, Guests, All}
 use Rattle.site_book.specs.declared.who.Who.{Who}
 use Rattle.site_book.specs.declared.who.Who.TheVariants.{Named, V4, V6}
 use Rattle.site_book.specs.Amounts.{nothing, plus, sum_of, is_amount_within}
@@ -23,7 +23,7 @@ budget_of plan (V4 address) = plan.guest
 budget_of plan (V6 network) = plan.guest
 
 -- what some of the sessions may have together
-abbrev pub limit_of : PlanOf → Part → Amount
+abbrev pub limit_of : PlanOf → Group → Amount
 limit_of plan (Own who) = budget_of plan who
 limit_of plan (Network who) = plan.network
 limit_of plan Guests = plan.guests

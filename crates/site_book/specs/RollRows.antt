@@ -1,6 +1,6 @@
 -- Representation: guests and sessions of a small hall.
 use Rattle.std.specs.Prelude.{ℕ, List, [], ◌∷◌}
-use Rattle.site_book.specs.declared.held.Held.{Held}
+use Rattle.site_book.specs.declared.held.Grant.{Grant}
 use Rattle.site_book.specs.declared.who.Who.{Who}
 use Rattle.site_book.specs.declared.who.Who.TheVariants.{V4}
 use Rattle.site_book.specs.Rows.{ask, school, small}
@@ -10,11 +10,11 @@ use Rattle.site_book.specs.Comings.{coming}
 use Rattle.site_book.specs.Rolls.{newcomer}
 
 -- the grant of the guest of this number
-abbrev pub guest_held : ℕ → Held
+abbrev pub guest_held : ℕ → Grant
 guest_held number = record { who = V4 number; session = number; ask = ask 4 50 }
 
 -- a grant of the school, with so many segments
-abbrev pub named_held : ℕ → ℕ → Held
+abbrev pub named_held : ℕ → ℕ → Grant
 named_held session segments = record { who = school; session = session; ask = ask segments 100 }
 
 -- a guest that came at a time, and has said nothing since
@@ -26,7 +26,7 @@ abbrev pub named_present : ℕ → ℕ → Present
 named_present session now = newcomer school session now
 
 -- the grants of the guests 1 and 2
-abbrev pub two_guests : List Held
+abbrev pub two_guests : List Grant
 two_guests = guest_held 1 ∷ guest_held 2 ∷ []
 
 -- what comes of one who asks for little while they are there, and a guest may be silent for 60 milliseconds

@@ -1,14 +1,14 @@
 -- Meaning: who is there, how long idle, and who is told to end.
 use Rattle.std.specs.Prelude.{ℕ, ◌-◌, ◌==◌, Bool, false, not, ◌&&◌, ◌||◌, nat_lt, List, [], ◌∷◌, map, is_some, is_none, Option, Some, None, if◌then◌else◌}
-use Rattle.site_book.specs.declared.held.Held.{Held}
+use Rattle.site_book.specs.declared.held.Grant.{Grant}
 use Rattle.site_book.specs.declared.who.Who.{Who}
 use Rattle.site_book.specs.Names.{same_who, is_guest}
 use Rattle.site_book.specs.Grants.{is_in}
 use Rattle.site_book.specs.Events.{Name}
 use Rattle.site_book.specs.declared.present.Leaver.{Leaver}
 use Rattle.site_book.specs.declared.present.Leaver.TheVariants.{Told as those_told, Idle as those_idle}
-use Rattle.site_book.specs.declared.present.Mark.{Mark}
-use Rattle.site_book.specs.declared.present.Mark.TheVariants.{Spoke, Waits, Told as told_to}
+use Rattle.site_book.specs.declared.present.SessionMark.{SessionMark}
+use Rattle.site_book.specs.declared.present.SessionMark.TheVariants.{Spoke, Waits, Told as told_to}
 use Rattle.site_book.specs.declared.present.Present.{Present}
 use Rattle.site_book.specs.declared.present.Told.{Told}
 use Rattle.site_book.specs.declared.present.Whom.{Whom}
@@ -37,7 +37,7 @@ first_told None why = Some why
 first_told (Some told) why = Some told
 
 -- a session after this mark: its last line came now; it waits for a job from now on, or doesn't any more; it is told to end
-abbrev pub marked : Mark → Present → Present
+abbrev pub marked : SessionMark → Present → Present
 marked (Spoke now) present = record present { last = now }
 marked (Waits waits now) present = record present { waits = waits; last = now }
 marked (told_to why) present = record present { told = first_told present.told why }
@@ -48,11 +48,11 @@ is_meant (One session) present = session == present.session
 is_meant (Each part) present = is_in part present.who
 
 -- a session after a mark for these
-abbrev pub marked_if : Whom → Mark → Present → Present
+abbrev pub marked_if : Whom → SessionMark → Present → Present
 marked_if whom mark present = if is_meant whom present then marked mark present else present
 
 -- the roll after a mark for these
-abbrev pub marked_all : Whom → Mark → List Present → List Present
+abbrev pub marked_all : Whom → SessionMark → List Present → List Present
 marked_all whom mark roll = map (marked_if whom mark) roll
 
 -- whether it is a guest's session that waits for no job, hasn't been told to end, and has said nothing for longer than `most`
@@ -65,7 +65,7 @@ goes those_told present = is_some present.told
 goes (those_idle now most) present = is_some present.told || is_idle now most present
 
 -- the grants that are left when these have gone, where the roll names the grants' sessions in their order
-abbrev pub remaining : Leaver → List Held → List Present → List Held
+abbrev pub remaining : Leaver → List Grant → List Present → List Grant
 remaining leaver [] roll = []
 remaining leaver (held ∷ grants) [] = held ∷ grants
 remaining leaver (held ∷ grants) (present ∷ roll) = if goes leaver present then remaining leaver grants roll else held ∷ remaining leaver grants roll

@@ -2,7 +2,7 @@
 use Rattle.std.specs.Prelude.{ℕ, List, [], ◌∷◌, map, Option}
 use Rattle.tenant_quota.specs.Quota.{Quota}
 use Rattle.site_book.specs.declared.amount.Amount.{Amount}
-use Rattle.site_book.specs.declared.refusal.Refusal.{Refusal}
+use Rattle.site_book.specs.declared.refusal.BookRefusal.{BookRefusal}
 use Rattle.site_book.specs.declared.who.Who.{Who}
 use Rattle.site_book.specs.declared.who.Who.TheVariants.{Named}
 use Rattle.site_book.specs.Plans.{PlanOf}
@@ -30,7 +30,7 @@ abbrev pub school : Who
 school = Named 0
 
 -- the answer to each event there
-abbrev pub answers_told : List BookEvent → List (Option Refusal)
+abbrev pub answers_told : List BookEvent → List (Option BookRefusal)
 answers_told events = answers (new_book small) events
 
 -- a hall of 4 sessions, 20 segments and 200 nodes, with two named customers and no guests
@@ -56,7 +56,7 @@ abbrev pub ended_in_time : List BookEvent
 ended_in_time = Opens (Named 0) 1 (ask 10 100) ∷ Closes (Named 0) 1 ∷ Replans even ∷ Opens (Named 1) 2 (ask 5 50) ∷ Opens (Named 0) 3 (ask 10 100) ∷ []
 
 -- why each event is refused where the first customer may have all
-abbrev pub told_one_sided : List BookEvent → List (Option Refusal)
+abbrev pub told_one_sided : List BookEvent → List (Option BookRefusal)
 told_one_sided events = answers (new_book one_sided) events
 
 -- who is beyond the even plan after these events, and by how much

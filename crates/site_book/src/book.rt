@@ -1,15 +1,15 @@
 ghost use Rattle.std.specs.Prelude.{◌≡◌, [], ◌≤◌, None, length, is_some, IfOk, IfNone};
-ghost use Rattle.site_book.specs.declared.held.Part.TheVariants.{All};
+ghost use Rattle.site_book.specs.declared.held.Group.TheVariants.{All};
 ghost use Rattle.site_book.specs.Amounts.{IsAmountWithin, of_one, plus};
 ghost use Rattle.site_book.specs.Grants.{used, grant_of, grants_without};
 ghost use Rattle.site_book.specs.Books.{new_book, is_beyond_part, why_beyond, why_over, why_no_raise, is_over, part_over, overrun_of, are_within, why_not_replan, taken, Opens, Raises, Closes, Replans};
 
 use crate::amount::Amount;
 use crate::held::{
-    Held, Overrun, Part, is_lower, place_of, set_ask, take_out, used_besides, used_in,
+    Grant, Group, Overrun, is_lower, place_of, set_ask, take_out, used_besides, used_in,
 };
 use crate::plan::Plan;
-use crate::refusal::Refusal;
+use crate::refusal::BookRefusal;
 use crate::who::Who;
 use std::alloc::{AllocError, Global};
 use std::marker::Model;
@@ -21,13 +21,13 @@ const MOST: usize = 64;
 
 /// The book of a hall: what its plan says, and the grants that are out.
 #[derive(Drop)]
-pub struct Book {
+pub struct CustomerBook {
     plan: Plan,
-    grants: Vec<Held>,
+    grants: Vec<Grant>,
 }
 
 // Clauses see the plan and the grants.
-impl Model for Book {
+impl Model for CustomerBook {
     ghost use Rattle.site_book.specs.Books.{BookOf};
     ghost use Rattle.std.specs.Prelude.{◌≤◌, length};
     ghost use Rattle.std.specs.Vec.{vec_capacity};
@@ -40,18 +40,18 @@ impl Model for Book {
     ghost invariant = { λ book. IsKept book.plan book.grants.items × (length book.grants.items ≤ 64) × (64 ≤ vec_capacity book.grants) };
 }
 
-impl Book {
+impl CustomerBook {
     /// A book in which nothing has happened. It takes memory for all grants that there can be, and no other call takes any.
     /// Err where the allocator refuses it.
-    pub fn new(alloc: Global, plan: Plan) -> Result<Book, AllocError>
+    pub fn new(alloc: Global, plan: Plan) -> Result<CustomerBook, AllocError>
         ensures { IfOk result (λ book. book ≡ new_book plan) }
     {
         let grants = Vec::with_capacity(alloc, MOST)?;
-        Ok(Book { plan, grants })
+        Ok(CustomerBook { plan, grants })
     }
 
     /// The grants that are out, in the order in which they were opened.
-    pub fn grants(&self) -> &[Held]
+    pub fn grants(&self) -> &[Grant]
         ensures grants { result.now ≡ self.now.grants }
         ensures few { length result.now ≤ 64 }
     {
@@ -66,7 +66,7 @@ impl Book {
     }
 
     /// What some of the grants that are out have together.
-    pub fn used(&self, part: Part) -> Amount
+    pub fn used(&self, part: Group) -> Amount
         ensures { result ≡ used part self.now.grants }
     {
         used_in(&self.grants, part)
@@ -83,14 +83,14 @@ impl Book {
 
     /// Why no session that reserves so much is opened for a customer now; None where nothing forbids it: then all sessions are
     /// within the hall's totals together with it.
-    pub fn why_not_open(&self, who: Who, ask: Reserve) -> Option<Refusal>
+    pub fn why_not_open(&self, who: Who, ask: Reserve) -> Option<BookRefusal>
         ensures why { result ≡ why_over self.now.plan who ask self.now.grants }
         ensures room { IfNone result (IsAmountWithin (plus (of_one ask) (used All self.now.grants)) self.now.plan.totals) }
         ensures few { self.now.plan.totals.sessions ≤ 64 }
     {
-        let own = used_in(&self.grants, Part::Own(who));
-        let network = used_in(&self.grants, Part::Network(who.network()));
-        let guests = used_in(&self.grants, Part::Guests);
+        let own = used_in(&self.grants, Group::Own(who));
+        let network = used_in(&self.grants, Group::Network(who.network()));
+        let guests = used_in(&self.grants, Group::Guests);
         why_beyond(&self.plan, who, ask, own, network, guests)
     }
 
@@ -99,12 +99,12 @@ impl Book {
         requires { why_over self.old.plan who ask self.old.grants ≡ None }
         ensures { self.new ≡ taken self.old (Opens who session ask) }
     {
-        self.grants.push(Held { who, session, ask }).unwrap();
+        self.grants.push(Grant { who, session, ask }).unwrap();
     }
 
     /// Why a customer's session of this number isn't raised to this now; None where nothing forbids it: then all sessions are
     /// within the hall's totals together with what it has then.
-    pub fn why_not_raise(&self, who: Who, session: u64, ask: Reserve) -> Option<Refusal>
+    pub fn why_not_raise(&self, who: Who, session: u64, ask: Reserve) -> Option<BookRefusal>
         ensures why { result ≡ why_no_raise self.now.plan who session ask self.now.grants (grant_of who session self.now.grants) }
         ensures room { IfNone result (IsAmountWithin (plus (of_one ask) (used All (grants_without who session self.now.grants))) self.now.plan.totals) }
     {
@@ -127,7 +127,7 @@ impl Book {
     }
 
     /// By how much a grant's customer, or all guests, have more than a plan allows; None where they don't.
-    pub fn overrun(&self, plan: &Plan, held: &Held) -> Option<Overrun>
+    pub fn overrun(&self, plan: &Plan, held: &Grant) -> Option<Overrun>
         ensures { result ≡ overrun_of plan.now self.now.grants held.now }
     {
         let part = part_over(plan, &self.grants, held.who)?;
@@ -142,14 +142,14 @@ impl Book {
 
     /// Why another plan doesn't come in now; None where nothing forbids it: it is of a hall with the same totals, and all that is
     /// out is within it.
-    pub fn why_not_replan(&self, plan: &Plan) -> Option<Refusal>
+    pub fn why_not_replan(&self, plan: &Plan) -> Option<BookRefusal>
         ensures { result ≡ why_not_replan self.now plan.now }
     {
         if !plan.fits(self.plan.totals()) {
-            return Some(Refusal::Unfit);
+            return Some(BookRefusal::Unfit);
         }
         if !are_within(plan, &self.grants) {
-            return Some(Refusal::Beyond);
+            return Some(BookRefusal::Beyond);
         }
         None
     }
@@ -165,7 +165,7 @@ impl Book {
 }
 
 /// Whether so much more than what the part has is beyond what it may have, where the customer is one of it.
-fn is_beyond(plan: &Plan, part: Part, who: Who, ask: Reserve, has: Amount) -> bool
+fn is_beyond(plan: &Plan, part: Group, who: Who, ask: Reserve, has: Amount) -> bool
     requires { IsAmountWithin has (record { sessions = 64; segments = 262144; nodes = 4194304 }) }
     ensures { result ≡ is_beyond_part plan.now part who ask has }
 {
@@ -180,32 +180,32 @@ fn why_beyond(
     own: Amount,
     network: Amount,
     guests: Amount,
-) -> Option<Refusal>
+) -> Option<BookRefusal>
     requires own { IsAmountWithin own (record { sessions = 64; segments = 262144; nodes = 4194304 }) }
     requires network { IsAmountWithin network (record { sessions = 64; segments = 262144; nodes = 4194304 }) }
     requires guests { IsAmountWithin guests (record { sessions = 64; segments = 262144; nodes = 4194304 }) }
     ensures { result ≡ why_beyond plan.now who ask own network guests }
 {
-    if is_beyond(plan, Part::Own(who), who, ask, own) {
-        return Some(Refusal::OverBudget);
+    if is_beyond(plan, Group::Own(who), who, ask, own) {
+        return Some(BookRefusal::OverBudget);
     }
-    if is_beyond(plan, Part::Network(who.network()), who, ask, network) {
-        return Some(Refusal::OverNetwork);
+    if is_beyond(plan, Group::Network(who.network()), who, ask, network) {
+        return Some(BookRefusal::OverNetwork);
     }
-    if is_beyond(plan, Part::Guests, who, ask, guests) {
-        return Some(Refusal::OverGuests);
+    if is_beyond(plan, Group::Guests, who, ask, guests) {
+        return Some(BookRefusal::OverGuests);
     }
     None
 }
 
 /// Why so much more than what these grants have isn't granted to a customer by a plan; None where nothing forbids it.
-pub fn why_over(plan: &Plan, grants: &[Held], who: Who, ask: Reserve) -> Option<Refusal>
+pub fn why_over(plan: &Plan, grants: &[Grant], who: Who, ask: Reserve) -> Option<BookRefusal>
     requires { length grants.now ≤ 64 }
     ensures { result ≡ why_over plan.now who ask grants.now }
 {
-    let own = used_in(grants, Part::Own(who));
-    let network = used_in(grants, Part::Network(who.network()));
-    let guests = used_in(grants, Part::Guests);
+    let own = used_in(grants, Group::Own(who));
+    let network = used_in(grants, Group::Network(who.network()));
+    let guests = used_in(grants, Group::Guests);
     why_beyond(plan, who, ask, own, network, guests)
 }
 
@@ -213,29 +213,29 @@ pub fn why_over(plan: &Plan, grants: &[Held], who: Who, ask: Reserve) -> Option<
 #[tactic(auto, using(crate::proofs::Rules::why_no_raise_rules))]
 fn why_no_raise(
     plan: &Plan,
-    grants: &[Held],
+    grants: &[Grant],
     who: Who,
     session: u64,
     ask: Reserve,
-) -> Option<Refusal>
+) -> Option<BookRefusal>
     requires { length grants.now ≤ 64 }
     ensures { result ≡ why_no_raise plan.now who session ask grants.now (grant_of who session grants.now) }
 {
     let place = place_of(grants, who, session);
     if place >= grants.len() {
-        return Some(Refusal::Gone);
+        return Some(BookRefusal::Gone);
     }
     if is_lower(grants[place].ask, ask) {
-        return Some(Refusal::Lower);
+        return Some(BookRefusal::Lower);
     }
-    let own = used_besides(grants, place, Part::Own(who));
-    let network = used_besides(grants, place, Part::Network(who.network()));
-    let guests = used_besides(grants, place, Part::Guests);
+    let own = used_besides(grants, place, Group::Own(who));
+    let network = used_besides(grants, place, Group::Network(who.network()));
+    let guests = used_besides(grants, place, Group::Guests);
     why_beyond(plan, who, ask, own, network, guests)
 }
 
 /// Whether the part has more than it may have, where the customer is one of it.
-fn is_over(plan: &Plan, part: Part, who: Who, grants: &[Held]) -> bool
+fn is_over(plan: &Plan, part: Group, who: Who, grants: &[Grant]) -> bool
     requires { length grants.now ≤ 64 }
     ensures { result ≡ is_over plan.now part who grants.now }
 {
@@ -243,23 +243,23 @@ fn is_over(plan: &Plan, part: Part, who: Who, grants: &[Held]) -> bool
 }
 
 /// The first part of which the customer is one that has more than it may have.
-fn part_over(plan: &Plan, grants: &[Held], who: Who) -> Option<Part>
+fn part_over(plan: &Plan, grants: &[Grant], who: Who) -> Option<Group>
     requires { length grants.now ≤ 64 }
     ensures { result ≡ part_over plan.now grants.now who }
 {
-    if is_over(plan, Part::Own(who), who, grants) {
-        Some(Part::Own(who))
-    } else if is_over(plan, Part::Network(who.network()), who, grants) {
-        Some(Part::Network(who.network()))
-    } else if is_over(plan, Part::Guests, who, grants) {
-        Some(Part::Guests)
+    if is_over(plan, Group::Own(who), who, grants) {
+        Some(Group::Own(who))
+    } else if is_over(plan, Group::Network(who.network()), who, grants) {
+        Some(Group::Network(who.network()))
+    } else if is_over(plan, Group::Guests, who, grants) {
+        Some(Group::Guests)
     } else {
         None
     }
 }
 
 /// Whether no part of any grant has more than the plan allows.
-fn are_within(plan: &Plan, grants: &[Held]) -> bool
+fn are_within(plan: &Plan, grants: &[Grant]) -> bool
     requires { length grants.now ≤ 64 }
     ensures { result ≡ are_within plan.now grants.now grants.now }
 {

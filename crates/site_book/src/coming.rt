@@ -2,10 +2,10 @@ ghost use Rattle.std.specs.Prelude.{◌≡◌, ◌≤◌, ◌<◌, [], length};
 ghost use Rattle.site_book.specs.Comings.{coming, unless_idle, stays, told_by, told_unless, with_staying};
 
 use crate::book::why_over;
-use crate::held::Held;
+use crate::held::Grant;
 use crate::plan::Plan;
 use crate::present::{Leaver, Present, Told, first_told};
-use crate::refusal::Refusal;
+use crate::refusal::BookRefusal;
 use crate::roll::{MOST, idlest, remaining};
 use crate::who::Who;
 use arrayvec::ArrayVec;
@@ -17,11 +17,11 @@ pub enum Coming {
     /// The book allows it.
     Enters,
     /// The book refuses it, but there is room once those have gone who were told to end.
-    Waits(Refusal),
+    Waits(BookRefusal),
     /// The book refuses it, as all guests together have too much; the guest's session of this number is to end.
-    Ends(u64, Refusal),
+    Ends(u64, BookRefusal),
     /// The book refuses it.
-    Refused(Refusal),
+    Refused(BookRefusal),
 }
 
 /// One who asks for a session.
@@ -38,7 +38,7 @@ pub struct Comer {
 }
 
 /// What comes of one who asks for a session at a hall that has these grants and sessions.
-pub fn what_comes_of(plan: &Plan, grants: &[Held], roll: &[Present], comer: &Comer) -> Coming
+pub fn what_comes_of(plan: &Plan, grants: &[Grant], roll: &[Present], comer: &Comer) -> Coming
     requires few { length grants.now ≤ 64 }
     requires alike { length grants.now ≡ length roll.now }
     ensures { result ≡ coming plan.now grants.now roll.now comer.now.who comer.now.ask comer.now.at comer.now.most }
@@ -63,11 +63,11 @@ pub fn what_comes_of(plan: &Plan, grants: &[Held], roll: &[Present], comer: &Com
 }
 
 /// Whether the idlest guest is to end for one who is refused, by why it is refused though all idle ones have gone.
-fn unless_idle(refusal: Refusal, why: Option<Refusal>, idle: Option<Present>) -> Coming
+fn unless_idle(refusal: BookRefusal, why: Option<BookRefusal>, idle: Option<Present>) -> Coming
     ensures { result ≡ unless_idle refusal why idle }
 {
     match refusal {
-        Refusal::OverGuests => match (why, idle) {
+        BookRefusal::OverGuests => match (why, idle) {
             (None, Some(present)) => Coming::Ends(present.session, refusal),
             _ => Coming::Refused(refusal),
         },
@@ -77,7 +77,12 @@ fn unless_idle(refusal: Refusal, why: Option<Refusal>, idle: Option<Present>) ->
 
 /// Whether a session stays under another plan, by those that stay of those before it. Then it is one of them; else it is told to
 /// end.
-fn judged(plan: &Plan, before: &mut ArrayVec<Held, MOST>, held: &Held, present: &Present) -> Present
+fn judged(
+    plan: &Plan,
+    before: &mut ArrayVec<Grant, MOST>,
+    held: &Grant,
+    present: &Present,
+) -> Present
     requires { length before.old.items < 64 }
     ensures present { result ≡ told_unless (stays plan.now before.old.items held.now present.now) present.now }
     ensures before { before.new.items ≡ with_staying (stays plan.now before.old.items held.now present.now) before.old.items held.now }
@@ -94,7 +99,7 @@ fn judged(plan: &Plan, before: &mut ArrayVec<Held, MOST>, held: &Held, present: 
 }
 
 /// Whether a session stays under another plan, by those that stay of those before it.
-fn stays(plan: &Plan, before: &[Held], held: &Held, present: &Present) -> bool
+fn stays(plan: &Plan, before: &[Grant], held: &Grant, present: &Present) -> bool
     requires { length before.now ≤ 64 }
     ensures { result ≡ stays plan.now before.now held.now present.now }
 {
@@ -102,7 +107,7 @@ fn stays(plan: &Plan, before: &[Held], held: &Held, present: &Present) -> bool
 }
 
 /// The sessions, where those that don't stay under another plan are told to end.
-pub fn told_by(plan: &Plan, grants: &[Held], roll: &[Present]) -> ArrayVec<Present, MOST>
+pub fn told_by(plan: &Plan, grants: &[Grant], roll: &[Present]) -> ArrayVec<Present, MOST>
     requires few { length grants.now ≤ 64 }
     requires alike { length grants.now ≡ length roll.now }
     ensures { result.items ≡ told_by plan.now [] grants.now roll.now }

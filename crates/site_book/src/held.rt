@@ -10,7 +10,7 @@ use tenant_quota::Reserve;
 
 /// A grant that is out: a session's leave to be at the hall.
 #[derive(Clone, Copy, Debug)]
-pub struct Held {
+pub struct Grant {
     /// Whose it is.
     pub who: Who,
     /// The number of its session.
@@ -20,10 +20,10 @@ pub struct Held {
 }
 
 // Only for the free places of an `ArrayVec`, which need some value.
-impl Default for Held {
-    fn default() -> Held {
+impl Default for Grant {
+    fn default() -> Grant {
         match Reserve::new(1, 1) {
-            Some(ask) => Held {
+            Some(ask) => Grant {
                 who: Who::Named(0),
                 session: 0,
                 ask,
@@ -35,7 +35,7 @@ impl Default for Held {
 
 /// Some of the grants that are out.
 #[derive(Clone, Copy, Debug)]
-pub enum Part {
+pub enum Group {
     /// Those of a customer.
     Own(Who),
     /// Those of the guests of this wider network.
@@ -54,29 +54,29 @@ pub struct Overrun {
     /// The number of its session.
     pub session: u64,
     /// The part.
-    pub part: Part,
+    pub part: Group,
     /// What the part has.
     pub has: Amount,
     /// What it may have.
     pub may: Amount,
 }
 
-impl Part {
+impl Group {
     /// Whether a session of this customer is one of them.
     pub fn has(self, other: Who) -> bool
         ensures { result ≡ is_in self other }
     {
         match self {
-            Part::Own(who) => who.is(other),
-            Part::Network(who) => other.is_guest() && who.is(other.network()),
-            Part::Guests => other.is_guest(),
-            Part::All => true,
+            Group::Own(who) => who.is(other),
+            Group::Network(who) => other.is_guest() && who.is(other.network()),
+            Group::Guests => other.is_guest(),
+            Group::All => true,
         }
     }
 }
 
 /// The amount with that of a grant more, if it is one of the part.
-fn with_grant(sum: Amount, part: Part, held: &Held) -> Amount
+fn with_grant(sum: Amount, part: Group, held: &Grant) -> Amount
     requires room_sessions { sum.sessions < 2 ^ 31 }
     requires room_segments { sum.segments < 2 ^ 63 }
     requires room_nodes { sum.nodes < 2 ^ 63 }
@@ -94,7 +94,7 @@ fn with_grant(sum: Amount, part: Part, held: &Held) -> Amount
 }
 
 /// What some of the grants have together.
-pub(crate) fn used_in(grants: &[Held], part: Part) -> Amount
+pub(crate) fn used_in(grants: &[Grant], part: Group) -> Amount
     requires { length grants.now ≤ 64 }
     ensures value { result ≡ used part grants.now }
     ensures sessions { result.sessions ≤ 64 }
@@ -109,7 +109,7 @@ pub(crate) fn used_in(grants: &[Held], part: Part) -> Amount
 }
 
 /// What some of the grants have together without the one at a place.
-pub(crate) fn used_besides(grants: &[Held], place: usize, part: Part) -> Amount
+pub(crate) fn used_besides(grants: &[Grant], place: usize, part: Group) -> Amount
     requires few { length grants.now ≤ 64 }
     requires there { place < length grants.now }
     ensures value { result ≡ used part (remove grants.now place) }
@@ -125,14 +125,14 @@ pub(crate) fn used_besides(grants: &[Held], place: usize, part: Part) -> Amount
 }
 
 /// Whether a grant is that of this session.
-fn is_held_as(held: &Held, who: Who, session: u64) -> bool
+fn is_held_as(held: &Grant, who: Who, session: u64) -> bool
     ensures { result ≡ is_held_as who session held.now }
 {
     who.is(held.who) && session == held.session
 }
 
 /// The place of the first grant of this session, or the number of grants where there is none.
-pub(crate) fn place_of(grants: &[Held], who: Who, session: u64) -> usize
+pub(crate) fn place_of(grants: &[Grant], who: Who, session: u64) -> usize
     ensures place { result ≡ grant_place who session grants.now }
     ensures within { result ≤ length grants.now }
 {
@@ -146,7 +146,7 @@ pub(crate) fn place_of(grants: &[Held], who: Who, session: u64) -> usize
 
 /// Takes the first grant of this session out, if there is one.
 #[tactic(auto, using(crate::proofs::Rules::take_out_rules))]
-pub(crate) fn take_out(grants: &mut Vec<Held>, who: Who, session: u64)
+pub(crate) fn take_out(grants: &mut Vec<Grant>, who: Who, session: u64)
     ensures grants { grants.new.items ≡ grants_without who session grants.old.items }
     ensures capacity { vec_capacity grants.old ≤ vec_capacity grants.new }
 {
@@ -158,7 +158,7 @@ pub(crate) fn take_out(grants: &mut Vec<Held>, who: Who, session: u64)
 
 /// Lets the first grant of this session, which is there, have this.
 #[tactic(auto, using(crate::proofs::Rules::set_ask_rules))]
-pub(crate) fn set_ask(grants: &mut Vec<Held>, who: Who, session: u64, ask: Reserve)
+pub(crate) fn set_ask(grants: &mut Vec<Grant>, who: Who, session: u64, ask: Reserve)
     requires { grant_of who session grants.old.items ≢ None }
     ensures grants { grants.new.items ≡ grants_raised who session ask grants.old.items }
     ensures capacity { vec_capacity grants.old ≤ vec_capacity grants.new }

@@ -2,9 +2,9 @@
 //! law.
 ghost use Rattle.std.specs.Prelude.{◌≡◌, ◌+◌, ◌≤◌, ◌↔◌, ℕ, length, List, [], Some, None, Bool, true, IsTrue, ◌≢◌, ◌-◌, ◌<◌, false, Contains};
 ghost use Rattle.tenant_quota.specs.Quota.{Quota};
-ghost use Rattle.site_book.specs.declared.held.Held.{Held};
-ghost use Rattle.site_book.specs.declared.held.Part.{Part};
-ghost use Rattle.site_book.specs.declared.held.Part.TheVariants.{All};
+ghost use Rattle.site_book.specs.declared.held.Grant.{Grant};
+ghost use Rattle.site_book.specs.declared.held.Group.{Group};
+ghost use Rattle.site_book.specs.declared.held.Group.TheVariants.{All};
 ghost use Rattle.site_book.specs.declared.who.Who.{Who};
 ghost use Rattle.site_book.specs.declared.who.Who.TheVariants.{Named};
 ghost use Rattle.site_book.specs.Names.{same_who, is_guest};
@@ -14,8 +14,8 @@ ghost use Rattle.site_book.specs.Grants.{used, grant_of, grants_without};
 ghost use Rattle.site_book.specs.Books.{BookOf, BookEvent, new_book, why_over, why_no_raise, why_not_replan};
 ghost use Rattle.site_book.specs.Allowed.{HasBudgetFor, MayGrow};
 ghost use Rattle.site_book.specs.Events.{book_after_events, answers, only_events, answers_of, grants_of, still_open, names_granted};
-ghost use Rattle.site_book.specs.declared.refusal.Refusal.{Refusal};
-ghost use Rattle.site_book.specs.declared.refusal.Refusal.TheVariants.{OverGuests};
+ghost use Rattle.site_book.specs.declared.refusal.BookRefusal.{BookRefusal};
+ghost use Rattle.site_book.specs.declared.refusal.BookRefusal.TheVariants.{OverGuests};
 ghost use Rattle.site_book.specs.declared.coming.Coming.TheVariants.{Enters, Waits, Ends, Refused};
 ghost use Rattle.site_book.specs.declared.present.Leaver.TheVariants.{Told as those_told, Idle as those_idle};
 ghost use Rattle.site_book.specs.declared.present.Present.{Present};
@@ -26,9 +26,9 @@ ghost use Rattle.site_book.specs.Comings.{coming, told_by};
 /// of its wider network and of all guests allow it.
 #[tactic(auto, using(crate::proofs::Rules::a_refusal_is_ones_own_rules))]
 pub fn a_refusal_is_ones_own()
-    ensures opens { (plan : PlanOf) (who : Who) (ask : Quota) (grants : List Held) →
+    ensures opens { (plan : PlanOf) (who : Who) (ask : Quota) (grants : List Grant) →
         ((why_over plan who ask grants ≡ None) ↔ HasBudgetFor plan who ask grants) }
-    ensures raises { (plan : PlanOf) (who : Who) (session : ℕ) (ask : Quota) (grants : List Held) (held : Held) → grant_of who session grants ≡ Some held →
+    ensures raises { (plan : PlanOf) (who : Who) (session : ℕ) (ask : Quota) (grants : List Grant) (held : Grant) → grant_of who session grants ≡ Some held →
         ((why_no_raise plan who session ask grants (grant_of who session grants) ≡ None) ↔ MayGrow plan who session ask grants held) }
 {}
 
@@ -36,7 +36,7 @@ pub fn a_refusal_is_ones_own()
 /// sums fit, each customer, the guests of each wider network, all guests and all sessions together have no more than the plan allows
 /// that the book has then; and there are 64 sessions at most.
 pub fn nobody_is_over_budget()
-    ensures within { (plan : PlanOf) (events : List BookEvent) → IsTrue (sums_fit plan) → (part : Part) →
+    ensures within { (plan : PlanOf) (events : List BookEvent) → IsTrue (sums_fit plan) → (part : Group) →
         let book = book_after_events (new_book plan) events in IsAmountWithin (used part book.grants) (limit_of book.plan part) }
     ensures totals { (plan : PlanOf) (events : List BookEvent) → (book_after_events (new_book plan) events).plan.totals ≡ plan.totals }
     ensures few { (plan : PlanOf) (events : List BookEvent) → IsTrue (sums_fit plan) → length (book_after_events (new_book plan) events).grants ≤ 64 }
@@ -59,7 +59,7 @@ pub fn the_hall_has_room()
 #[tactic(auto, using(crate::proofs::Rules::a_plan_comes_in_rules))]
 pub fn a_plan_comes_in()
     ensures { (book : BookOf) (plan : PlanOf) → ((why_not_replan book plan ≡ None)
-        ↔ ((plan.totals ≡ book.plan.totals) × IsTrue (sums_fit plan) × ((part : Part) → IsAmountWithin (used part book.grants) (limit_of plan part)))) }
+        ↔ ((plan.totals ≡ book.plan.totals) × IsTrue (sums_fit plan) × ((part : Group) → IsAmountWithin (used part book.grants) (limit_of plan part)))) }
 {}
 
 /// No customer is disturbed by another: after every list of events a named customer got the answers, and has the grants, of that
@@ -81,22 +81,22 @@ pub fn all_comes_back()
     ensures out { (plan : PlanOf) (events : List BookEvent) →
         names_granted (book_after_events (new_book plan) events).grants ≡ still_open [] events (answers (new_book plan) events) }
     ensures none { (plan : PlanOf) (events : List BookEvent) → still_open [] events (answers (new_book plan) events) ≡ [] →
-        (part : Part) → used part (book_after_events (new_book plan) events).grants ≡ nothing }
+        (part : Group) → used part (book_after_events (new_book plan) events).grants ≡ nothing }
 {}
 
 /// Who comes enters exactly where the book allows it, whoever is idle.
 #[tactic(auto, using(crate::proofs::ComingLemmas::only_enters))]
 pub fn who_has_budget_enters()
-    ensures enters { (plan : PlanOf) (grants : List Held) (roll : List Present) (who : Who) (ask : Quota) (now most : ℕ) →
+    ensures enters { (plan : PlanOf) (grants : List Grant) (roll : List Present) (who : Who) (ask : Quota) (now most : ℕ) →
         why_over plan who ask grants ≡ None → coming plan grants roll who ask now most ≡ Enters }
-    ensures only { (plan : PlanOf) (grants : List Held) (roll : List Present) (who : Who) (ask : Quota) (now most : ℕ) →
+    ensures only { (plan : PlanOf) (grants : List Grant) (roll : List Present) (who : Who) (ask : Quota) (now most : ℕ) →
         coming plan grants roll who ask now most ≡ Enters → why_over plan who ask grants ≡ None }
 {}
 
 /// No session of a named customer goes for another's, and no guest's that isn't idle: one that is to end for one who comes is a guest's,
 /// waits for no job, wasn't told to end before and has said nothing for longer than a guest may.
 pub fn only_idle_guests_go_for_another()
-    ensures { (plan : PlanOf) (grants : List Held) (roll : List Present) (who : Who) (ask : Quota) (now most session : ℕ) (refusal : Refusal) →
+    ensures { (plan : PlanOf) (grants : List Grant) (roll : List Present) (who : Who) (ask : Quota) (now most session : ℕ) (refusal : BookRefusal) →
         coming plan grants roll who ask now most ≡ Ends session refusal →
         (present : Present) × Contains roll present × (present.session ≡ session) × (is_guest present.who ≡ true) × (present.told ≡ None) × (present.waits ≡ false) × (most < now - present.last) }
 {}
@@ -104,11 +104,11 @@ pub fn only_idle_guests_go_for_another()
 /// Who is refused has no room even when those have gone who were told to end; and where that is since all guests together have too
 /// much, not even when all idle guests have gone as well.
 pub fn who_is_refused_has_no_room()
-    ensures now { (plan : PlanOf) (grants : List Held) (roll : List Present) (who : Who) (ask : Quota) (now most : ℕ) (refusal : Refusal) →
+    ensures now { (plan : PlanOf) (grants : List Grant) (roll : List Present) (who : Who) (ask : Quota) (now most : ℕ) (refusal : BookRefusal) →
         coming plan grants roll who ask now most ≡ Refused refusal → why_over plan who ask grants ≡ Some refusal }
-    ensures then { (plan : PlanOf) (grants : List Held) (roll : List Present) (who : Who) (ask : Quota) (now most : ℕ) (refusal : Refusal) →
+    ensures then { (plan : PlanOf) (grants : List Grant) (roll : List Present) (who : Who) (ask : Quota) (now most : ℕ) (refusal : BookRefusal) →
         coming plan grants roll who ask now most ≡ Refused refusal → why_over plan who ask (remaining those_told grants roll) ≢ None }
-    ensures idle { (plan : PlanOf) (grants : List Held) (roll : List Present) (who : Who) (ask : Quota) (now most : ℕ) →
+    ensures idle { (plan : PlanOf) (grants : List Grant) (roll : List Present) (who : Who) (ask : Quota) (now most : ℕ) →
         coming plan grants roll who ask now most ≡ Refused OverGuests → why_over plan who ask (remaining (those_idle now most) grants roll) ≢ None }
 {}
 

@@ -3,8 +3,8 @@
 //!
 //! A [`Plan`] says what a hall has for all sessions, what each named customer may have at once (sessions, and the segments of 16
 //! words and the nodes that they reserve together), and the same of each guest, of the guests of one wider network and of all
-//! guests together. A guest is known by its address, of IPv6 by the first 64 bits; its wider network by the first 48. A [`Book`]
-//! stands for a plan and the grants that are out ([`Held`]), in the order in which they were opened. What happens to it is an
+//! guests together. A guest is known by its address, of IPv6 by the first 64 bits; its wider network by the first 48. A [`CustomerBook`]
+//! stands for a plan and the grants that are out ([`Grant`]), in the order in which they were opened. What happens to it is an
 //! event: a session is opened, raised or closed, or another plan comes. Each call is one event, by the same definitions (`taken`
 //! and `answer_to` of `specs/Books.antt`).
 //!
@@ -12,11 +12,11 @@
 //! together with a grant, as the admission of a tenant, is done between them, and where that fails the book is as it was.
 //!
 //! A [`Roll`] stands for the sessions that are there, in the order in which they came, as the book's grants stand: each with the time of
-//! its last line, whether it waits for a job, and why it was told to end. Whoever ends a session only tells it so ([`Mark::Told`]); its
-//! own thread leaves, and then its grant is given back. [`what_comes_of`] says what comes of one who asks for a session, by the plan, the
-//! grants, the roll and the time alone: it enters, it waits for those who were told to end, a guest that is idle is told to end for it, or
-//! it is refused (`specs/Comings.antt`). [`told_by`] says who has to end for another plan. So no decision stands beside a socket or a
-//! clock.
+//! its last line, whether it waits for a job, and why it was told to end. Whoever ends a session only tells it so
+//! ([`SessionMark::Told`]); its own thread leaves, and then its grant is given back. [`what_comes_of`] says what comes of one who asks for
+//! a session, by the plan, the grants, the roll and the time alone: it enters, it waits for those who were told to end, a guest that is
+//! idle is told to end for it, or it is refused (`specs/Comings.antt`). [`told_by`] says who has to end for another plan. So no decision
+//! stands beside a socket or a clock.
 //!
 //! The invariant that makes a budget worth something is that the sums of the plan fit what the hall has, and that every part of
 //! the grants is within its budget (`IsKept` of `specs/Keeping.antt`). Then all grants together are within the hall's totals, and
@@ -25,7 +25,7 @@
 //! Why it is so:
 //!
 //! - Another plan comes in only where all that is out is within it. A plan that takes away what somebody has would else sell it
-//!   twice; who has too much, and how much, is told ([`Book::overrun`]), and the plan comes in once that has ended.
+//!   twice; who has too much, and how much, is told ([`CustomerBook::overrun`]), and the plan comes in once that has ended.
 //! - A session's number is the caller's, as the number of its tenant. The book asks nothing of it: the first grant of a customer
 //!   and a number is meant.
 //! - The book knows nothing of time, and the roll only what it is told. How often a customer may say something is kept outside, so that no
@@ -40,14 +40,14 @@
 //!
 //! ```text
 //! let plan = Plan::new(totals, customers, guest, network, guests)?;       // None where the sums don't fit
-//! let mut book = Book::new(alloc, plan)?;
+//! let mut book = CustomerBook::new(alloc, plan)?;
 //! book.why_not_open(Who::Named(0), ask)                                   // None: nothing forbids it
 //! book.open(Who::Named(0), 1, ask);
 //! book.why_not_raise(Who::Named(0), 1, more)                              // Some(OverBudget)
 //! book.why_not_replan(&smaller)                                           // Some(Beyond): the session is beyond it
 //! what_comes_of(&plan, book.grants(), roll.entries(), &comer)             // Coming::Enters
 //! roll.enter(comer.who, 2, comer.at);                                     // and the book opens session 2
-//! roll.mark(Whom::Each(Part::Guests), Mark::Told(Told::ByOperator));
+//! roll.mark(Whom::Each(Group::Guests), SessionMark::Told(Told::ByOperator));
 //! book.close(Who::Named(0), 1);
 //! book.replan(smaller);
 //! ```
@@ -67,11 +67,11 @@ pub mod rows;
 mod who;
 
 pub use amount::Amount;
-pub use book::{Book, why_over};
+pub use book::{CustomerBook, why_over};
 pub use coming::{Comer, Coming, told_by, what_comes_of};
-pub use held::{Held, Overrun, Part};
+pub use held::{Grant, Group, Overrun};
 pub use plan::Plan;
-pub use present::{Leaver, Mark, Present, Told, Whom};
-pub use refusal::Refusal;
+pub use present::{Leaver, Present, SessionMark, Told, Whom};
+pub use refusal::BookRefusal;
 pub use roll::{MOST, Roll, idlest, remaining};
 pub use who::Who;

@@ -3,7 +3,7 @@ ghost use Rattle.site_book.specs.Amounts.{is_amount_within, is_same, sum_of, plu
 ghost use Rattle.site_book.specs.Plans.{limit_of, budget_of, sums_fit};
 
 use crate::amount::Amount;
-use crate::held::Part;
+use crate::held::Group;
 use crate::who::Who;
 use std::marker::Model;
 
@@ -85,14 +85,14 @@ impl Plan {
     }
 
     /// What some of the sessions may have together.
-    pub fn limit(&self, part: Part) -> Amount
+    pub fn limit(&self, part: Group) -> Amount
         ensures { result ≡ limit_of self.now part }
     {
         match part {
-            Part::Own(who) => self.budget(who),
-            Part::Network(_) => self.network,
-            Part::Guests => self.guests,
-            Part::All => self.totals,
+            Group::Own(who) => self.budget(who),
+            Group::Network(_) => self.network,
+            Group::Guests => self.guests,
+            Group::All => self.totals,
         }
     }
 }

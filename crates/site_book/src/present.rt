@@ -1,7 +1,7 @@
 ghost use Rattle.std.specs.Prelude.{◌≡◌};
 ghost use Rattle.site_book.specs.Rolls.{first_told, goes, is_idle, is_meant, is_present_as, marked, marked_if, newcomer};
 
-use crate::held::Part;
+use crate::held::Group;
 use crate::who::Who;
 
 /// Why a session is told to end.
@@ -45,7 +45,7 @@ impl Default for Present {
 
 /// What is noted of a session.
 #[derive(Clone, Copy, Debug)]
-pub enum Mark {
+pub enum SessionMark {
     /// It said a line at this time.
     Spoke(u64),
     /// It waits for a job from this time on, or doesn't any more.
@@ -60,7 +60,7 @@ pub enum Whom {
     /// The one of this number.
     One(u64),
     /// Those of a customer, of a wider network of guests, of all guests, or all.
-    Each(Part),
+    Each(Group),
 }
 
 /// Which sessions are looked at as gone.
@@ -130,17 +130,17 @@ impl Present {
     }
 
     /// After this mark.
-    fn marked(self, mark: Mark) -> Present
+    fn marked(self, mark: SessionMark) -> Present
         ensures { result ≡ marked mark self }
     {
         match mark {
-            Mark::Spoke(now) => Present { last: now, ..self },
-            Mark::Waits(waits, now) => Present {
+            SessionMark::Spoke(now) => Present { last: now, ..self },
+            SessionMark::Waits(waits, now) => Present {
                 waits,
                 last: now,
                 ..self
             },
-            Mark::Told(why) => Present {
+            SessionMark::Told(why) => Present {
                 told: first_told(self.told, why),
                 ..self
             },
@@ -148,7 +148,7 @@ impl Present {
     }
 
     /// After a mark for these.
-    pub(crate) fn marked_if(self, whom: Whom, mark: Mark) -> Present
+    pub(crate) fn marked_if(self, whom: Whom, mark: SessionMark) -> Present
         ensures { result ≡ marked_if whom mark self }
     {
         if self.is_meant(whom) {

@@ -1,6 +1,6 @@
 /// Why a book refuses an event.
 #[derive(Clone, Copy, Debug, PartialEq, Eq)]
-pub enum Refusal {
+pub enum BookRefusal {
     /// The customer's own budget doesn't allow it.
     OverBudget,
     /// What the guests of its wider network may have together doesn't allow it.

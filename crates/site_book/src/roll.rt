@@ -3,9 +3,9 @@ ghost use Rattle.site_book.specs.Comings.{told_by};
 ghost use Rattle.site_book.specs.Rolls.{idler, idlest, marked_all, newcomer, remaining, without_present};
 
 use crate::coming::told_by;
-use crate::held::Held;
+use crate::held::Grant;
 use crate::plan::Plan;
-use crate::present::{Leaver, Mark, Present, Whom};
+use crate::present::{Leaver, Present, SessionMark, Whom};
 use crate::who::Who;
 use arrayvec::ArrayVec;
 use std::marker::Model;
@@ -63,14 +63,14 @@ impl Roll {
     }
 
     /// Notes something of these sessions.
-    pub fn mark(&mut self, whom: Whom, mark: Mark)
+    pub fn mark(&mut self, whom: Whom, mark: SessionMark)
         ensures { self.new ≡ marked_all whom mark self.old }
     {
         self.entries = marked(self.entries.as_slice(), whom, mark);
     }
 
     /// Tells those to end that don't stay under another plan, where these are their grants.
-    pub fn tell_by(&mut self, plan: &Plan, grants: &[Held])
+    pub fn tell_by(&mut self, plan: &Plan, grants: &[Grant])
         requires few { length grants.now ≤ 64 }
         requires alike { length grants.now ≡ length self.old }
         ensures { self.new ≡ told_by plan.now [] grants.now self.old }
@@ -107,7 +107,7 @@ fn keep_unless(left: &mut ArrayVec<Present, MOST>, goes: bool, present: &Present
 }
 
 /// The sessions after a mark for these.
-fn marked(roll: &[Present], whom: Whom, mark: Mark) -> ArrayVec<Present, MOST>
+fn marked(roll: &[Present], whom: Whom, mark: SessionMark) -> ArrayVec<Present, MOST>
     requires { length roll.now ≤ 64 }
     ensures { result.items ≡ marked_all whom mark roll.now }
 {
@@ -121,7 +121,7 @@ fn marked(roll: &[Present], whom: Whom, mark: Mark) -> ArrayVec<Present, MOST>
 }
 
 /// The grants that are left when these have gone, where the roll names the grants' sessions in their order.
-pub fn remaining(grants: &[Held], roll: &[Present], leaver: Leaver) -> ArrayVec<Held, MOST>
+pub fn remaining(grants: &[Grant], roll: &[Present], leaver: Leaver) -> ArrayVec<Grant, MOST>
     requires few { length grants.now ≤ 64 }
     requires alike { length grants.now ≡ length roll.now }
     ensures { result.items ≡ remaining leaver grants.now roll.now }
@@ -141,7 +141,7 @@ pub fn remaining(grants: &[Held], roll: &[Present], leaver: Leaver) -> ArrayVec<
 }
 
 /// Appends a grant, unless this is so.
-fn hold_unless(left: &mut ArrayVec<Held, MOST>, goes: bool, held: &Held)
+fn hold_unless(left: &mut ArrayVec<Grant, MOST>, goes: bool, held: &Grant)
     requires { length left.old.items < 64 }
     ensures { left.new.items ≡ (if goes then left.old.items else left.old.items ++ held.now ∷ []) }
 {

@@ -1,12 +1,12 @@
 //! The definitions, tried on small halls: each contract is computed from the definitions alone.
 ghost use Rattle.std.specs.Prelude.{◌≡◌, [], ◌∷◌, map, Some, None, true, false};
-ghost use Rattle.site_book.specs.declared.refusal.Refusal.TheVariants.{OverBudget, OverGuests};
-ghost use Rattle.site_book.specs.declared.held.Part.TheVariants.{Guests, Own};
+ghost use Rattle.site_book.specs.declared.refusal.BookRefusal.TheVariants.{OverBudget, OverGuests};
+ghost use Rattle.site_book.specs.declared.held.Group.TheVariants.{Guests, Own};
 ghost use Rattle.site_book.specs.declared.who.Who.TheVariants.{Named, V4};
 ghost use Rattle.site_book.specs.Rows.{amount, ask, school, small, one_sided, even};
 ghost use Rattle.site_book.specs.declared.coming.Coming.TheVariants.{Enters, Waits, Ends, Refused};
 ghost use Rattle.site_book.specs.declared.present.Leaver.TheVariants.{Told as those_told, Idle as those_idle};
-ghost use Rattle.site_book.specs.declared.present.Mark.TheVariants.{Spoke, Waits as waits, Told as told_to};
+ghost use Rattle.site_book.specs.declared.present.SessionMark.TheVariants.{Spoke, Waits as waits, Told as told_to};
 ghost use Rattle.site_book.specs.declared.present.Present.{Present};
 ghost use Rattle.site_book.specs.declared.present.Told.TheVariants.{Gone, ByOperator, ByPlan};
 ghost use Rattle.site_book.specs.declared.present.Whom.TheVariants.{One, Each};

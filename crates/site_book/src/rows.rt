@@ -1,8 +1,8 @@
 //! The definitions, tried on small halls: each contract is computed from the definitions alone.
 ghost use Rattle.std.specs.Prelude.{◌≡◌, [], ◌∷◌, Some, None, true, false, map};
-ghost use Rattle.site_book.specs.declared.held.Held.{Held};
-ghost use Rattle.site_book.specs.declared.held.Part.TheVariants.{Own, Network, Guests, All};
-ghost use Rattle.site_book.specs.declared.refusal.Refusal.TheVariants.{OverBudget, OverNetwork, OverGuests, Gone, Lower, Unfit, Beyond};
+ghost use Rattle.site_book.specs.declared.held.Grant.{Grant};
+ghost use Rattle.site_book.specs.declared.held.Group.TheVariants.{Own, Network, Guests, All};
+ghost use Rattle.site_book.specs.declared.refusal.BookRefusal.TheVariants.{OverBudget, OverNetwork, OverGuests, Gone, Lower, Unfit, Beyond};
 ghost use Rattle.site_book.specs.declared.who.Who.TheVariants.{Named, V4, V6};
 ghost use Rattle.site_book.specs.Names.{same_who, is_guest, network_of};
 ghost use Rattle.site_book.specs.Plans.{sums_fit};

@@ -42,19 +42,19 @@ pub use Rattle.site_book.specs.Plans.{PlanOf}
 pub use Rattle.site_book.specs.Rolls.{is_meant, is_present_as, marked, marked_all, marked_if, names_present, newcomer, without_present}
 pub use Rattle.site_book.specs.declared.amount.Amount.{Amount}
 pub use Rattle.site_book.specs.declared.coming.Coming.TheVariants.{Enters}
-pub use Rattle.site_book.specs.declared.held.Held.{Held}
-pub use Rattle.site_book.specs.declared.held.Part.TheVariants.{All}
-pub use Rattle.site_book.specs.declared.present.Mark.{Mark}
-pub use Rattle.site_book.specs.declared.present.Mark.TheVariants.{Spoke, Told, Waits}
+pub use Rattle.site_book.specs.declared.held.Grant.{Grant}
+pub use Rattle.site_book.specs.declared.held.Group.TheVariants.{All}
+pub use Rattle.site_book.specs.declared.present.SessionMark.{SessionMark}
+pub use Rattle.site_book.specs.declared.present.SessionMark.TheVariants.{Spoke, Told, Waits}
 pub use Rattle.site_book.specs.declared.present.Present.{Present}
 pub use Rattle.site_book.specs.declared.present.Whom.{Whom}
-pub use Rattle.site_book.specs.declared.refusal.Refusal.TheVariants.{Lower}
+pub use Rattle.site_book.specs.declared.refusal.BookRefusal.TheVariants.{Lower}
 pub use Rattle.site_book.specs.declared.who.Who.{Who}
 pub use Rattle.tenant_quota.specs.Accounts.{reserved_nodes, reserved_segments}
 pub use Rattle.tenant_quota.specs.Quota.{Quota}
 pub use Rattle.tenant_quota.specs.declared.account.Account.{Account}
 pub use Rattle.site_desk.specs.Booked.{BookedOf, IsAdmission, IsBooked, IsRaise, TookInHall, is_within_seat}
-pub use Rattle.site_desk.specs.BookedSeats.{Seat, number_of, seats_in_book, seats_in_hall}
+pub use Rattle.site_desk.specs.BookedSeats.{BookedSeat, number_of, seats_in_book, seats_in_hall}
 pub use Rattle.site_desk.specs.Sites.{IsAnyTask, IsCame, IsListed, IsNextTask, IsSitePick, SiteOf, met, overruns_of, stays_in}
 pub use Rattle.site_desk.specs.declared.turned.Turned.{Turned}
 pub use Rattle.site_desk.specs.declared.turned.Turned.TheVariants.{ByBook, OldTenant, OutOfMemory}

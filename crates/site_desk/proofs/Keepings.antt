@@ -1,6 +1,6 @@
 -- Each call leaves the grants the hall's tenants.
-use Rattle.site_desk.proofs.Common.{◌≡◌, ℕ, ◌+◌, ◌<◌, ◌≤◌, inl, inr, true, false, List, [], ◌∷◌, ◌++◌, Option, Some, None, Result, Ok, Err, refl, ap, sym, ◌∙◌, subst, arith, cases_Bool, is_some, AreRising, Quota, Refusal, StepOf, Admit, AdmitMore, Leave, DidOf, Tenant, admitted_with, is_lower, tenant_of, tenant_in, with_outcome, reservations_in, is_full, is_beyond, AreNumbersGiven, tenant_in-new, IsTaken, Leaf, LeafAnswer, jamboree, HallOf, IsDecided, Amount, Held, All, Lower, Who, of_one, plus, IsAmountWithin, used, grant_of, grants_without, BookOf, Opens, Raises, Closes, taken, why_no_raise, IsBooked, TookInHall, is_within_seat, Seat, seats_in_book, seats_in_hall, number_of}
-use Rattle.site_book.specs.declared.refusal.Refusal.{Refusal as BookRefusal}
+use Rattle.site_desk.proofs.Common.{◌≡◌, ℕ, ◌+◌, ◌<◌, ◌≤◌, inl, inr, true, false, List, [], ◌∷◌, ◌++◌, Option, Some, None, Result, Ok, Err, refl, ap, sym, ◌∙◌, subst, arith, cases_Bool, is_some, AreRising, Quota, Refusal, StepOf, Admit, AdmitMore, Leave, DidOf, Tenant, admitted_with, is_lower, tenant_of, tenant_in, with_outcome, reservations_in, is_full, is_beyond, AreNumbersGiven, tenant_in-new, IsTaken, Leaf, LeafAnswer, jamboree, HallOf, IsDecided, Amount, Grant, All, Lower, Who, of_one, plus, IsAmountWithin, used, grant_of, grants_without, BookOf, Opens, Raises, Closes, taken, why_no_raise, IsBooked, TookInHall, is_within_seat, BookedSeat, seats_in_book, seats_in_hall, number_of}
+use Rattle.site_book.specs.declared.refusal.BookRefusal.{BookRefusal}
 use Rattle.site_desk.proofs.SeatLemmas.{set_seat, drop_seats, seat_at, amount_of, hall-same, hall-new, hall-set, hall-drop, IsThere, hall-at, book-push, book-set, book-drop, book-at, taken-upto, rising-push, rising-set, rising-drop, book-amount, used-found, not-full, not-beyond}
 use Rattle.site_desk.proofs.HallSteps.{went, admit-outcome, more-outcome, leave-outcome, stayed, moved}
 
@@ -22,7 +22,7 @@ gone before after step known took =
     record { did = took.0; how = p.0; tenants = m.0; totals = m.1; given = subst AreNumbersGiven (sym p.1) p.0.known }
 
 -- a hall and a book with these seats
-booked-as : (hall hall' : HallOf) (book book' : BookOf) (seats : List Seat) → IsBooked hall book → hall'.shared.totals ≡ hall.shared.totals → AreNumbersGiven hall'.shared → book'.plan.totals ≡ book.plan.totals → seats_in_hall hall'.shared.tenants ≡ seats → seats_in_book book'.grants ≡ seats → AreRising number_of seats → IsBooked hall' book'
+booked-as : (hall hall' : HallOf) (book book' : BookOf) (seats : List BookedSeat) → IsBooked hall book → hall'.shared.totals ≡ hall.shared.totals → AreNumbersGiven hall'.shared → book'.plan.totals ≡ book.plan.totals → seats_in_hall hall'.shared.tenants ≡ seats → seats_in_book book'.grants ≡ seats → AreRising number_of seats → IsBooked hall' book'
 booked-as hall hall' book book' seats is totals given plan by_hall by_book rising =
     let segments = ap (λ (q : Quota). q.segments) totals in
     let nodes = ap (λ (q : Quota). q.nodes) totals in
@@ -45,7 +45,7 @@ booked-admit hall hall' book book' who n q is next took entered =
     let left = admit-outcome (jamboree hall.grain) (tenant_in hall.shared.tenants n) n q g.how.outcome none g.how.own in
     let seats = seats_in_hall hall.shared.tenants in
     let by_hall : seats_in_hall hall'.shared.tenants ≡ seats ++ (n, q) ∷ [] = ap seats_in_hall (g.tenants ∙ ap (λ o. with_outcome n o hall.shared.tenants) left) ∙ hall-new n (admitted_with q) hall.shared.tenants none in
-    let by_book : seats_in_book book'.grants ≡ seats ++ (n, q) ∷ [] = ap (λ (b : BookOf). seats_in_book b.grants) entered ∙ (book-push book.grants (record { who = who; session = n; ask = q }) ∙ ap (λ (ss : List Seat). ss ++ (n, q) ∷ []) is.seated) in
+    let by_book : seats_in_book book'.grants ≡ seats ++ (n, q) ∷ [] = ap (λ (b : BookOf). seats_in_book b.grants) entered ∙ (book-push book.grants (record { who = who; session = n; ask = q }) ∙ ap (λ (ss : List BookedSeat). ss ++ (n, q) ∷ []) is.seated) in
     booked-as hall hall' book book' (seats ++ (n, q) ∷ []) is g.totals g.given (ap (λ (b : BookOf). b.plan.totals) entered) by_hall by_book (rising-push hall.shared.newest n q seats less (taken-upto hall.shared.newest hall.shared.tenants is.given) is.rising)
 
 -- the tenant of a grant
@@ -53,13 +53,13 @@ booked-admit hall hall' book book' who n q is next took entered =
 rising-book : (hall : HallOf) (book : BookOf) → IsBooked hall book → AreRising number_of (seats_in_book book.grants)
 rising-book hall book is = subst (AreRising number_of) (sym is.seated) is.rising
 
-pub tenant-of : (hall : HallOf) (book : BookOf) (who : Who) (n : ℕ) (held : Held) → IsBooked hall book → grant_of who n book.grants ≡ Some held → IsThere hall.shared.tenants n held.ask
+pub tenant-of : (hall : HallOf) (book : BookOf) (who : Who) (n : ℕ) (held : Grant) → IsBooked hall book → grant_of who n book.grants ≡ Some held → IsThere hall.shared.tenants n held.ask
 tenant-of hall book who n held is found =
     hall-at n held.ask hall.shared.tenants (ap (seat_at n) (sym is.seated) ∙ book-at who n book.grants held found (rising-book hall book is))
 
 -- a tenant raised
 
-pub booked-raise : (hall hall' : HallOf) (book book' : BookOf) (who : Who) (n : ℕ) (q : Quota) (held : Held) → IsBooked hall book → grant_of who n book.grants ≡ Some held → TookInHall hall (AdmitMore n q) hall' → book' ≡ taken book (Raises who n q) → IsBooked hall' book'
+pub booked-raise : (hall hall' : HallOf) (book book' : BookOf) (who : Who) (n : ℕ) (q : Quota) (held : Grant) → IsBooked hall book → grant_of who n book.grants ≡ Some held → TookInHall hall (AdmitMore n q) hall' → book' ≡ taken book (Raises who n q) → IsBooked hall' book'
 booked-raise hall hall' book book' who n q held is found took entered =
     let g = gone hall hall' (AdmitMore n q) is.given took in
     let there = tenant-of hall book who n held is found in
@@ -72,7 +72,7 @@ booked-raise hall hall' book book' who n q held is found took entered =
 
 -- a tenant fewer
 
-pub booked-leave : (hall hall' : HallOf) (book book' : BookOf) (who : Who) (n : ℕ) (held : Held) → IsBooked hall book → grant_of who n book.grants ≡ Some held → TookInHall hall (Leave n) hall' → book' ≡ taken book (Closes who n) → IsBooked hall' book'
+pub booked-leave : (hall hall' : HallOf) (book book' : BookOf) (who : Who) (n : ℕ) (held : Grant) → IsBooked hall book → grant_of who n book.grants ≡ Some held → TookInHall hall (Leave n) hall' → book' ≡ taken book (Closes who n) → IsBooked hall' book'
 booked-leave hall hall' book book' who n held is found took entered =
     let g = gone hall hall' (Leave n) is.given took in
     let left = leave-outcome (jamboree hall.grain) (tenant_in hall.shared.tenants n) n g.how.outcome g.how.own in
@@ -105,14 +105,14 @@ has-room hall book q is few room = not-full hall.shared q (used All book.grants)
 
 -- what a raise that the book doesn't refuse has
 pub record MayRaise (hall : HallOf) (book : BookOf) (who : Who) (n : ℕ) (q : Quota) : Type 0 where
-  pub held : Held
+  pub held : Grant
   pub found : grant_of who n book.grants ≡ Some held
   pub tenant : Tenant
   pub at : tenant_in hall.shared.tenants n ≡ Some tenant
   pub more : is_lower tenant.reserve q ≡ false
   pub room : is_beyond (reservations_in hall.shared) tenant.reserve q ≡ false
 
-raise-by : (hall : HallOf) (book : BookOf) (who : Who) (n : ℕ) (q : Quota) (found : Option Held) → IsBooked hall book → grant_of who n book.grants ≡ found → why_no_raise book.plan who n q book.grants found ≡ None → IsAmountWithin (plus (of_one q) (used All (grants_without who n book.grants))) book.plan.totals → MayRaise hall book who n q
+raise-by : (hall : HallOf) (book : BookOf) (who : Who) (n : ℕ) (q : Quota) (found : Option Grant) → IsBooked hall book → grant_of who n book.grants ≡ found → why_no_raise book.plan who n q book.grants found ≡ None → IsAmountWithin (plus (of_one q) (used All (grants_without who n book.grants))) book.plan.totals → MayRaise hall book who n q
 raise-by hall book who n q None is at none room = absurd cc
 raise-by hall book who n q (Some held) is at none room =
     let there = tenant-of hall book who n held is at in
@@ -125,7 +125,7 @@ raise-by hall book who n q (Some held) is at none room =
       room = ap (λ (r : Quota). is_beyond (reservations_in hall.shared) r q) there.reserve ∙ not-beyond hall.shared held.ask q (used All book.grants) (used All (grants_without who n book.grants)) book.plan.totals (all-seats hall book is) (used-found who n book.grants held at) room is.segments is.nodes;
     }
   where
-    not-lower : (held : Held) → why_no_raise book.plan who n q book.grants (Some held) ≡ None → is_lower held.ask q ≡ false
+    not-lower : (held : Grant) → why_no_raise book.plan who n q book.grants (Some held) ≡ None → is_lower held.ask q ≡ false
     not-lower held none = elim (cases_Bool (is_lower held.ask q)) [
       | inl aye ↦ (let some : ◌≡◌ {A = Option BookRefusal} (Some Lower) None = rw aye at none in absurd cc)
       | inr nay ↦ nay
@@ -135,6 +135,6 @@ pub may-raise : (hall : HallOf) (book : BookOf) (who : Who) (n : ℕ) (q : Quota
 may-raise hall book who n q is none room = raise-by hall book who n q (grant_of who n book.grants) is refl none room
 
 -- a grant that is there
-pub found-of : (o : Option Held) → is_some o ≡ true → (held : Held) × (o ≡ Some held)
+pub found-of : (o : Option Grant) → is_some o ≡ true → (held : Grant) × (o ≡ Some held)
 found-of None none = absurd cc
 found-of (Some held) some = (held, refl)

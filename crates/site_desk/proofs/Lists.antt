@@ -1,22 +1,22 @@
 -- Who is listed is who has a grant, after each call.
-use Rattle.site_desk.proofs.Common.{◌≡◌, ℕ, ◌<◌, ◌≤◌, ◌&&◌, inl, inr, Bool, true, false, cond, eqb, List, [], ◌∷◌, ◌++◌, length, refl, ap, sym, ◌∙◌, subst, arith, length-append, cases_Bool, Quota, Held, Who, same_who, is_held_as, grants_without, BookOf, Opens, Raises, Closes, taken, Name, names_granted, PlanOf, Mark, Spoke, Waits, Told as told_to, Present, Whom, is_meant, is_present_as, marked, marked_all, marked_if, names_present, newcomer, without_present, stays, told_by, told_unless, with_staying, Turned, ByBook, OldTenant, OutOfMemory, BookedOf, IsRaise, IsListed, names-with-ask}
+use Rattle.site_desk.proofs.Common.{◌≡◌, ℕ, ◌<◌, ◌≤◌, ◌&&◌, inl, inr, Bool, true, false, cond, eqb, List, [], ◌∷◌, ◌++◌, length, refl, ap, sym, ◌∙◌, subst, arith, length-append, cases_Bool, Quota, Grant, Who, same_who, is_held_as, grants_without, BookOf, Opens, Raises, Closes, taken, Name, names_granted, PlanOf, SessionMark, Spoke, Waits, Told as told_to, Present, Whom, is_meant, is_present_as, marked, marked_all, marked_if, names_present, newcomer, without_present, stays, told_by, told_unless, with_staying, Turned, ByBook, OldTenant, OutOfMemory, BookedOf, IsRaise, IsListed, names-with-ask}
 use Rattle.std.specs.Prelude.{Result, Ok, Err}
 
 abbrev name_of : Present → Name
 name_of p = (p.who, p.session)
 
-mark-name : (mark : Mark) (p : Present) → name_of (marked mark p) ≡ name_of p
+mark-name : (mark : SessionMark) (p : Present) → name_of (marked mark p) ≡ name_of p
 mark-name (Spoke now) p = refl
 mark-name (Waits waits now) p = refl
 mark-name (told_to why) p = refl
 
-marked-name : (whom : Whom) (mark : Mark) (p : Present) → name_of (marked_if whom mark p) ≡ name_of p
+marked-name : (whom : Whom) (mark : SessionMark) (p : Present) → name_of (marked_if whom mark p) ≡ name_of p
 marked-name whom mark p = elim (cases_Bool (is_meant whom p)) [
   | inl aye ↦ rw aye (mark-name mark p)
   | inr nay ↦ rw nay refl
 ]
 
-pub names_marked : (whom : Whom) (mark : Mark) (roll : List Present) → names_present (marked_all whom mark roll) ≡ names_present roll
+pub names_marked : (whom : Whom) (mark : SessionMark) (roll : List Present) → names_present (marked_all whom mark roll) ≡ names_present roll
 names_marked whom mark [] = refl
 names_marked whom mark (p ∷ roll) = λ i. marked-name whom mark p i ∷ names_marked whom mark roll i
 
@@ -24,7 +24,7 @@ told-name : (b : Bool) (p : Present) → name_of (told_unless b p) ≡ name_of p
 told-name true p = refl
 told-name false p = refl
 
-pub names_told : (plan : PlanOf) (before gs : List Held) (roll : List Present) → length gs ≡ length roll → names_present (told_by plan before gs roll) ≡ names_present roll
+pub names_told : (plan : PlanOf) (before gs : List Grant) (roll : List Present) → length gs ≡ length roll → names_present (told_by plan before gs roll) ≡ names_present roll
 names_told plan before [] roll alike = refl
 names_told plan before (g ∷ gs) [] alike = refl
 names_told plan before (g ∷ gs) (p ∷ roll) alike =
@@ -34,7 +34,7 @@ pub roll-push : (roll : List Present) (p : Present) → names_present (roll ++ p
 roll-push [] p = refl
 roll-push (q ∷ roll) p = ap (λ (l : List Name). name_of q ∷ l) (roll-push roll p)
 
-pub book-push : (gs : List Held) (g : Held) → names_granted (gs ++ g ∷ []) ≡ names_granted gs ++ (g.who, g.session) ∷ []
+pub book-push : (gs : List Grant) (g : Grant) → names_granted (gs ++ g ∷ []) ≡ names_granted gs ++ (g.who, g.session) ∷ []
 book-push [] g = refl
 book-push (h ∷ gs) g = ap (λ (l : List Name). (h.who, h.session) ∷ l) (book-push gs g)
 
@@ -53,7 +53,7 @@ roll-drop who n (p ∷ roll) = elim (cases_Bool (is_present_as who n p)) [
   | inr nay ↦ rw nay (ap (λ (l : List Name). name_of p ∷ l) (roll-drop who n roll))
 ]
 
-book-drop : (who : Who) (n : ℕ) (gs : List Held) → names_granted (grants_without who n gs) ≡ drop_name who n (names_granted gs)
+book-drop : (who : Who) (n : ℕ) (gs : List Grant) → names_granted (grants_without who n gs) ≡ drop_name who n (names_granted gs)
 book-drop who n [] = refl
 book-drop who n (g ∷ gs) = elim (cases_Bool (is_held_as who n g)) [
   | inl aye ↦ rw aye refl
@@ -64,11 +64,11 @@ roll-length : (roll : List Present) → length (names_present roll) ≡ length r
 roll-length [] = refl
 roll-length (p ∷ roll) = (let rest = roll-length roll in omega (arith, rest))
 
-book-length : (gs : List Held) → length (names_granted gs) ≡ length gs
+book-length : (gs : List Grant) → length (names_granted gs) ≡ length gs
 book-length [] = refl
 book-length (g ∷ gs) = (let rest = book-length gs in omega (arith, rest))
 
-pub alike : (gs : List Held) (roll : List Present) → names_present roll ≡ names_granted gs → length gs ≡ length roll
+pub alike : (gs : List Grant) (roll : List Present) → names_present roll ≡ names_granted gs → length gs ≡ length roll
 alike gs roll is = sym (book-length gs) ∙ (ap length (sym is) ∙ roll-length roll)
 
 -- after each call

@@ -2,20 +2,20 @@
 use Rattle.std.specs.Prelude.{ℕ, List, map}
 use Rattle.tenant_quota.specs.Quota.{Quota}
 use Rattle.sched_rules.specs.Trees.{Tenant}
-use Rattle.site_book.specs.declared.held.Held.{Held}
+use Rattle.site_book.specs.declared.held.Grant.{Grant}
 
 -- a number, and what it reserves
-abbrev pub Seat : Type 0
-Seat = ℕ × Quota
+abbrev pub BookedSeat : Type 0
+BookedSeat = ℕ × Quota
 
 -- the sessions of a book's grants with what each reserves, in order
-abbrev pub seats_in_book : List Held → List Seat
+abbrev pub seats_in_book : List Grant → List BookedSeat
 seats_in_book grants = map (λ held. (held.session, held.ask)) grants
 
 -- a hall's tenants with what each reserves, in order
-abbrev pub seats_in_hall : List (ℕ × Tenant) → List Seat
+abbrev pub seats_in_hall : List (ℕ × Tenant) → List BookedSeat
 seats_in_hall tenants = map (λ entry. (entry.0, entry.1.reserve)) tenants
 
 -- the number of a seat
-abbrev pub number_of : Seat → ℕ
+abbrev pub number_of : BookedSeat → ℕ
 number_of seat = seat.0

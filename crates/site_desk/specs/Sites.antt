@@ -13,7 +13,7 @@ use Rattle.desk_rules.specs.hall.Halls.{IsDecided}
 use Rattle.desk_rules.specs.hall.jamboree_rules.declared.leaf.Leaf.{Leaf}
 use Rattle.desk_rules.specs.hall.jamboree_rules.declared.leaf.LeafAnswer.{LeafAnswer}
 use Rattle.desk_rules.specs.Changes.{is_some_live}
-use Rattle.site_book.specs.declared.held.Held.{Held}
+use Rattle.site_book.specs.declared.held.Grant.{Grant}
 use Rattle.site_book.specs.declared.held.Overrun.{Overrun}
 use Rattle.site_book.specs.declared.who.Who.{Who}
 use Rattle.site_book.specs.Books.{BookOf, overrun_of}
@@ -21,7 +21,7 @@ use Rattle.site_book.specs.Events.{names_granted}
 use Rattle.site_book.specs.Plans.{PlanOf}
 use Rattle.site_book.specs.declared.coming.Coming.{Coming}
 use Rattle.site_book.specs.declared.coming.Coming.TheVariants.{Enters, Waits, Ends, Refused}
-use Rattle.site_book.specs.declared.present.Mark.TheVariants.{Told as told_to}
+use Rattle.site_book.specs.declared.present.SessionMark.TheVariants.{Told as told_to}
 use Rattle.site_book.specs.declared.present.Present.{Present}
 use Rattle.site_book.specs.declared.present.Told.TheVariants.{ForAnother}
 use Rattle.site_book.specs.declared.present.Whom.TheVariants.{One}
@@ -116,5 +116,5 @@ IsNextTask before (Some task) after =
     (before.closed ≡ false) × (IsSitePick before (Some task) after ⊎ (IsSitePick before None after × IsReadyAt (named before.booked.hall.shared task.frame) task.home))
 
 -- by how much each grant's part has more than a plan allows, in the order of the grants
-abbrev pub overruns_of : PlanOf → List Held → List Held → List (Option Overrun)
+abbrev pub overruns_of : PlanOf → List Grant → List Grant → List (Option Overrun)
 overruns_of plan all grants = map (overrun_of plan all) grants

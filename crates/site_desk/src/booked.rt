@@ -32,7 +32,7 @@ ghost use Rattle.site_desk.specs.Booked.{IsAdmission, IsRaise, IsEnd, is_within_
 use crate::steps::{admit, leave, raise};
 use crate::turned::Turned;
 use hall::{Hall, Jamboree, Step, StepAnswer};
-use site_book::{Book, Plan, Who};
+use site_book::{CustomerBook, Plan, Who};
 use std::alloc::{Allocator, Global};
 use std::marker::Model;
 use tenant_quota::Reserve;
@@ -41,7 +41,7 @@ use tenant_quota::Reserve;
 #[derive(Drop)]
 pub struct BookedHall<A: Allocator = Global> {
     hall: Hall<A>,
-    book: Book,
+    book: CustomerBook,
 }
 
 // Clauses see the hall and the book.
@@ -57,7 +57,7 @@ impl<A: Allocator> Model for BookedHall<A> {
 
 impl<A: Allocator + Clone> BookedHall<A> {
     /// A hall and a book that are both empty, where the hall has what the book's plan says of it.
-    pub fn new(hall: Hall<A>, book: Book) -> BookedHall<A>
+    pub fn new(hall: Hall<A>, book: CustomerBook) -> BookedHall<A>
         requires nobody { hall.shared.tenants ≡ [] }
         requires nothing { book.grants ≡ [] }
         requires segments { book.plan.totals.segments ≤ hall.shared.totals.segments }
@@ -76,7 +76,7 @@ impl<A: Allocator + Clone> BookedHall<A> {
     }
 
     /// The book, for reading.
-    pub fn book(&self) -> &Book
+    pub fn book(&self) -> &CustomerBook
         ensures { result.now ≡ self.now.book }
     {
         &self.book

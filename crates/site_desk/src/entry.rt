@@ -1,16 +1,16 @@
-use crate::seat::Seat;
+use crate::seat::SiteSeat;
 use crate::turned::Turned;
-use site_book::Refusal;
+use site_book::BookRefusal;
 
 /// What comes of one who asks for a session.
 #[derive(Drop)]
-pub enum Entry {
+pub enum SeatOutcome {
     /// It has this seat.
-    Seated(Seat),
+    Seated(SiteSeat),
     /// It is refused now, but there is room once those have left who were told to end.
     Later {
         /// Why it is refused now.
-        refusal: Refusal,
+        refusal: BookRefusal,
         /// The guest's session that was told to end for it just now.
         ending: Option<u64>,
         /// How many sessions had left by then.

@@ -1,6 +1,6 @@
 //! A site's desk: the lock over a hall, the book of its customers, the roll of who is there, and who was served what.
 //!
-//! A [`SiteDesk`] is shared by all threads of a site. Who comes asks for a [`Seat`] ([`SiteDesk::come`]): under one lock and by one
+//! A [`SiteDesk`] is shared by all threads of a site. Who comes asks for a [`SiteSeat`] ([`SiteDesk::come`]): under one lock and by one
 //! call its budget is looked at, its tenant admitted, its grant entered and its session listed, or nothing of it. With a seat it
 //! reserves more, asks, gets, waits, cancels and leaves; leaving gives all back at once. Workers offer their steps by
 //! [`SiteDesk::hold`]; those of `fair_pool` by [`SiteDesk::work`], and they ask it for a fair pick among those who have a seat
@@ -25,7 +25,7 @@
 //!
 //! ```text
 //! let desk = SiteDesk::new(BookedHall::new(hall, book), FairShare::new(alloc, 1 + named)?);
-//! let Entry::Seated(mut seat) = desk.come(rt, &Comer { who, ask, at, most }) else { .. };
+//! let SeatOutcome::Seated(mut seat) = desk.come(rt, &Comer { who, ask, at, most }) else { .. };
 //! let job = desk.ask(rt, &mut seat, &opening, 0)?;
 //! desk.wait(rt, &seat, job, now)? == Outcome::Done(reply)         // with workers that hold the desk
 //! desk.leave(rt, seat);
@@ -46,8 +46,8 @@ mod steps;
 mod turned;
 
 pub use booked::BookedHall;
-pub use entry::Entry;
+pub use entry::SeatOutcome;
 pub use guard::SiteGuard;
-pub use seat::Seat;
+pub use seat::SiteSeat;
 pub use site_desk::SiteDesk;
 pub use turned::Turned;

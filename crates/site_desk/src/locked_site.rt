@@ -24,7 +24,7 @@ ghost use Rattle.site_desk.specs.Sites.{IsCame, IsSessionGone, IsSiteStep, IsNex
 
 use crate::booked::BookedHall;
 use crate::came::Came;
-use crate::seat::Seat;
+use crate::seat::SiteSeat;
 use crate::sharing::{share, unshare};
 use crate::turned::Turned;
 use arrayvec::ArrayVec;
@@ -34,8 +34,8 @@ use frame_tree::FrameId;
 use hall::{Jamboree, Outcome, Refusal, Step, StepAnswer, StepOf, submit};
 use position_text::Position;
 use site_book::{
-    Book, Comer, Coming, MOST, Mark, Overrun, Plan, Present, Refusal as BookRefusal, Roll, Told,
-    Who, Whom, what_comes_of,
+    BookRefusal, Comer, Coming, CustomerBook, MOST, Overrun, Plan, Present, Roll, SessionMark,
+    Told, Who, Whom, what_comes_of,
 };
 use std::alloc::{Allocator, Global};
 use std::marker::Model;
@@ -93,7 +93,7 @@ impl<A: Allocator + Clone> LockedSite<A> {
             Coming::Enters => self.let_in(comer),
             Coming::Waits(refusal) => Came::Waiting(refusal),
             Coming::Ends(session, refusal) => {
-                self.mark(Whom::One(session), Mark::Told(Told::ForAnother));
+                self.mark(Whom::One(session), SessionMark::Told(Told::ForAnother));
                 Came::Ending(session, refusal)
             }
             Coming::Refused(refusal) => Came::Turned(Turned::ByBook(refusal)),
@@ -129,7 +129,7 @@ impl<A: Allocator + Clone> LockedSite<A> {
 
     /// Raises what a session reserves where the book allows it: in the hall and in the book, or in neither.
     #[tactic(auto, using(crate::proofs::Lists::listed_raised))]
-    pub(crate) fn raise(&mut self, seat: &Seat, ask: Reserve) -> Result<(), Turned>
+    pub(crate) fn raise(&mut self, seat: &SiteSeat, ask: Reserve) -> Result<(), Turned>
         ensures raise { IsRaise self.old.booked seat.now.who seat.now.number ask result self.new.booked }
         ensures others { self.new ≡ record self.old { booked = self.new.booked } }
     {
@@ -160,7 +160,7 @@ impl<A: Allocator + Clone> LockedSite<A> {
 
     /// Notes something of these sessions.
     #[tactic(auto, using(crate::proofs::Lists::names_marked))]
-    pub(crate) fn mark(&mut self, whom: Whom, mark: Mark)
+    pub(crate) fn mark(&mut self, whom: Whom, mark: SessionMark)
         ensures { self.new ≡ record self.old { roll = marked_all whom mark self.old.roll } }
     {
         self.roll.mark(whom, mark);
@@ -202,7 +202,7 @@ impl<A: Allocator + Clone> LockedSite<A> {
     /// Where the list has 256 entries the hall isn't asked, and the refusal is `NoJobsLeft`. At any refusal nothing changes.
     pub(crate) fn ask(
         &mut self,
-        seat: &mut Seat,
+        seat: &mut SiteSeat,
         position: &Position,
         depth: u8,
     ) -> Result<u64, Refusal>
@@ -228,7 +228,7 @@ impl<A: Allocator + Clone> LockedSite<A> {
 
     /// Cancels a seat's job. Where the seat asked for no job of this number the hall isn't asked, and the refusal is `NoJob`; the
     /// hall refuses with `NoJob` where the job has ended, and with `NoTenant`.
-    pub(crate) fn cancel(&mut self, seat: &Seat, job: u64) -> Result<(), Refusal>
+    pub(crate) fn cancel(&mut self, seat: &SiteSeat, job: u64) -> Result<(), Refusal>
         ensures none { seat_asked_at seat.now.asked job ≡ None → (result ≡ Err NoJob) × (self.new ≡ self.old) }
         ensures step { MatchResult result
             (λ _. (did : DidOf LeafOf) × IsSiteStep self.old (Cancel seat.now.number job) (Ok did) self.new)
@@ -253,7 +253,7 @@ impl<A: Allocator + Clone> LockedSite<A> {
     }
 
     /// How a seat's job stands, as `shown` tells it; `NoJob` where the seat asked for no job of this number.
-    pub(crate) fn get(&self, seat: &Seat, job: u64) -> Result<Outcome, Refusal>
+    pub(crate) fn get(&self, seat: &SiteSeat, job: u64) -> Result<Outcome, Refusal>
         ensures shown { IsShown (seat_asked_at seat.now.asked job) result }
         ensures told { (told : Option OutcomeOf) × IsOutcomeIn (job_of self.now.booked.hall.shared seat.now.number job) told × IsToldBy (seat_asked_at seat.now.asked job) told result }
     {
@@ -406,7 +406,7 @@ impl<A: Allocator + Clone> LockedSite<A> {
     }
 
     /// The book, for reading.
-    pub(crate) fn book(&self) -> &Book
+    pub(crate) fn book(&self) -> &CustomerBook
         ensures { result.now ≡ self.now.booked.book }
     {
         self.booked.book()

@@ -9,7 +9,7 @@ use std::marker::Model;
 /// A session's place at a site's desk, with which its calls are made. Contracts see whose it is, its number, which is its tenant's,
 /// and the list of what it asked.
 #[derive(Drop)]
-pub struct Seat {
+pub struct SiteSeat {
     pub(crate) who: Who,
     pub(crate) number: u64,
     /// What it asked, from job 1 on.
@@ -17,7 +17,7 @@ pub struct Seat {
 }
 
 // Clauses see whose it is, the number and the list.
-impl Model for Seat {
+impl Model for SiteSeat {
     ghost use Rattle.site_desk.specs.Seats.{SiteSeatOf};
 
     ghost Value = { SiteSeatOf };
@@ -25,12 +25,12 @@ impl Model for Seat {
     ghost view = { λ s. record { who = s.who; number = s.number; asked = s.asked.items } };
 }
 
-impl Seat {
+impl SiteSeat {
     /// The seat of a session that has just begun.
-    pub(crate) fn new(who: Who, number: u64) -> Seat
+    pub(crate) fn new(who: Who, number: u64) -> SiteSeat
         ensures { result ≡ record { who = who; number = number; asked = [] } }
     {
-        Seat {
+        SiteSeat {
             who,
             number,
             asked: ArrayVec::new(),

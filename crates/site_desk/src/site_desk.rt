@@ -12,10 +12,10 @@ ghost use Rattle.site_desk.specs.Seats.{IsSiteAsk};
 use crate::bells::{SLEEP_SECS, Bells};
 use crate::booked::BookedHall;
 use crate::came::Came;
-use crate::entry::Entry;
+use crate::entry::SeatOutcome;
 use crate::guard::SiteGuard;
 use crate::locked_site::LockedSite;
-use crate::seat::Seat;
+use crate::seat::SiteSeat;
 use crate::turned::Turned;
 use arrayvec::ArrayVec;
 use desk_rules::Backoff;
@@ -25,7 +25,7 @@ use hall::{Jamboree, Outcome, Refusal, Step, StepAnswer};
 use position_text::Position;
 use sched_rules::Worker;
 use site_book::{
-    Amount, Comer, MOST, Mark, Overrun, Part, Plan, Present, Refusal as BookRefusal, Told, Whom,
+    Amount, BookRefusal, Comer, Group, MOST, Overrun, Plan, Present, SessionMark, Told, Whom,
 };
 use std::alloc::{Allocator, Global};
 use std::hint::spin_loop;
@@ -100,7 +100,7 @@ impl<A: Allocator + Clone> SiteDesk<A> {
     /// lock. `Later` where it is refused now, but there is room once those have left who were told to end; the idlest guest is one of
     /// them from now on where it is refused as all guests together have too much, and that helps. `Turned` away else; then nothing
     /// has changed. Who was told to end is woken, if it waits for a job.
-    pub fn come<R: Wait>(&self, rt: &R, comer: &Comer) -> Entry
+    pub fn come<R: Wait>(&self, rt: &R, comer: &Comer) -> SeatOutcome
         ensures { IsEntry comer.now.who result }
     {
         let mut kept = self.enter(rt);
@@ -108,21 +108,21 @@ impl<A: Allocator + Clone> SiteDesk<A> {
         let left = kept.left();
         drop(kept);
         match came {
-            Came::Seated(number) => Entry::Seated(Seat::new(comer.who, number)),
-            Came::Waiting(refusal) => Entry::Later {
+            Came::Seated(number) => SeatOutcome::Seated(SiteSeat::new(comer.who, number)),
+            Came::Waiting(refusal) => SeatOutcome::Later {
                 refusal,
                 ending: None,
                 left,
             },
             Came::Ending(session, refusal) => {
                 self.bells.ring(session);
-                Entry::Later {
+                SeatOutcome::Later {
                     refusal,
                     ending: Some(session),
                     left,
                 }
             }
-            Came::Turned(turned) => Entry::Turned(turned),
+            Came::Turned(turned) => SeatOutcome::Turned(turned),
         }
     }
 
@@ -137,7 +137,7 @@ impl<A: Allocator + Clone> SiteDesk<A> {
 
     /// Raises what the session reserves to `ask`, where the book allows it: in the hall and in the book, or in neither. Turned away
     /// only by the book, or for want of memory.
-    pub fn reserve<R: Wait>(&self, rt: &R, seat: &Seat, ask: Reserve) -> Result<(), Turned>
+    pub fn reserve<R: Wait>(&self, rt: &R, seat: &SiteSeat, ask: Reserve) -> Result<(), Turned>
         ensures { result ≢ Err NumbersOut }
     {
         self.enter(rt).raise(seat, ask)
@@ -149,7 +149,7 @@ impl<A: Allocator + Clone> SiteDesk<A> {
     pub fn ask<R: Wait>(
         &self,
         rt: &R,
-        seat: &mut Seat,
+        seat: &mut SiteSeat,
         position: &Position,
         depth: u8,
     ) -> Result<u64, Refusal>
@@ -164,7 +164,7 @@ impl<A: Allocator + Clone> SiteDesk<A> {
 
     /// How a job stands now, without waiting for it. `NoJob` exactly where its number is 0 or above the length of the seat's list;
     /// there is no other refusal. It is `Done` only with a reply to the board and the depth at its place in that list.
-    pub fn get<R: Wait>(&self, rt: &R, seat: &Seat, job: u64) -> Result<Outcome, Refusal>
+    pub fn get<R: Wait>(&self, rt: &R, seat: &SiteSeat, job: u64) -> Result<Outcome, Refusal>
         ensures { IsShown (seat_asked_at seat.now.asked job) result }
     {
         self.enter(rt).get(seat, job)
@@ -175,12 +175,18 @@ impl<A: Allocator + Clone> SiteDesk<A> {
     ///
     /// It sleeps at its bell, and never on the lock, as [`SiteDesk::enter_late`] says. What ends its job happens under the lock, and the
     /// bell is rung behind it: so none is missed where the count of rings is read under the lock.
-    pub fn wait<R: Wait>(&self, rt: &R, seat: &Seat, job: u64, now: u64) -> Result<Outcome, Refusal>
+    pub fn wait<R: Wait>(
+        &self,
+        rt: &R,
+        seat: &SiteSeat,
+        job: u64,
+        now: u64,
+    ) -> Result<Outcome, Refusal>
         ensures { IsShown (seat_asked_at seat.now.asked job) result }
     {
         let number = seat.number();
         let mut kept = self.enter(rt);
-        kept.mark(Whom::One(number), Mark::Waits(true, now));
+        kept.mark(Whom::One(number), SessionMark::Waits(true, now));
         for _ in rt.forever() {
             if !kept.keeps_waiting(number, job) {
                 break;
@@ -195,7 +201,7 @@ impl<A: Allocator + Clone> SiteDesk<A> {
 
     /// Cancels a job that hasn't ended: its frames are removed, and who waits for it is woken.
     /// `NoJob` where its number is 0 or above the length of the seat's list, or it has ended; the only other refusal is `NoTenant`.
-    pub fn cancel<R: Wait>(&self, rt: &R, seat: &Seat, job: u64) -> Result<(), Refusal>
+    pub fn cancel<R: Wait>(&self, rt: &R, seat: &SiteSeat, job: u64) -> Result<(), Refusal>
         ensures none { seat_asked_at seat.now.asked job ≡ None → result ≡ Err NoJob }
         ensures refused { IfErr result (Contains cancel_refusals) }
     {
@@ -205,31 +211,31 @@ impl<A: Allocator + Clone> SiteDesk<A> {
     }
 
     /// The segments, nodes and steps that the session has left when the lock is taken. The only refusal is `NoTenant`.
-    pub fn quota<R: Wait>(&self, rt: &R, seat: &Seat) -> Result<Left, Refusal>
+    pub fn quota<R: Wait>(&self, rt: &R, seat: &SiteSeat) -> Result<Left, Refusal>
         ensures { IfErr result (λ refusal. refusal ≡ NoTenant) }
     {
         self.enter(rt).quota(seat.number())
     }
 
     /// How many frames the session has, and how many words these have together. The only refusal is `NoTenant`.
-    pub fn live<R: Wait>(&self, rt: &R, seat: &Seat) -> Result<(usize, usize), Refusal>
+    pub fn live<R: Wait>(&self, rt: &R, seat: &SiteSeat) -> Result<(usize, usize), Refusal>
         ensures { IfErr result (λ refusal. refusal ≡ NoTenant) }
     {
         self.enter(rt).live(seat.number())
     }
 
     /// What the seat's customer may have, and what it has.
-    pub fn budget<R: Wait>(&self, rt: &R, seat: &Seat) -> (Amount, Amount) {
+    pub fn budget<R: Wait>(&self, rt: &R, seat: &SiteSeat) -> (Amount, Amount) {
         let kept = self.enter(rt);
         let book = kept.book();
         (
             book.plan().budget(seat.who()),
-            book.used(Part::Own(seat.who())),
+            book.used(Group::Own(seat.who())),
         )
     }
 
     /// What some of the sessions may have together, and what they have.
-    pub fn part<R: Wait>(&self, rt: &R, part: Part) -> (Amount, Amount) {
+    pub fn part<R: Wait>(&self, rt: &R, part: Group) -> (Amount, Amount) {
         let kept = self.enter(rt);
         let book = kept.book();
         (book.plan().limit(part), book.used(part))
@@ -237,19 +243,19 @@ impl<A: Allocator + Clone> SiteDesk<A> {
 
     /// The session leaves, and the seat is used up: its tenant with its jobs and frames is gone, its grant is taken back, and it is
     /// listed no more. All who wait for one to leave are woken.
-    pub fn leave<R: Wait>(&self, rt: &R, seat: Seat) {
+    pub fn leave<R: Wait>(&self, rt: &R, seat: SiteSeat) {
         let _was_there = self.enter(rt).leave(seat.who(), seat.number());
         self.left.notify_all();
     }
 
     /// Notes that these sessions said a line, or don't wait any more.
-    pub fn mark<R: Wait>(&self, rt: &R, whom: Whom, mark: Mark) {
+    pub fn mark<R: Wait>(&self, rt: &R, whom: Whom, mark: SessionMark) {
         self.enter(rt).mark(whom, mark);
     }
 
     /// Tells these sessions to end, and wakes those of them that wait for a job. Their own threads leave.
     pub fn tell<R: Wait>(&self, rt: &R, whom: Whom, why: Told) {
-        self.enter(rt).mark(whom, Mark::Told(why));
+        self.enter(rt).mark(whom, SessionMark::Told(why));
         self.bells.ring_all();
     }
 
@@ -260,7 +266,7 @@ impl<A: Allocator + Clone> SiteDesk<A> {
     }
 
     /// Whether the session is there and wasn't told to end.
-    pub fn stays<R: Wait>(&self, rt: &R, seat: &Seat) -> bool {
+    pub fn stays<R: Wait>(&self, rt: &R, seat: &SiteSeat) -> bool {
         self.enter(rt).stays(seat.number())
     }
 

@@ -8,7 +8,7 @@ ghost use Rattle.site_desk.specs.Booked.{IsBooked, IsLetIn, IsRaisedTo, TookInHa
 
 use crate::turned::Turned;
 use hall::{Hall, Refusal, StepOf};
-use site_book::{Book, Who};
+use site_book::{CustomerBook, Who};
 use std::alloc::Allocator;
 use tenant_quota::Reserve;
 
@@ -60,7 +60,7 @@ fn turned_by(refusal: Refusal) -> Turned
 /// Admits a customer's tenant where the book allows it, and enters its grant.
 pub(crate) fn admit<A: Allocator + Clone>(
     hall: &mut Hall<A>,
-    book: &mut Book,
+    book: &mut CustomerBook,
     who: Who,
     ask: Reserve,
 ) -> Result<u64, Turned>
@@ -83,7 +83,7 @@ pub(crate) fn admit<A: Allocator + Clone>(
 /// Raises what a customer's tenant reserves where the book allows it, and its grant.
 pub(crate) fn raise<A: Allocator + Clone>(
     hall: &mut Hall<A>,
-    book: &mut Book,
+    book: &mut CustomerBook,
     who: Who,
     number: u64,
     ask: Reserve,
@@ -107,7 +107,7 @@ pub(crate) fn raise<A: Allocator + Clone>(
 /// Lets a customer's tenant go, and takes its grant back; false where there is no such session.
 pub(crate) fn leave<A: Allocator + Clone>(
     hall: &mut Hall<A>,
-    book: &mut Book,
+    book: &mut CustomerBook,
     who: Who,
     number: u64,
 ) -> bool

@@ -1,15 +1,15 @@
 //! A file that is read again: who was there before keeps its number and its home.
-use crate::config::Config;
+use crate::config::SiteConfig;
 use crate::directory::{Directory, Terms};
 use crate::faults::FileFault;
 use crate::keys::Keys;
 use crate::rate::Rate;
-use crate::reading::{Told, customer_named};
+use crate::reading::{FileContents, customer_named};
 use site_book::Amount;
 use std::alloc::{AllocError, Global};
 
 /// The word of what a site that runs can't change, where the file changes it.
-pub(crate) fn changed_word(told: &Told, now: &Config) -> Option<&'static str> {
+pub(crate) fn changed_word(told: &FileContents, now: &SiteConfig) -> Option<&'static str> {
     if told.entrances.proxied != now.entrances.proxied {
         return Some("listen");
     }
@@ -46,14 +46,18 @@ fn is_same_path(new: &Option<String>, now: &Option<String>) -> bool {
 /// Gives the customers of a file the numbers that customers of the same names have, and the same homes unless the file asks for
 /// others. Who is gone keeps its number, and has no budget and no key. Who is new comes behind. At an error what was told is of no
 /// use.
-pub(crate) fn renumber(alloc: Global, told: &mut Told, now: &Directory) -> Result<(), FileFault> {
+pub(crate) fn renumber(
+    alloc: Global,
+    told: &mut FileContents,
+    now: &Directory,
+) -> Result<(), FileFault> {
     match renumber_all(alloc, told, &now.customers) {
         Ok(()) => Ok(()),
         Err(fault) => Err(FileFault::Memory(fault)),
     }
 }
 
-fn renumber_all(alloc: Global, told: &mut Told, now: &[Terms]) -> Result<(), AllocError> {
+fn renumber_all(alloc: Global, told: &mut FileContents, now: &[Terms]) -> Result<(), AllocError> {
     let numbers = numbers_of(alloc, &told.directory.customers, now)?;
     let count = count_of(&numbers, now.len());
     renumber_keys(&mut told.directory.keys, &numbers);

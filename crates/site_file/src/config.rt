@@ -9,7 +9,7 @@ use std::net::{IpAddr, Ipv4Addr, SocketAddr};
 
 /// What a site goes by.
 #[derive(Drop)]
-pub struct Config {
+pub struct SiteConfig {
     /// Where it listens.
     pub entrances: Entrances,
     /// The path of the Unix socket where the operator asks; `None` for no such socket.
@@ -80,10 +80,10 @@ pub const FULL_HALL: Amount = Amount {
     nodes: 4_194_304,
 };
 
-impl Config {
+impl SiteConfig {
     /// What a site goes by that has no file: it listens for this host alone, and everybody is a guest who may take what is free.
     /// `None` never, since the sums fit.
-    pub fn without_file(alloc: Global, port: u16) -> Result<Option<Config>, AllocError> {
+    pub fn without_file(alloc: Global, port: u16) -> Result<Option<SiteConfig>, AllocError> {
         let guest = guest_terms(alloc, Limits::USUAL.connections, USUAL)?;
         let Some(plan) = Plan::new(FULL_HALL, Vec::new(alloc), FULL_HALL, FULL_HALL, FULL_HALL)
         else {
@@ -91,7 +91,7 @@ impl Config {
         };
         let mut halls = Vec::new(alloc);
         halls.push(plan)?;
-        Ok(Some(Config {
+        Ok(Some(SiteConfig {
             entrances: Entrances {
                 proxied: None,
                 plain: Some(SocketAddr::new(IpAddr::V4(Ipv4Addr::LOCALHOST), port)),

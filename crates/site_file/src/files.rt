@@ -4,17 +4,17 @@ ghost use Rattle.site_file.specs.Checks.{fault_of};
 
 use crate::again::{changed_word, renumber};
 use crate::checks::DirectoryFault;
-use crate::config::Config;
+use crate::config::SiteConfig;
 use crate::directory::Directory;
 use crate::faults::{FileFault, line_of};
 use crate::homes::{given_at, plans_of, settle};
-use crate::reading::{Told, told_in};
+use crate::reading::{FileContents, told_in};
 use crate::section::Section;
 use site_book::Amount;
 use std::alloc::{AllocError, Global};
 
 /// Reads a file, and checks it whole. An error says the line and what is wrong there.
-pub fn read_config(alloc: Global, text: &str) -> Result<Config, FileFault>
+pub fn read_config(alloc: Global, text: &str) -> Result<SiteConfig, FileFault>
     ensures { IfOk result (λ config. fault_of config.directory.customers.items config.directory.guest config.directory.keys ≡ None) }
 {
     let told = told_of(alloc, text)?;
@@ -25,7 +25,11 @@ pub fn read_config(alloc: Global, text: &str) -> Result<Config, FileFault>
 /// Reads a file while a site goes by this. Customers of the same name keep their numbers, and their homes unless the file asks for
 /// others; who is gone keeps its number, and has no budget and no key; who is new comes behind. What a site that runs can't change
 /// (where it listens, its workers, the number of its halls) is refused.
-pub fn read_config_again(alloc: Global, text: &str, now: &Config) -> Result<Config, FileFault> {
+pub fn read_config_again(
+    alloc: Global,
+    text: &str,
+    now: &SiteConfig,
+) -> Result<SiteConfig, FileFault> {
     let first = read_config(alloc, text)?;
     drop(first);
     let mut told = told_of(alloc, text)?;
@@ -37,7 +41,7 @@ pub fn read_config_again(alloc: Global, text: &str, now: &Config) -> Result<Conf
 }
 
 /// All that a text says.
-fn told_of(alloc: Global, text: &str) -> Result<Told, FileFault> {
+fn told_of(alloc: Global, text: &str) -> Result<FileContents, FileFault> {
     match toml::table_from_str(alloc, text) {
         Ok(table) => told_in(&Section::whole(alloc, text, &table)),
         Err(fault) => Err(FileFault::of_toml(alloc, text, &fault)),
@@ -53,8 +57,8 @@ fn changed(alloc: Global, text: &str, word: &str) -> FileFault {
 }
 
 /// What a site goes by, of what was told, with each customer at its home.
-fn config_of(alloc: Global, text: &str, told: Told) -> Result<Config, FileFault> {
-    let Told {
+fn config_of(alloc: Global, text: &str, told: FileContents) -> Result<SiteConfig, FileFault> {
+    let FileContents {
         entrances,
         control,
         workers,
@@ -75,7 +79,7 @@ fn config_of(alloc: Global, text: &str, told: Told) -> Result<Config, FileFault>
         &mut directory.customers,
     )?;
     match plans_of(alloc, count, &guests, &budgets, &directory.customers)? {
-        Ok(halls) => Ok(Config {
+        Ok(halls) => Ok(SiteConfig {
             entrances,
             control,
             workers,
@@ -91,10 +95,10 @@ fn config_of(alloc: Global, text: &str, told: Told) -> Result<Config, FileFault>
 }
 
 /// What a site goes by, where its directory has no fault.
-fn checked(alloc: Global, text: &str, config: Config) -> Result<Config, FileFault>
+fn checked(alloc: Global, text: &str, config: SiteConfig) -> Result<SiteConfig, FileFault>
     ensures { IfOk result (λ config. fault_of config.directory.customers.items config.directory.guest config.directory.keys ≡ None) }
 {
-    let Config {
+    let SiteConfig {
         entrances,
         control,
         workers,
@@ -103,7 +107,7 @@ fn checked(alloc: Global, text: &str, config: Config) -> Result<Config, FileFaul
         directory,
     } = config;
     match directory.checked() {
-        Ok(directory) => Ok(Config {
+        Ok(directory) => Ok(SiteConfig {
             entrances,
             control,
             workers,

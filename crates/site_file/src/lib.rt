@@ -1,8 +1,8 @@
 //! A site's file: from the text of its TOML to what the site goes by. That is where it listens, its times, a plan for each hall, and the
 //! directory of its customers: their names, homes, rates of lines, and the keys by which they are known.
 //!
-//! [`read_config`] reads the text to a [`Config`]. Customers have numbers, which books go by; [`read_config_again`] reads a file while a
-//! site goes by another, and who was there keeps its number and its home.
+//! [`read_config`] reads the text to a [`SiteConfig`]. Customers have numbers, which books go by; [`read_config_again`] reads a file
+//! while a site goes by another, and who was there keeps its number and its home.
 //!
 //! A customer is known by a token (by its SHA-256 digest), by the name in its certificate, or by a network; who isn't named is a
 //! guest, by its address (of IPv6 by the first 64 bits). Who a connection is, is `who_of` of `specs/Keys.antt`. A [`Meter`] says whether a
@@ -57,7 +57,7 @@ mod section;
 
 pub use address::{Address, Network};
 pub use checks::{DirectoryFault, FaultyDirectory};
-pub use config::{Config, Entrances, FULL_HALL, Limits, Workers};
+pub use config::{Entrances, FULL_HALL, Limits, SiteConfig, Workers};
 pub use directory::{Directory, Terms};
 pub use faults::FileFault;
 pub use files::{amount_text, read_config, read_config_again};

@@ -13,7 +13,7 @@ use std::net::SocketAddr;
 
 /// All that a file says, before anything of it is compared.
 #[derive(Drop)]
-pub(crate) struct Told {
+pub(crate) struct FileContents {
     pub(crate) entrances: Entrances,
     pub(crate) control: Option<String>,
     pub(crate) workers: Workers,
@@ -85,7 +85,7 @@ struct Customers {
 }
 
 /// What a file says whose text is this table.
-pub(crate) fn told_in(file: &Section<'_>) -> Result<Told, FileFault> {
+pub(crate) fn told_in(file: &Section<'_>) -> Result<FileContents, FileFault> {
     file.end(&FILE)?;
     let entrances = entrances_in(file)?;
     let control = control_in(file)?;
@@ -104,7 +104,7 @@ pub(crate) fn told_in(file: &Section<'_>) -> Result<Told, FileFault> {
         terms,
         keys,
     } = customers;
-    Ok(Told {
+    Ok(FileContents {
         entrances,
         control,
         workers,

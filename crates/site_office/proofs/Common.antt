@@ -30,7 +30,7 @@ pub use Rattle.site_office.specs.Offices.{asks_of_seat}
 pub use Rattle.site_office.specs.Refusing.{raise_refusals}
 pub use Rattle.site_office.specs.Tokens.{last_word, token_after, token_by, token_of, word_after, word_after_two}
 pub use Rattle.site_office.specs.Turns.{IsGreeted, IsRaised, IsRefused, IsWelcomed, SiteTurned}
-pub use Rattle.site_office.specs.declared.clerk.Clerk.{Clerk}
+pub use Rattle.site_office.specs.declared.clerk.SiteClerk.{SiteClerk}
 pub use Rattle.site_office.specs.declared.reception.Greeted.{Greeted}
 pub use Rattle.site_office.specs.declared.reception.Greeted.TheVariants.{Crowded, Known, Unknown}
 pub use Rattle.site_office.specs.declared.reception.Info.{Info}

@@ -4,7 +4,7 @@ use Rattle.site_desk.specs.declared.turned.Turned.{Turned}
 use Rattle.site_desk.specs.declared.turned.Turned.TheVariants.{ByBook, OldTenant, OutOfMemory}
 use Rattle.sched_rules.specs.declared.refusal.Refusal.{Refusal}
 use Rattle.sched_rules.specs.declared.refusal.Refusal.TheVariants.{Full, NoTenant, Lower, OldTenant as no_number, OutOfMemory as no_memory}
-use Rattle.site_book.specs.declared.refusal.Refusal.TheVariants.{OverBudget, OverNetwork, OverGuests, Gone, Lower as lower, Unfit, Beyond}
+use Rattle.site_book.specs.declared.refusal.BookRefusal.TheVariants.{OverBudget, OverNetwork, OverGuests, Gone, Lower as lower, Unfit, Beyond}
 
 -- how HELLO is refused: 14 where a budget has no room
 abbrev pub comer_refusal : Turned → Refusal

@@ -8,28 +8,28 @@ ghost use Rattle.site_office.specs.Turns.{SiteTurned};
 
 use crate::reception::Reception;
 use crate::turns::take_site_turn;
-use line_io::{Answer, Ends, LF, Line, LineFault, Sink, Source, TalkEnd, talk_lines};
+use line_io::{Ends, LF, Line, LineAnswerer, LineFault, Sink, Source, TalkEnd, talk_lines};
 use session::{Office, SessionText, leave_if_seated};
 use std::sync::Wait;
 
 /// Answers the lines of one session, and knows whether its tenant is there. Its text is the last answer, over which the next one is
 /// written.
-pub struct Clerk<'a, O: Office + Reception> {
+pub struct SiteClerk<'a, O: Office + Reception> {
     office: &'a mut O,
     seated: bool,
     text: SessionText,
     ghost ready: { O.ready ≡ true },
 }
 
-impl<'a, O: Office + Reception> Clerk<'a, O> {
+impl<'a, O: Office + Reception> SiteClerk<'a, O> {
     /// A clerk that has no tenant and hasn't answered yet.
-    fn new(office: &'a mut O) -> Clerk<'a, O>
+    fn new(office: &'a mut O) -> SiteClerk<'a, O>
         requires { O.ready ≡ true }
         ensures same_office { result.office.ghost_name ≡ office.entry.ghost_name }
         ensures office { result.office.now ≡ office.old }
         ensures seated { result.seated ≡ false }
     {
-        Clerk {
+        SiteClerk {
             office,
             seated: false,
             text: SessionText::new(),
@@ -37,7 +37,7 @@ impl<'a, O: Office + Reception> Clerk<'a, O> {
     }
 }
 
-impl<O: Office + Reception> Answer for Clerk<'_, O> {
+impl<O: Office + Reception> LineAnswerer for SiteClerk<'_, O> {
     ghost answers = { λ s line text t. (t.office.ghost_name ≡ s.office.ghost_name)
         × SiteTurned O.does O.greets O.pays O.informs (site_request s.seated line) s.office.now s.seated text t.office.now t.seated };
 
@@ -55,7 +55,7 @@ impl<O: Office + Reception> Answer for Clerk<'_, O> {
     }
 }
 
-impl<O: Office + Reception> Ends for Clerk<'_, O> {
+impl<O: Office + Reception> Ends for SiteClerk<'_, O> {
     ghost ends = { is_bye };
 
     /// Whether a line ends the session: it is just BYE.
@@ -76,13 +76,13 @@ pub fn serve_site<'a, S: Source, K: Sink, O: Office + Reception, R: Wait>(
     office: &'a mut O,
 ) -> Result<TalkEnd, LineFault>
     requires { O.ready ≡ true }
-    ensures { (from to : Clerk O _ _) × (from.office.now ≡ office.old) × (from.seated ≡ false)
-        × Talk S.gives K.takes ⟦<Clerk<'a, O> as Answer>⟧.answers is_bye source.old sink.old from source.new sink.new to result
+    ensures { (from to : SiteClerk O _ _) × (from.office.now ≡ office.old) × (from.seated ≡ false)
+        × Talk S.gives K.takes ⟦<SiteClerk<'a, O> as LineAnswerer>⟧.answers is_bye source.old sink.old from source.new sink.new to result
         × LeavesIf O.does to.seated to.office.now office.new }
 {
-    let mut clerk = Clerk::new(office);
+    let mut clerk = SiteClerk::new(office);
     let talk = talk_lines(rt, source, sink, &mut clerk);
-    let Clerk {
+    let SiteClerk {
         office,
         seated,
         text: _text,

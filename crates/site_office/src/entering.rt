@@ -4,7 +4,7 @@ ghost use Rattle.site_office.specs.Refusing.{comer_refusal, raise_refusal};
 
 use crate::house::Cause;
 use hall::Refusal;
-use site_book::Refusal as BookRefusal;
+use site_book::BookRefusal;
 use site_desk::Turned;
 
 /// How HELLO is refused.

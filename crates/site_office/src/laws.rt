@@ -9,11 +9,11 @@ ghost use Rattle.session.specs.Sessions.{LeavesIf};
 ghost use Rattle.session.specs.Turns.{seated_after};
 ghost use Rattle.site_office.specs.declared.reception.Greeted.{Greeted};
 ghost use Rattle.site_office.specs.declared.reception.Info.{Info};
-ghost use Rattle.site_office.specs.declared.clerk.Clerk.{Clerk};
+ghost use Rattle.site_office.specs.declared.clerk.SiteClerk.{SiteClerk};
 
-use crate::clerk::Clerk;
+use crate::clerk::SiteClerk;
 use crate::reception::Reception;
-use line_io::{Answer, Sink, Source};
+use line_io::{LineAnswerer, Sink, Source};
 use session::Office;
 
 /// A law: nobody stays. Let it be told of an office whether it has a tenant, where each call's reply says so as a session does (from a
@@ -25,9 +25,9 @@ pub fn nobody_stays<'a, S: Source, K: Sink, O: Office + Reception>()
         → ((from : O) (token : Option (List ℕ)) (greeted : Greeted) (to : O) → O.greets from token greeted to → here to ≡ here from)
         → ((from : O) (paid : Bool) (to : O) → O.pays from paid to → here to ≡ here from)
         → ((from : O) (info : Info) (to : O) → O.informs from info to → here to ≡ here from)
-        → (from to : Clerk O _ _) (source source' : S) (sink sink' : K) (office : O) (r : Result TalkEnd LineFault)
+        → (from to : SiteClerk O _ _) (source source' : S) (sink sink' : K) (office : O) (r : Result TalkEnd LineFault)
         → here from.office.now ≡ false → from.seated ≡ false
-        → Talk S.gives K.takes ⟦<Clerk<'a, O> as Answer>⟧.answers is_bye source sink from source' sink' to r
+        → Talk S.gives K.takes ⟦<SiteClerk<'a, O> as LineAnswerer>⟧.answers is_bye source sink from source' sink' to r
         → LeavesIf O.does to.seated to.office.now office
         → here office ≡ false }
 {}

@@ -5,15 +5,15 @@
 //! reservation are paid for by a rate. [`take_site_turn`] answers one line: who says HELLO, the rate and INFO are asked of a [`Reception`],
 //! all else of the session's office, by the session's own code. So a line is read once, by one grammar.
 //!
-//! A [`SiteOffice`] is what a [`Clerk`] asks for a connection (`session::Office` and [`Reception`]). It has the desk by reference, the
+//! A [`SiteOffice`] is what a [`SiteClerk`] asks for a connection (`session::Office` and [`Reception`]). It has the desk by reference, the
 //! seat of its session once HELLO was welcomed, whose the next session is to be, and a [`House`]: the clock, the keys, the rates, and who
 //! can shut another's connection. Whoever is told that there is room once others have left waits for one of them, 2 seconds at most.
 //!
 //! What stands for what: a [`Reception`] is a state with relations of its own, as an `Office` is; what comes of a line is `SiteTurned` of
-//! `specs/Turns.antt`. A [`Clerk`] is an office with its reception, whether its tenant is there, and the last answer. A [`SiteOffice`] is the
-//! list of what its tenant asked for (`asks_of` of `specs/Offices.antt`), as at any desk: each call keeps that list (`KeepsAsks`), so a job
-//! is shown as done only with the minimax value, the best choice and a table of what stands under its number. Its invariant is that the
-//! seat is that of the customer who was greeted.
+//! `specs/Turns.antt`. A [`SiteClerk`] is an office with its reception, whether its tenant is there, and the last answer. A [`SiteOffice`]
+//! is the list of what its tenant asked for (`asks_of` of `specs/Offices.antt`), as at any desk: each call keeps that list (`KeepsAsks`),
+//! so a job is shown as done only with the minimax value, the best choice and a table of what stands under its number. Its invariant is
+//! that the seat is that of the customer who was greeted.
 //!
 //! [`serve_connection`] serves a session of bytes in and bytes out. Nothing in it knows a socket, so rows and tests play whole sessions
 //! with a clock that they give.
@@ -53,7 +53,7 @@ mod serving;
 mod tokens;
 mod turns;
 
-pub use clerk::{Clerk, serve_site};
+pub use clerk::{SiteClerk, serve_site};
 pub use house::{Cause, House, Met, Note};
 pub use laws::nobody_stays;
 pub use office::SiteOffice;

@@ -12,8 +12,8 @@ use crate::reception::{Greeted, Info, Reception};
 use desk_office::told_answer;
 use hall::Refusal;
 use session::{Live, Office, Question, Standing};
-use site_book::{Amount, Comer, Mark, Refusal as BookRefusal, Who, Whom};
-use site_desk::{Entry, Seat, SiteDesk, Turned};
+use site_book::{Amount, BookRefusal, Comer, SessionMark, Who, Whom};
+use site_desk::{SeatOutcome, SiteDesk, SiteSeat, Turned};
 use std::alloc::{Allocator, Global};
 use std::sync::Wait;
 use std::time::{Clock, Duration};
@@ -42,7 +42,7 @@ pub struct SiteOffice<'a, H: House, R: Wait + Clock, A: Allocator = Global> {
     /// Whose the connection is.
     own: Who,
     /// The session's seat; `None` where no tenant is there.
-    seat: Option<Seat>,
+    seat: Option<SiteSeat>,
     /// When it was last noted that the session said something.
     noted: u64,
     /// The depth of the leaves that workers compute.
@@ -97,7 +97,7 @@ impl<'a, H: House, R: Wait + Clock, A: Allocator + Clone> SiteOffice<'a, H, R, A
     }
 
     /// A seat for a session of the customer, for which it waits while others are to leave.
-    fn come(&mut self, reserve: Reserve) -> Result<Seat, Refusal>
+    fn come(&mut self, reserve: Reserve) -> Result<SiteSeat, Refusal>
         ensures seat { IfOk result (λ seat. (seat.who ≡ self.old.who) × (seat.asked ≡ [])) }
         ensures refused { IfErr result (Contains comer_refusals) }
         ensures same_seat { self.new.seat ≡ self.old.seat }
@@ -113,9 +113,9 @@ impl<'a, H: House, R: Wait + Clock, A: Allocator + Clone> SiteOffice<'a, H, R, A
                 most: self.house.guest_idle(),
             };
             match self.desk.come(self.rt, &comer) {
-                Entry::Seated(seat) => return Ok(seat),
-                Entry::Turned(turned) => return Err(self.turned_away(turned)),
-                Entry::Later {
+                SeatOutcome::Seated(seat) => return Ok(seat),
+                SeatOutcome::Turned(turned) => return Err(self.turned_away(turned)),
+                SeatOutcome::Later {
                     refusal,
                     ending,
                     left,
@@ -175,7 +175,8 @@ impl<'a, H: House, R: Wait + Clock, A: Allocator + Clone> SiteOffice<'a, H, R, A
         let now = self.house.now();
         if now.saturating_sub(self.noted) >= BETWEEN_NOTES {
             self.noted = now;
-            self.desk.mark(self.rt, Whom::One(number), Mark::Spoke(now));
+            self.desk
+                .mark(self.rt, Whom::One(number), SessionMark::Spoke(now));
         }
     }
 
@@ -239,8 +240,11 @@ impl<'a, H: House, R: Wait + Clock, A: Allocator + Clone> SiteOffice<'a, H, R, A
         }
         self.noted = self.house.now();
         if let Some(number) = self.number() {
-            self.desk
-                .mark(self.rt, Whom::One(number), Mark::Waits(false, self.noted));
+            self.desk.mark(
+                self.rt,
+                Whom::One(number),
+                SessionMark::Waits(false, self.noted),
+            );
         }
     }
 

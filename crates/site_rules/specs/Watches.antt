@@ -1,11 +1,11 @@
 -- Meaning: when the client of a session that waits for a job is gone.
 use Rattle.std.specs.Prelude.{ℕ, ◌-◌, nat_le, Bool, true, false, Option, Some, None}
-use Rattle.site_rules.specs.declared.watches.Seen.{Seen}
-use Rattle.site_rules.specs.declared.watches.Seen.TheVariants.{Silent, Ended, Lost}
+use Rattle.site_rules.specs.declared.watches.ClientState.{ClientState}
+use Rattle.site_rules.specs.declared.watches.ClientState.TheVariants.{Silent, Ended, Lost}
 use Rattle.site_rules.specs.declared.watches.Watch.{Watch}
 
 -- since when its input has ended, after a look: from the first look on that saw it
-abbrev pub ended_since : Option ℕ → Seen → ℕ → Option ℕ
+abbrev pub ended_since : Option ℕ → ClientState → ℕ → Option ℕ
 ended_since before Silent now = None
 ended_since (Some since) Ended now = Some since
 ended_since (Some since) Lost now = Some since
@@ -13,7 +13,7 @@ ended_since None Ended now = Some now
 ended_since None Lost now = Some now
 
 -- the same of a watch
-abbrev pub watch_after : Watch → Seen → ℕ → Watch
+abbrev pub watch_after : Watch → ClientState → ℕ → Watch
 watch_after watch seen now = record { since = ended_since watch.since seen now }
 
 -- whether so much time has passed since then
@@ -22,7 +22,7 @@ has_passed None now hangup = false
 has_passed (Some since) now hangup = nat_le hangup (now - since)
 
 -- whether the client is gone: at once where the connection is lost, and where its input has ended after this time
-abbrev pub is_gone : Watch → Seen → ℕ → ℕ → Bool
+abbrev pub is_gone : Watch → ClientState → ℕ → ℕ → Bool
 is_gone watch Silent now hangup = false
 is_gone watch Lost now hangup = true
 is_gone watch Ended now hangup = has_passed watch.since now hangup

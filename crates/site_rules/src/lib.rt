@@ -36,4 +36,4 @@ pub use faults::HeaderFault;
 pub use fields::field_of;
 pub use headers::{Header, Origin, read_header};
 pub use paces::{Pace, Times};
-pub use watches::{Seen, Watch};
+pub use watches::{ClientState, Watch};

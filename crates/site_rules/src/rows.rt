@@ -4,7 +4,7 @@ ghost use Rattle.site_rules.specs.Arrivals.{arrival};
 ghost use Rattle.site_rules.specs.Paces.{time_left};
 ghost use Rattle.site_rules.specs.Watches.{watch_after, is_gone};
 ghost use Rattle.site_rules.specs.declared.arrivals.Arrival.TheVariants.{Counted, Heard, Closed};
-ghost use Rattle.site_rules.specs.declared.watches.Seen.TheVariants.{Silent, Ended, Lost};
+ghost use Rattle.site_rules.specs.declared.watches.ClientState.TheVariants.{Silent, Ended, Lost};
 ghost use Rattle.site_rules.specs.Fields.{field_of};
 ghost use Rattle.site_rules.specs.Headers.{signature, local_header, reading};
 ghost use Rattle.site_rules.specs.Texts.{Told, Unknown, text_reading, IsReading};

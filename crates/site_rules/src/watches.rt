@@ -4,7 +4,7 @@ ghost use Rattle.site_rules.specs.Watches.{watch_after, is_gone};
 
 /// What is seen of a connection that isn't read.
 #[derive(Clone, Copy, Debug, PartialEq, Eq)]
-pub enum Seen {
+pub enum ClientState {
     /// Nothing, or bytes that wait to be read.
     Silent,
     /// The client has ended its input.
@@ -25,11 +25,11 @@ impl Watch {
     pub const NOTHING: Watch = Watch { since: None };
 
     /// After a look.
-    pub fn after(self, seen: Seen, now: u64) -> Watch
+    pub fn after(self, seen: ClientState, now: u64) -> Watch
         ensures { result ≡ watch_after self seen now }
     {
         match (seen, self.since) {
-            (Seen::Silent, _) => Watch { since: None },
+            (ClientState::Silent, _) => Watch { since: None },
             (_, Some(since)) => Watch { since: Some(since) },
             (_, None) => Watch { since: Some(now) },
         }
@@ -37,13 +37,13 @@ impl Watch {
 
     /// Whether the client is gone, by what was seen last: at once where the connection is lost, and where its input has ended after
     /// `hangup`.
-    pub fn is_gone(self, seen: Seen, now: u64, hangup: u64) -> bool
+    pub fn is_gone(self, seen: ClientState, now: u64, hangup: u64) -> bool
         ensures { result ≡ is_gone self seen now hangup }
     {
         match seen {
-            Seen::Silent => false,
-            Seen::Lost => true,
-            Seen::Ended => match self.since {
+            ClientState::Silent => false,
+            ClientState::Lost => true,
+            ClientState::Ended => match self.since {
                 Some(since) => hangup <= now.saturating_sub(since),
                 None => false,
             },

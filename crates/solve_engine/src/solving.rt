@@ -9,7 +9,7 @@ use crate::leaf_search::search_full;
 use crate::requests::read_line;
 use crate::solve_by_core;
 use line_io::{
-    Answer, FromReader, FromWriter, LF, Line, LineFault, Sink, Source, answer_lines,
+    FromReader, FromWriter, LF, Line, LineAnswerer, LineFault, Sink, Source, answer_lines,
     known_runs_are_exact,
 };
 use sched_rules::Refusal;
@@ -56,7 +56,7 @@ struct Solver<A> {
     ghost fine: { grain ≤ 6 },
 }
 
-impl<A: Allocator + Copy> Answer for Solver<A> {
+impl<A: Allocator + Copy> LineAnswerer for Solver<A> {
     ghost answers = { λ _ line text _. IsSolvedLine line text };
 
     ghost kept = { λ solver. solver.text.items };
@@ -78,7 +78,7 @@ struct VisitedSolver {
     text: SolveText,
 }
 
-impl Answer for VisitedSolver {
+impl LineAnswerer for VisitedSolver {
     ghost answers = { λ _ line text _. IsVisitedLine line text };
 
     ghost kept = { λ solver. solver.text.items };

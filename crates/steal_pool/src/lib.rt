@@ -52,5 +52,5 @@ pub use pool::{
     run_pool_sized,
 };
 pub use task_deques::pool_rules::Task;
-pub use tasks::{Shared, Tasks};
+pub use tasks::{SharedComputations, Tasks};
 pub use worker::run_worker;

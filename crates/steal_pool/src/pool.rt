@@ -6,8 +6,8 @@ ghost use Rattle.steal_pool.specs.Faults.{pool_fault_number};
 
 use crate::announce::{Announce, Quiet};
 use crate::gate::Gate;
-use crate::tasks::Shared;
-use crate::threads::{Site, Stock, Worked, run_all};
+use crate::tasks::SharedComputations;
+use crate::threads::{DeskCrew, Stock, Worked, run_all};
 use desk::{Badge, Desk, DeskLedger};
 use sched_rules::Worker;
 use std::alloc::Global;
@@ -225,7 +225,7 @@ pub fn run_pool_sized<
         let fault = BeginFault::Pool(PoolFault::OutOfMemory);
         return (call, Err(NotRun { fault, ended: 0 }));
     };
-    let tasks = Shared::new();
+    let tasks = SharedComputations::new();
     let shared = &tasks;
     let (call, worked) = thread::scope(
         thread::scope_env(),
@@ -233,7 +233,7 @@ pub fn run_pool_sized<
         move |scope|
             requires { L.all ≡ L.parts }
         {
-            let site = Site {
+            let crew = DeskCrew {
                 scope,
                 rt,
                 desk,
@@ -241,7 +241,7 @@ pub fn run_pool_sized<
                 gate,
                 stack,
             };
-            run_all(&site, stock, call)
+            run_all(&crew, stock, call)
         },
     );
     match worked {

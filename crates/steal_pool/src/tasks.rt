@@ -11,14 +11,14 @@ use task_deques::pool_rules::{Computations, Task};
 /// What the workers of a pool share beside their deques: the count of computations, under a lock of
 /// its own.
 #[derive(Drop)]
-pub struct Shared {
+pub struct SharedComputations {
     computations: Mutex<Computations>,
 }
 
-impl Shared {
+impl SharedComputations {
     /// What a new pool's workers share: no computation was begun yet.
-    pub fn new() -> Shared {
-        Shared {
+    pub fn new() -> SharedComputations {
+        SharedComputations {
             computations: Mutex::new(Computations::new()),
         }
     }
@@ -37,7 +37,7 @@ impl Shared {
 pub struct Tasks<'s> {
     /// The worker's ends of the deques.
     pub ends: DequeEnds,
-    shared: &'s Shared,
+    shared: &'s SharedComputations,
 }
 
 impl Tasks<'_> {

@@ -11,7 +11,7 @@ ghost use Rattle.steal_pool.specs.Announced.{IsUnsaid};
 use crate::announce::Announce;
 use crate::gate::Gate;
 use crate::pool::{BeginFault, NotRun, PoolFault, PoolSizes};
-use crate::tasks::{Shared, Tasks};
+use crate::tasks::{SharedComputations, Tasks};
 use crate::worker::run_worker;
 use core::thread::Stack;
 use desk::{Badge, Desk, DeskLedger};
@@ -72,11 +72,11 @@ impl<L: DeskLedger> Stock<L> {
 
 /// What all threads of a pool are started with.
 #[derive(Drop)]
-pub(crate) struct Site<'s, E, L: DeskLedger, G, R> {
+pub(crate) struct DeskCrew<'s, E, L: DeskLedger, G, R> {
     pub(crate) scope: &'s Scope<'s, E>,
     pub(crate) rt: &'s R,
     pub(crate) desk: &'s Desk<L>,
-    pub(crate) shared: &'s Shared,
+    pub(crate) shared: &'s SharedComputations,
     pub(crate) gate: &'s G,
     /// `Some((from, size))`: the workers from number `from` on have stacks of `size` bytes. All others, and all at
     /// `None`, have the usual size.
@@ -101,15 +101,15 @@ pub(crate) fn run_all<
     G: Gate + Sync,
     R: Threads + Wait + Sync,
     A: Announce,
->(site: &Site<'s, E, L, G, R>, stock: Stock<L>, call: A) -> (A, Result<Worked<L>, NotRun>)
+>(crew: &DeskCrew<'s, E, L, G, R>, stock: Stock<L>, call: A) -> (A, Result<Worked<L>, NotRun>)
     requires { L.all ≡ L.parts }
     ensures all { IfOk result.1 (λ worked. length (returned worked.back) ≡ vec_len stock.dealt) }
     ensures said { IfOk result.1 (λ _. A.says call true result.0) }
     ensures unsaid { IfErr result.1 (λ not_run. IsUnsaid A.says call not_run.fault result.0) }
 {
     let mut call = call;
-    let Some(own) = site.desk.badge(site.rt) else {
-        site.desk.close(site.rt);
+    let Some(own) = crew.desk.badge(crew.rt) else {
+        crew.desk.close(crew.rt);
         let fault = BeginFault::Pool(PoolFault::NoThread);
         return (call, Err(NotRun { fault, ended: 0 }));
     };
@@ -120,12 +120,12 @@ pub(crate) fn run_all<
     } = stock;
     let mut back = back;
     let mut handles = handles;
-    let started = start_all(site, dealt, &mut handles);
+    let started = start_all(crew, dealt, &mut handles);
     let begun = announced(started, &mut call);
     if begun.is_err() {
-        site.desk.close(site.rt);
+        crew.desk.close(crew.rt);
     }
-    let badge = join_all(site.rt, own, handles, &mut back);
+    let badge = join_all(crew.rt, own, handles, &mut back);
     let ended = back.count();
     match begun {
         Ok(()) => (call, Ok(Worked { badge, back })),
@@ -153,7 +153,7 @@ fn announced<A: Announce>(started: Result<(), PoolFault>, call: &mut A) -> Resul
 /// Starts a worker with each of these deque ends, numbered from 1 on. `NoThread` at the first that can't be started;
 /// those before it run then, and their handles are in `handles`.
 fn start_all<'s, E, L: DeskLedger + Send + Sync, G: Gate + Sync, R: Wait + Sync>(
-    site: &Site<'s, E, L, G, R>,
+    crew: &DeskCrew<'s, E, L, G, R>,
     dealt: Vec<DequeEnds>,
     handles: &mut Vec<Handle<L>>,
 ) -> Result<(), PoolFault>
@@ -169,7 +169,7 @@ fn start_all<'s, E, L: DeskLedger + Send + Sync, G: Gate + Sync, R: Wait + Sync>
         let Some(worker) = Worker::new(number) else {
             return Err(PoolFault::NoThread);
         };
-        let handle = start(site, worker, ends)?;
+        let handle = start(crew, worker, ends)?;
         handles.push_reserved(handle);
     }
     Ok(())
@@ -178,20 +178,20 @@ fn start_all<'s, E, L: DeskLedger + Send + Sync, G: Gate + Sync, R: Wait + Sync>
 /// Starts a worker with a new badge in a thread of its own. `NoThread` where no badge or no thread can be had; the
 /// deque ends are dropped then.
 fn start<'s, E, L: DeskLedger + Send + Sync, G: Gate + Sync, R: Wait + Sync>(
-    site: &Site<'s, E, L, G, R>,
+    crew: &DeskCrew<'s, E, L, G, R>,
     worker: Worker,
     ends: DequeEnds,
 ) -> Result<Handle<L>, PoolFault>
     ensures { IfOk result (λ handle. posts handle.promise.0.value ≡ posts ends) }
 {
-    let Site {
+    let DeskCrew {
         scope,
         rt,
         desk,
         shared,
         gate,
         stack,
-    } = *site;
+    } = *crew;
     let Some(badge) = desk.badge(rt) else {
         return Err(PoolFault::NoThread);
     };
@@ -216,7 +216,7 @@ fn work<L: DeskLedger, G: Gate, R: Wait>(
     desk: &Desk<L>,
     worker: Worker,
     badge: Badge<L>,
-    shared: &Shared,
+    shared: &SharedComputations,
     ends: DequeEnds,
     gate: &G,
 ) -> (Badge<L>, DequeEnds)

@@ -2,7 +2,7 @@ ghost use Rattle.std.specs.Prelude.{◌≡◌, ℕ, ◌+◌, ◌<◌, ◌≤◌,
 ghost use Rattle.tenant_quota.specs.Accounts.{account_of};
 
 use crate::account::{Account, Left};
-use crate::refusal::Refusal;
+use crate::refusal::QuotaRefusal;
 use crate::reserve::Reserve;
 use number_index::NumberedList;
 use std::alloc::{AllocError, Allocator, Global};
@@ -77,10 +77,10 @@ impl<A: Allocator> Book<A> {
     /// Enters a new tenant with what it reserves.
     ///
     /// Refused as `Full` exactly where 64 tenants are there or a total doesn't allow the reservation.
-    pub fn reserve(&mut self, tenant: u64, reserve: Reserve) -> Result<(), Refusal>
+    pub fn reserve(&mut self, tenant: u64, reserve: Reserve) -> Result<(), QuotaRefusal>
         requires { account_of tenant self.old.accounts ≡ None }
         ensures ok { IsOk result ↔ HasRoom self.old reserve }
-        ensures full { (result ≡ Err Refusal.Full) ↔ IsFull self.old reserve }
+        ensures full { (result ≡ Err QuotaRefusal.Full) ↔ IsFull self.old reserve }
         ensures admits { OnOk result (Admits self.old self.new tenant reserve) }
         ensures others { KeepsOtherAccounts self.old self.new tenant }
         ensures err { OnErr result (self.new ≡ self.old) }
@@ -90,7 +90,7 @@ impl<A: Allocator> Book<A> {
         let segments = reserve.segments();
         let nodes = reserve.nodes();
         if rest.tenants == 0 || rest.segments < segments || rest.nodes < nodes {
-            return Err(Refusal::Full);
+            return Err(QuotaRefusal::Full);
         }
         self.accounts.insert((tenant, Account::new(reserve)));
         self.reserved_segments += segments;
@@ -103,11 +103,11 @@ impl<A: Allocator> Book<A> {
     /// Refused as `Lower` exactly where an amount is below what is reserved, or neither is above it; else as `Full`
     /// exactly where a total doesn't allow it in the place of what is reserved. How many tenants are there doesn't
     /// matter.
-    pub fn raise(&mut self, tenant: u64, reserve: Reserve) -> Result<(), Refusal>
+    pub fn raise(&mut self, tenant: u64, reserve: Reserve) -> Result<(), QuotaRefusal>
         requires { IsSome (account_of tenant self.old.accounts) }
         ensures ok { IsOk result ↔ CanRaise self.old tenant reserve }
-        ensures lower { (result ≡ Err Refusal.Lower) ↔ IsLower self.old tenant reserve }
-        ensures full { (result ≡ Err Refusal.Full) ↔ IsTooMuch self.old tenant reserve }
+        ensures lower { (result ≡ Err QuotaRefusal.Lower) ↔ IsLower self.old tenant reserve }
+        ensures full { (result ≡ Err QuotaRefusal.Full) ↔ IsTooMuch self.old tenant reserve }
         ensures raises { OnOk result (
             IfSome (reserve_of tenant self.old) (Raises self.old self.new tenant reserve)) }
         ensures others { KeepsOtherAccounts self.old self.new tenant }
@@ -118,12 +118,12 @@ impl<A: Allocator> Book<A> {
         let account = &mut self.accounts.get_mut(tenant).1;
         let now = account.reserve;
         if !reserve.is_above(&now) {
-            return Err(Refusal::Lower);
+            return Err(QuotaRefusal::Lower);
         }
         let segments = reserve.segments() - now.segments();
         let nodes = reserve.nodes() - now.nodes();
         if rest.segments < segments || rest.nodes < nodes {
-            return Err(Refusal::Full);
+            return Err(QuotaRefusal::Full);
         }
         account.reserve = reserve;
         self.reserved_segments += segments;
@@ -134,10 +134,10 @@ impl<A: Allocator> Book<A> {
     /// Charges the tenant `segments` segments, and counts `nodes` newly opened nodes.
     ///
     /// Refused as `Short` exactly where the tenant hasn't as many segments or nodes left.
-    pub fn charge(&mut self, tenant: u64, segments: u32, nodes: u32) -> Result<(), Refusal>
+    pub fn charge(&mut self, tenant: u64, segments: u32, nodes: u32) -> Result<(), QuotaRefusal>
         requires { IsSome (account_of tenant self.old.accounts) }
         ensures ok { IsOk result ↔ HasLeft self.old tenant segments nodes }
-        ensures short { (result ≡ Err Refusal.Short) ↔ IsShort self.old tenant segments nodes }
+        ensures short { (result ≡ Err QuotaRefusal.Short) ↔ IsShort self.old tenant segments nodes }
         ensures charges { OnOk result (ChangesOnly self.old self.new tenant (charged_by segments nodes)) }
         ensures sum { OnOk result (
             charged_segments self.new.accounts ≡ charged_segments self.old.accounts + segments) }
@@ -153,10 +153,10 @@ impl<A: Allocator> Book<A> {
     /// before.
     ///
     /// Refused as `Short` exactly where the tenant hasn't as many segments left, or no node.
-    pub fn open(&mut self, tenant: u64, segments: u32) -> Result<u32, Refusal>
+    pub fn open(&mut self, tenant: u64, segments: u32) -> Result<u32, QuotaRefusal>
         requires { IsSome (account_of tenant self.old.accounts) }
         ensures ok { IsOk result ↔ HasLeft self.old tenant segments 1 }
-        ensures short { (result ≡ Err Refusal.Short) ↔ IsShort self.old tenant segments 1 }
+        ensures short { (result ≡ Err QuotaRefusal.Short) ↔ IsShort self.old tenant segments 1 }
         ensures opened { IfOk result (λ before. opened_of tenant self.old ≡ Some before) }
         ensures charges { OnOk result (ChangesOnly self.old self.new tenant (charged_by segments 1)) }
         ensures sum { OnOk result (
@@ -182,10 +182,10 @@ impl<A: Allocator> Book<A> {
     /// Counts one step of the tenant.
     ///
     /// Refused as `Short` exactly where the tenant has no step left.
-    pub fn tick(&mut self, tenant: u64) -> Result<(), Refusal>
+    pub fn tick(&mut self, tenant: u64) -> Result<(), QuotaRefusal>
         requires { IsSome (account_of tenant self.old.accounts) }
         ensures ok { IsOk result ↔ HasStepLeft self.old tenant }
-        ensures short { (result ≡ Err Refusal.Short) ↔ IsOutOfSteps self.old tenant }
+        ensures short { (result ≡ Err QuotaRefusal.Short) ↔ IsOutOfSteps self.old tenant }
         ensures ticks { OnOk result (ChangesOnly self.old self.new tenant ticked) }
         ensures sum { charged_segments self.new.accounts ≡ charged_segments self.old.accounts }
         ensures others { KeepsOtherAccounts self.old self.new tenant }
@@ -194,7 +194,7 @@ impl<A: Allocator> Book<A> {
     {
         let account = &mut self.accounts.get_mut(tenant).1;
         if account.left().steps == 0 {
-            return Err(Refusal::Short);
+            return Err(QuotaRefusal::Short);
         }
         account.ticks += 1;
         Ok(())
@@ -248,10 +248,10 @@ impl<A: Allocator> Book<A> {
 
     /// Charges the tenant `segments` segments, counts `nodes` newly opened nodes, and returns how many it had opened
     /// before. Refused as `Short` exactly where the tenant hasn't as many segments or nodes left.
-    fn charge_nodes(&mut self, tenant: u64, segments: u32, nodes: u32) -> Result<u32, Refusal>
+    fn charge_nodes(&mut self, tenant: u64, segments: u32, nodes: u32) -> Result<u32, QuotaRefusal>
         requires { IsSome (account_of tenant self.old.accounts) }
         ensures ok { IsOk result ↔ HasLeft self.old tenant segments nodes }
-        ensures short { (result ≡ Err Refusal.Short) ↔ IsShort self.old tenant segments nodes }
+        ensures short { (result ≡ Err QuotaRefusal.Short) ↔ IsShort self.old tenant segments nodes }
         ensures opened { IfOk result (λ before. opened_of tenant self.old ≡ Some before) }
         ensures charges { OnOk result (ChangesOnly self.old self.new tenant (charged_by segments nodes)) }
         ensures sum { OnOk result (charged_segments self.new.accounts ≡ charged_segments self.old.accounts + segments) }
@@ -262,7 +262,7 @@ impl<A: Allocator> Book<A> {
         let account = &mut self.accounts.get_mut(tenant).1;
         let left = account.left();
         if left.segments < segments || left.nodes < nodes {
-            return Err(Refusal::Short);
+            return Err(QuotaRefusal::Short);
         }
         let before = account.opened;
         account.charged += segments;

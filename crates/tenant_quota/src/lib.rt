@@ -36,5 +36,5 @@ pub mod rows;
 
 pub use account::Left;
 pub use book::{Book, Rest};
-pub use refusal::Refusal;
+pub use refusal::QuotaRefusal;
 pub use reserve::Reserve;

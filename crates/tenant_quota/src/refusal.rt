@@ -2,7 +2,7 @@ use thiserror::Error;
 
 /// Why the book refuses a call. A refused call changes nothing.
 #[derive(Clone, Copy, Debug, PartialEq, Eq, Error)]
-pub enum Refusal {
+pub enum QuotaRefusal {
     /// All reservations together would be more segments or nodes than the book has; or, of a new tenant alone, 64
     /// tenants are there.
     #[error("the book has no room for the reservation")]
@@ -15,7 +15,7 @@ pub enum Refusal {
     Lower,
 }
 
-impl Refusal {
+impl QuotaRefusal {
     ghost use Rattle.std.specs.Prelude.{◌≡◌};
     ghost use Rattle.tenant_quota.specs.Refusals.{quota_refusal_number};
 

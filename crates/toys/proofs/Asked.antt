@@ -1,10 +1,10 @@
--- `Counted::asked` at a call. Assumes `Logic`.
+-- `CountedAlloc::asked` at a call. Assumes `Logic`.
 --     Asks, at_asked, asked-goes, asked-gives      its contract, what it is handed, and the allocator that it shows, if there is one
 use Rattle.toys.proofs.Common.{◌≡◌, refl, ap, ◌∙◌, List, [], ◌∷◌, ◌++◌, Option, Some, None, IfSome, Bor, T, lit<, Ura, Callee, a_type, named, Val, vptr, of_list, has_ty, WT, SProp, ent, sep, ex, guard, emp, id⊢, Lft, Share, Fml, ftrue, fsep, Memory, Routine, Logic, sem, ◌⊑◌, Fun, fact, fact_i, ‵, raw, ◌⊛◌, some, later, given, ◌$◌, ◌∵◌, !, qed, move, keep, use0, use1, split, join, pick, learn, fsplit, fjoin, fpick, feq_l, feq_i, check, show, await, updating, now as at_once, done, live, RattleType, hidden_shr, layout, layouts, param, ShrRef, shr_vals, only, nothing, Contract, triple_of, Al, seen}
 use Rattle.std.specs.contracts.option.Option as O
-use Rattle.toys.specs.contracts.counting.Counted as L
-use Rattle.toys.specs.contracts.counting.Counted.asked as F
-use Rattle.toys.specs.contracts.counting.Counted.asked.Key as key
+use Rattle.toys.specs.contracts.counting.CountedAlloc as L
+use Rattle.toys.specs.contracts.counting.CountedAlloc.asked as F
+use Rattle.toys.specs.contracts.counting.CountedAlloc.asked.Key as key
 
 abbrev pub shown_val : {X : Type 0} → Option (Bor X) → Val
 shown_val None = live 0 (of_list [])

@@ -6,7 +6,7 @@ use std::alloc::{AllocError, Allocator};
 use std::cell::Cell;
 
 /// An allocator that passes each call on to another one, and counts it. It can be told to refuse a growth.
-pub struct Counted<B> {
+pub struct CountedAlloc<B> {
     /// The allocator that does the calls.
     inner: B,
     /// How many calls there were, modulo 2^64.
@@ -15,7 +15,7 @@ pub struct Counted<B> {
     refused: Cell<u64>,
 }
 
-impl<B> Counted<B> {
+impl<B> CountedAlloc<B> {
     /// Counts a growth, and returns the allocator that it is passed on to; `None` where it is the one that is refused.
     fn asked(&self) -> Option<&B>
         ensures { IfSome result (λ inner. inner.now ≡ self.now.inner) }
@@ -29,10 +29,10 @@ impl<B> Counted<B> {
     }
 }
 
-impl<B: Allocator> Counted<B> {
+impl<B: Allocator> CountedAlloc<B> {
     /// Passes calls on to `inner`; none is counted yet, and none is refused.
-    pub fn new(inner: B) -> Counted<B> {
-        Counted {
+    pub fn new(inner: B) -> CountedAlloc<B> {
+        CountedAlloc {
             inner,
             calls: Cell::new(0),
             refused: Cell::new(0),
@@ -50,7 +50,7 @@ impl<B: Allocator> Counted<B> {
     }
 }
 
-impl<B: Drop> Drop for Counted<B> {
+impl<B: Drop> Drop for CountedAlloc<B> {
     fn drop(self) {
         let Self {
             inner: _,
@@ -72,7 +72,7 @@ fn is_refused(refused: &Cell<u64>) -> bool {
     number == 1
 }
 
-unsafe impl<B: Allocator> Allocator for Counted<B> {
+unsafe impl<B: Allocator> Allocator for CountedAlloc<B> {
     ghost dealloc_token = { λ heap ty ptr. B.dealloc_token heap.inner ty ptr };
 
     fn allocate(&self, size: usize, align: usize) -> Result<*mut u8, AllocError> {

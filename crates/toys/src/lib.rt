@@ -20,11 +20,11 @@
 //! ```
 //!
 //! That no memory is taken can't be said by a clause: an allocation that is given back at once leaves nothing to be seen.
-//! A [`Counted`] stands for the allocator that it was made of, passes each call on, and counts it, for tests that something
+//! A [`CountedAlloc`] stands for the allocator that it was made of, passes each call on, and counts it, for tests that something
 //! takes no memory; it refuses a growth where it is told to, for tests of what is left then.
 //!
 //! ```text
-//! let counted = Counted::new(alloc);
+//! let counted = CountedAlloc::new(alloc);
 //! let mut core = Core::new(&counted, config, procedure)?;
 //! let before = counted.calls();
 //! core.step(&step)?;
@@ -45,7 +45,7 @@ mod toy;
 mod view;
 
 pub use chain::{Chain, ChainPlay};
-pub use counting::Counted;
+pub use counting::CountedAlloc;
 pub use fan::{Fan, FanAnswer, FanPlay};
 pub use spin::{Spin, SpinPlay};
 pub use toy::{Play, Toy, ToyAnswer};

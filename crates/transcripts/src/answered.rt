@@ -1,12 +1,12 @@
 //! What a step was answered, as a text.
-use crate::tally::Done;
-use crate::values::Input;
+use crate::agreement::Done;
+use crate::values::DrawnInput;
 use crate::words::push_number;
 use frame_tree::FrameId;
 use sched_core::{DidOf, Refusal};
 
 /// Appends an answer: what the step did, as `Spawned 1.5`, or why it was refused, as `Err 10 NoSegments`.
-pub fn draw_answer<I: Input>(text: &mut String, answer: &Result<DidOf<I>, Refusal>) -> Done {
+pub fn draw_answer<I: DrawnInput>(text: &mut String, answer: &Result<DidOf<I>, Refusal>) -> Done {
     match answer {
         Ok(did) => draw_did(text, did),
         Err(refusal) => {
@@ -17,7 +17,7 @@ pub fn draw_answer<I: Input>(text: &mut String, answer: &Result<DidOf<I>, Refusa
 }
 
 /// Appends what a step did.
-fn draw_did<I: Input>(text: &mut String, did: &DidOf<I>) -> Done {
+fn draw_did<I: DrawnInput>(text: &mut String, did: &DidOf<I>) -> Done {
     match did {
         DidOf::Submitted(job, root) => {
             write!(text, "Submitted {job} ")?;

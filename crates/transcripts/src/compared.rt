@@ -1,33 +1,38 @@
 //! Lines that are due beside lines that came.
+use crate::agreement::{Agreement, Done};
 use crate::scenes::Row;
-use crate::tally::{Done, Tally};
 use std::alloc::AllocError;
 use std::str::from_utf8;
 
 /// Compares what was written line by line with the lines that are due. Lines beyond those, and bytes that no LF ends, are
 /// rows that disagree; they stand at `end`.
-pub fn compare_lines(tally: &mut Tally, end: Row<'_>, dues: &[Row<'_>], came: &[u8]) -> Done {
+pub fn compare_lines(
+    agreement: &mut Agreement,
+    end: Row<'_>,
+    dues: &[Row<'_>],
+    came: &[u8],
+) -> Done {
     match from_utf8(came) {
-        Ok(came) => compare_text(tally, end, dues, came),
-        Err(_) => tally.miss(end, "text", "bytes that are none"),
+        Ok(came) => compare_text(agreement, end, dues, came),
+        Err(_) => agreement.miss(end, "text", "bytes that are none"),
     }
 }
 
 /// The same of a text.
-pub fn compare_text(tally: &mut Tally, end: Row<'_>, dues: &[Row<'_>], came: &str) -> Done {
+pub fn compare_text(agreement: &mut Agreement, end: Row<'_>, dues: &[Row<'_>], came: &str) -> Done {
     let mut rest = came;
     for due in dues {
-        rest = compare_first(tally, *due, rest)?;
+        rest = compare_first(agreement, *due, rest)?;
     }
     if rest.is_empty() {
         return Ok(());
     }
-    tally.miss(end, "nothing more", rest)
+    agreement.miss(end, "nothing more", rest)
 }
 
 /// Compares the first line of a text with the line that is due. Returns what follows it. Where no LF ends a line, nothing came.
 fn compare_first<'c>(
-    tally: &mut Tally,
+    agreement: &mut Agreement,
     due: Row<'_>,
     came: &'c str,
 ) -> Result<&'c str, AllocError> {
@@ -35,6 +40,6 @@ fn compare_first<'c>(
         Some(parts) => parts,
         None => ("nothing", came),
     };
-    tally.compare(due, due.text, first)?;
+    agreement.compare(due, due.text, first)?;
     Ok(others)
 }

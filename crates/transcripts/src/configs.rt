@@ -6,29 +6,29 @@
 //!
 //! Rows that begin with `?` ask for what was read last: `? config` for its numbers, `? halls` for the plans, `? who TOKEN CERTIFICATE
 //! ADDRESS` (`-` where there is none) for whose a connection is.
+use crate::agreement::{Agreement, Done};
 use crate::compared::compare_text;
 use crate::file_lines::{FileLines, has_row, push_line};
+use crate::groups::RowGroup;
 use crate::scenes::{Row, Scene};
-use crate::tally::{Done, Tally};
-use crate::turns::Turn;
-use crate::words::{Words, first_word, rest_of, tell};
-use site_book::{Amount, Part, Plan, Who};
-use site_file::{Address, Config, FileFault, Limits, Terms, read_config, read_config_again};
+use crate::words::{LineWords, first_word, rest_of, tell};
+use site_book::{Amount, Group, Plan, Who};
+use site_file::{Address, FileFault, Limits, SiteConfig, Terms, read_config, read_config_again};
 use std::alloc::Global;
 use std::fmt::Write;
 use std::net::{IpAddr, SocketAddr};
 
-/// Plays a scene of a file: turn by turn.
-pub(crate) fn play_config(alloc: Global, scene: &Scene<'_>, tally: &mut Tally) -> Done {
+/// Plays a scene of a file: group by group.
+pub(crate) fn play_config(alloc: Global, scene: &Scene<'_>, agreement: &mut Agreement) -> Done {
     let mut file = ConfigFile::new(alloc);
-    let mut turn = Turn::new(alloc, scene.head);
+    let mut group = RowGroup::new(alloc, scene.head);
     for row in scene.rows.iter() {
-        if turn.is_over(*row) {
-            file.play(&mut turn, tally)?;
+        if group.is_over(*row) {
+            file.play(&mut group, agreement)?;
         }
-        turn.take(*row)?;
+        group.take(*row)?;
     }
-    file.play(&mut turn, tally)
+    file.play(&mut group, agreement)
 }
 
 /// A file, and what was read last.
@@ -36,7 +36,7 @@ pub(crate) fn play_config(alloc: Global, scene: &Scene<'_>, tally: &mut Tally) -
 struct ConfigFile {
     alloc: Global,
     lines: FileLines,
-    config: Option<Config>,
+    config: Option<SiteConfig>,
 }
 
 impl ConfigFile {
@@ -62,7 +62,7 @@ impl ConfigFile {
     }
 
     /// Reads a file's text: as one that is read again, or else anew.
-    fn read_text(&self, text: &str, is_again: bool) -> Result<Config, FileFault> {
+    fn read_text(&self, text: &str, is_again: bool) -> Result<SiteConfig, FileFault> {
         match &self.config {
             Some(now) if is_again => read_config_again(self.alloc, text, now),
             _ => read_config(self.alloc, text),
@@ -82,7 +82,7 @@ impl ConfigFile {
         }
     }
 
-    /// Takes the rows of a turn, and tells what comes of them.
+    /// Takes the rows of a group, and tells what comes of them.
     fn answer(&mut self, rows: &[Row<'_>], came: &mut String) -> Done {
         if !has_row(rows, "?") {
             self.lines.take(rows)?;
@@ -94,19 +94,19 @@ impl ConfigFile {
         Ok(())
     }
 
-    /// Plays a turn, and compares what comes of it with what is due; then the turn has no rows.
-    fn play(&mut self, turn: &mut Turn<'_>, tally: &mut Tally) -> Done {
+    /// Plays a group, and compares what comes of it with what is due; then the group has no rows.
+    fn play(&mut self, group: &mut RowGroup<'_>, agreement: &mut Agreement) -> Done {
         let mut came = String::new(self.alloc);
-        self.answer(turn.given.as_slice(), &mut came)?;
-        compare_text(tally, turn.end, turn.dues.as_slice(), came.as_str())?;
-        turn.clear();
+        self.answer(group.given.as_slice(), &mut came)?;
+        compare_text(agreement, group.end, group.dues.as_slice(), came.as_str())?;
+        group.clear();
         Ok(())
     }
 }
 
 /// Whose a connection is with this token, certificate and address.
-fn who_in(config: &Config, asked: &str) -> Option<Who> {
-    let mut words = Words::of(rest_of(asked));
+fn who_in(config: &SiteConfig, asked: &str) -> Option<Who> {
+    let mut words = LineWords::of(rest_of(asked));
     let token = bytes_of(words.word());
     let certificate = bytes_of(words.word());
     match IpAddr::parse_ascii(words.word().unwrap_or("").as_bytes()) {
@@ -124,7 +124,7 @@ fn bytes_of(word: Option<&str>) -> Option<&[u8]> {
 }
 
 /// Appends a customer's name, behind its number where it is named.
-fn push_who(alloc: Global, config: &Config, who: Option<Who>, came: &mut String) -> Done {
+fn push_who(alloc: Global, config: &SiteConfig, who: Option<Who>, came: &mut String) -> Done {
     let Some(who) = who else {
         return came.push_str("nobody\n");
     };
@@ -135,7 +135,7 @@ fn push_who(alloc: Global, config: &Config, who: Option<Who>, came: &mut String)
 }
 
 /// Appends all numbers that aren't a plan's.
-fn push_config(config: &Config, came: &mut String) -> Done {
+fn push_config(config: &SiteConfig, came: &mut String) -> Done {
     let entrances = config.entrances;
     push_place(came, "listen", entrances.proxied)?;
     push_place(came, "plain", entrances.plain)?;
@@ -191,7 +191,7 @@ fn push_terms(terms: &Terms, came: &mut String) -> Done {
 }
 
 /// Appends the plan of each hall.
-fn push_halls(config: &Config, came: &mut String) -> Done {
+fn push_halls(config: &SiteConfig, came: &mut String) -> Done {
     for plan in &config.halls {
         push_plan(plan, config.directory.customers.len(), came)?;
     }
@@ -201,8 +201,8 @@ fn push_halls(config: &Config, came: &mut String) -> Done {
 fn push_plan(plan: &Plan, customers: usize, came: &mut String) -> Done {
     push_amount(came, "hall", plan.totals())?;
     push_amount(came, "each guest", plan.budget(Who::V4(0)))?;
-    push_amount(came, "network", plan.limit(Part::Network(Who::V4(0))))?;
-    push_amount(came, "all guests", plan.limit(Part::Guests))?;
+    push_amount(came, "network", plan.limit(Group::Network(Who::V4(0))))?;
+    push_amount(came, "all guests", plan.limit(Group::Guests))?;
     for number in 0..u32::try_from(customers).unwrap_or(u32::MAX) {
         push_amount(came, "customer", plan.budget(Who::Named(number)))?;
     }

@@ -4,22 +4,22 @@
 //! a session's reader gives at once (4,096). Where it has `refuses K`, the K-th growth after the desk was made is refused.
 ghost use Rattle.std.specs.Prelude.{◌≡◌, ◌≤◌};
 
-use crate::crew::Crew;
+use crate::agreement::{Agreement, Done};
+use crate::desk_worker::DeskWorker;
 use crate::played_desk::PlayedDesk;
 use crate::playing::read_totals;
 use crate::scenes::Scene;
-use crate::tally::{Done, Tally};
 use crate::words::option;
 use desk::{Config, Desk, DeskLedger, Hall, Jamboree, Opened, PARTS, Step, Worker};
 use std::alloc::{Allocator, Global};
 use std::marker::Brand;
 use std::sync::Wait;
 use std::sync::ledger::Blank;
-use toys::Counted;
+use toys::CountedAlloc;
 
 /// What a head asks for.
 #[derive(Clone, Copy)]
-struct Setting {
+struct DeskHead {
     config: Config,
     grain: u8,
     worker: Worker,
@@ -34,14 +34,14 @@ fn read_worker(head: &str) -> Option<Worker> {
 }
 
 /// What a head asks for; None where a number is missing or not within its limits.
-fn read_setting(head: &str) -> Option<Setting> {
+fn read_setting(head: &str) -> Option<DeskHead> {
     let config = read_totals(head)?;
     let worker = read_worker(head)?;
     let grain = option(head, "grain").unwrap_or(0);
     if grain > 6 {
         return None;
     }
-    Some(Setting {
+    Some(DeskHead {
         config,
         grain: grain as u8,
         worker,
@@ -51,17 +51,24 @@ fn read_setting(head: &str) -> Option<Setting> {
 }
 
 /// Plays a scene at a desk of its own.
-pub fn play_sessions<R: Wait>(rt: &R, alloc: Global, scene: &Scene<'_>, tally: &mut Tally) -> Done {
+pub fn play_sessions<R: Wait>(
+    rt: &R,
+    alloc: Global,
+    scene: &Scene<'_>,
+    agreement: &mut Agreement,
+) -> Done {
     let head = scene.head;
     let Some(setting) = read_setting(head.text) else {
-        return tally.miss(head, "segments, nodes, and a grain from 0 to 6", head.text);
+        return agreement.miss(head, "segments, nodes, and a grain from 0 to 6", head.text);
     };
-    let counted = Counted::new(alloc);
+    let counted = CountedAlloc::new(alloc);
     let hall = Hall::new(&counted, setting.config, setting.grain)?;
     counted.refuse(setting.refuses);
     let blank = Blank::new(PARTS);
     let opened = Opened::new(alloc)?;
-    play_at::<Brand, R, &Counted<Global>>(rt, alloc, hall, blank, opened, setting, scene, tally)
+    play_at::<Brand, R, &CountedAlloc<Global>>(
+        rt, alloc, hall, blank, opened, setting, scene, agreement,
+    )
 }
 
 /// Plays a scene at a desk with this hall.
@@ -71,9 +78,9 @@ fn play_at<L: DeskLedger, R: Wait, A: Allocator + Clone>(
     hall: Hall<A>,
     blank: Blank,
     opened: Opened<Step<Jamboree>>,
-    setting: Setting,
+    setting: DeskHead,
     scene: &Scene<'_>,
-    tally: &mut Tally,
+    agreement: &mut Agreement,
 ) -> Done
     requires name { blank.name ≡ L.name }
     requires parts { (blank.parts ≡ L.parts) × (L.all ≡ L.parts) × (L.all ≡ PARTS) }
@@ -81,7 +88,7 @@ fn play_at<L: DeskLedger, R: Wait, A: Allocator + Clone>(
     requires begun { hall ≡ L.begun }
 {
     let desk: Desk<L, A> = Desk::new(hall, blank, opened);
-    play_rows(rt, alloc, &desk, setting, scene, tally)
+    play_rows(rt, alloc, &desk, setting, scene, agreement)
 }
 
 /// Plays a scene at a desk.
@@ -89,15 +96,15 @@ fn play_rows<L: DeskLedger, R: Wait, A: Allocator + Clone>(
     rt: &R,
     alloc: Global,
     desk: &Desk<L, A>,
-    setting: Setting,
+    setting: DeskHead,
     scene: &Scene<'_>,
-    tally: &mut Tally,
+    agreement: &mut Agreement,
 ) -> Done
     requires { L.all ≡ L.parts }
 {
-    let Some(crew) = Crew::new(alloc, rt, desk, setting.worker) else {
-        return tally.miss(scene.head, "a badge", "none");
+    let Some(worker) = DeskWorker::new(alloc, rt, desk, setting.worker) else {
+        return agreement.miss(scene.head, "a badge", "none");
     };
-    let mut played = PlayedDesk::new(rt, alloc, desk, crew, setting.pieces);
-    played.play(scene.rows.as_slice(), tally)
+    let mut played = PlayedDesk::new(rt, alloc, desk, worker, setting.pieces);
+    played.play(scene.rows.as_slice(), agreement)
 }

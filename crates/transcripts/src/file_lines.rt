@@ -1,6 +1,6 @@
 //! The lines of a file in a scene, and what rows change in it.
+use crate::agreement::Done;
 use crate::scenes::Row;
-use crate::tally::Done;
 use crate::words::{first_word, number, rest_of};
 use std::alloc::{AllocError, Global};
 

@@ -1,10 +1,10 @@
 //! The files of the folder that the program runs in.
+use crate::agreement::{Agreement, Done};
 use crate::configs::play_config;
 use crate::desks::play_sessions;
 use crate::playing::play_steps;
 use crate::scenes::{Scene, read_scenes};
 use crate::solving::play_solve;
-use crate::tally::{Done, Tally};
 use std::alloc::Global;
 use std::process::ExitCode;
 use std::rt::Files;
@@ -22,19 +22,19 @@ fn names<R: Files + AllocGlobal + Clone + Drop>(rt: &R) -> io::Result<Vec<String
     Ok(names)
 }
 
-/// Plays all files here that have scenes: those whose names begin with `false_` into `lies`, all others into `tally`. Returns how many
+/// Plays all files here that have scenes: those whose names begin with `false_` into `lies`, all others into `agreement`. Returns how many
 /// these others are.
 pub fn play_all<R: Files + AllocGlobal + Wait + Clone + Drop>(
     rt: &R,
-    tally: &mut Tally,
-    lies: &mut Tally,
+    agreement: &mut Agreement,
+    lies: &mut Agreement,
 ) -> io::Result<u64> {
     let names = names(rt)?;
     let mut count = 0u64;
     for name in names.iter() {
         if name.as_str().starts_with("false_") {
             play_file(rt, name.as_str(), lies)?;
-        } else if play_file(rt, name.as_str(), tally)? {
+        } else if play_file(rt, name.as_str(), agreement)? {
             count = count.saturating_add(1);
         }
     }
@@ -45,13 +45,13 @@ pub fn play_all<R: Files + AllocGlobal + Wait + Clone + Drop>(
 fn play_file<R: Files + AllocGlobal + Wait>(
     rt: &R,
     file: &str,
-    tally: &mut Tally,
+    agreement: &mut Agreement,
 ) -> io::Result<bool> {
     let Some(kind) = kind_of(file) else {
         return Ok(false);
     };
     let text = fs::read_to_string(rt, file)?;
-    play_text(rt, rt.alloc(), kind, file, text.as_str(), tally)?;
+    play_text(rt, rt.alloc(), kind, file, text.as_str(), agreement)?;
     Ok(true)
 }
 
@@ -83,11 +83,11 @@ fn play_text<R: Wait>(
     kind: Kind,
     file: &str,
     text: &str,
-    tally: &mut Tally,
+    agreement: &mut Agreement,
 ) -> Done {
     let scenes = read_scenes(alloc, file, text)?;
     for scene in scenes.iter() {
-        play_scene(rt, alloc, kind, scene, tally)?;
+        play_scene(rt, alloc, kind, scene, agreement)?;
     }
     Ok(())
 }
@@ -98,26 +98,31 @@ fn play_scene<R: Wait>(
     alloc: Global,
     kind: Kind,
     scene: &Scene<'_>,
-    tally: &mut Tally,
+    agreement: &mut Agreement,
 ) -> Done {
     let head = scene.head.text;
     match kind {
-        Kind::Config if head.starts_with("config") => play_config(alloc, scene, tally),
-        Kind::Solve if head.starts_with("solve ") => play_solve(alloc, scene, tally),
-        Kind::Session if head.starts_with("desk ") => play_sessions(rt, alloc, scene, tally),
-        Kind::Steps if head.starts_with("core ") => play_steps(alloc, scene, tally),
-        _ => tally.miss(scene.head, "a head of this kind of text", head),
+        Kind::Config if head.starts_with("config") => play_config(alloc, scene, agreement),
+        Kind::Solve if head.starts_with("solve ") => play_solve(alloc, scene, agreement),
+        Kind::Session if head.starts_with("desk ") => play_sessions(rt, alloc, scene, agreement),
+        Kind::Steps if head.starts_with("core ") => play_steps(alloc, scene, agreement),
+        _ => agreement.miss(scene.head, "a head of this kind of text", head),
     }
 }
 
 /// Prints what disagrees, how many rows agree, and how many false rows were told. The exit status is 1 where a row doesn't agree, or
 /// where no text was there.
-pub fn report(rt: &impl Print, count: u64, tally: &Tally, lies: &Tally) -> io::Result<ExitCode> {
-    let agreed = tally.agreed;
-    let missed = tally.missed;
+pub fn report(
+    rt: &impl Print,
+    count: u64,
+    agreement: &Agreement,
+    lies: &Agreement,
+) -> io::Result<ExitCode> {
+    let agreed = agreement.agreed;
+    let missed = agreement.missed;
     let told = lies.missed;
     let believed = lies.agreed;
-    rt.print(tally.told.as_str())?;
+    rt.print(agreement.told.as_str())?;
     println!(rt;
         "{agreed} rows of {count} texts agree, {missed} do not; of false rows {told} do not, {believed} do"
     )?;

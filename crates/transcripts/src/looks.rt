@@ -1,9 +1,9 @@
 //! What is read of a core, as texts.
+use crate::agreement::Done;
 use crate::answered::draw_frame;
 use crate::plain_core::Counting;
 use crate::reading::read_frame;
-use crate::tally::Done;
-use crate::words::{Words, push_number, push_numbers};
+use crate::words::{LineWords, push_number, push_numbers};
 use cactus_stack::Words as FrameWords;
 use frame_tree::{FrameId, State};
 use sched_core::{Job, Procedure};
@@ -33,7 +33,7 @@ pub enum Look {
 /// The look that a text asks for; None where it asks for none: `free`, `ready`, `frame FRAME`, `left TENANT`, `live TENANT`,
 /// `newest TENANT`, `job TENANT NUMBER`.
 pub fn read_look(asked: &str) -> Option<Look> {
-    let mut words = Words::of(asked);
+    let mut words = LineWords::of(asked);
     let look = match words.word()? {
         "free" => Look::Free,
         "ready" => Look::Ready,

@@ -5,7 +5,7 @@
 //! every text. A file's ending says what plays it:
 //!
 //! - `NAME.solve` (`solving`): the lines of `othello solve`, at each grain that the head names, or by `--visited`;
-//! - `NAME.session` (`sessions`): sessions at a desk, whose jobs one worker runs (`crew`) at each WAIT;
+//! - `NAME.session` (`sessions`): sessions at a desk, whose jobs one worker runs (`desk_worker`) at each WAIT;
 //! - `NAME.steps` (`playing`): steps of a core, its answers, and looks at its state in between;
 //! - `NAME.rows` (`configs`): a file of `othello_site`: what it is read to, or refused for, and whose a connection is.
 //!
@@ -22,14 +22,16 @@
 //! ```
 #![tactic(auto)]
 
+mod agreement;
 mod answered;
 mod compared;
 mod configs;
-mod crew;
+mod desk_worker;
 mod desks;
 mod escapes;
 mod file_lines;
 mod files;
+mod groups;
 mod looks;
 mod pieces;
 mod plain_core;
@@ -43,18 +45,16 @@ mod sessions;
 mod solving;
 mod stage;
 mod talks;
-mod tally;
-mod turns;
 mod values;
 mod words;
 
-use crate::tally::Tally;
+use crate::agreement::Agreement;
 use std::io;
 use std::process::ExitCode;
 
 fn main(rt: HostRuntime) -> io::Result<ExitCode> {
-    let mut tally = Tally::new(rt.alloc());
-    let mut lies = Tally::new(rt.alloc());
-    let count = files::play_all(&rt, &mut tally, &mut lies)?;
-    files::report(&rt, count, &tally, &lies)
+    let mut agreement = Agreement::new(rt.alloc());
+    let mut lies = Agreement::new(rt.alloc());
+    let count = files::play_all(&rt, &mut agreement, &mut lies)?;
+    files::report(&rt, count, &agreement, &lies)
 }

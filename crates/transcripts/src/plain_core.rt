@@ -1,15 +1,15 @@
 //! A core's calls without what their contracts say: no player needs it, and a function that knows it is dear to prove.
-use crate::tally::Done;
+use crate::agreement::Done;
 use sched_core::{Config, Core, Did, Procedure, Refusal, Step};
 use std::alloc::{AllocError, Global};
-use toys::Counted;
+use toys::CountedAlloc;
 
 /// A core whose allocator is counted.
-pub type Counting<'c, P> = Core<P, &'c Counted<Global>>;
+pub type Counting<'c, P> = Core<P, &'c CountedAlloc<Global>>;
 
 /// A core of these totals.
 pub fn made<P: Procedure + Drop>(
-    counted: &Counted<Global>,
+    counted: &CountedAlloc<Global>,
     config: Config,
     procedure: P,
 ) -> Result<Counting<'_, P>, AllocError> {
@@ -30,7 +30,7 @@ pub fn foretell<P: Procedure>(core: &Counting<'_, P>, step: &Step<P>) -> Option<
 pub fn run<'c, P: Procedure>(
     core: &mut Counting<'c, P>,
     steps: &[Step<P>],
-    answers: &mut Vec<Result<Did<P>, Refusal>, &'c Counted<Global>>,
+    answers: &mut Vec<Result<Did<P>, Refusal>, &'c CountedAlloc<Global>>,
 ) -> Done {
     core.run(steps, answers)
 }

@@ -5,7 +5,7 @@
 //! tenant stays where more lines of the session follow.
 ghost use Rattle.std.specs.Prelude.{◌≡◌, ◌==◌, true};
 
-use crate::crew::Crew;
+use crate::desk_worker::DeskWorker;
 use crate::pieces::Pieces;
 use desk::{Desk, DeskLedger, Refusal};
 use desk_office::DeskOffice;
@@ -68,7 +68,7 @@ pub struct PlayedDesk<'t, 'a, L: DeskLedger, R: Wait, A: Allocator + Clone> {
     pub alloc: Global,
     pub desk: &'a Desk<L, A>,
     /// The worker.
-    pub crew: Crew<'a, L, R, A>,
+    pub worker: DeskWorker<'a, L, R, A>,
     /// The most bytes that a session's reader gives at once.
     pieces: usize,
     /// The sessions.
@@ -87,7 +87,7 @@ impl<L: DeskLedger, R: Wait, A: Allocator + Clone> Drop for PlayedDesk<'_, '_, L
             rt: _rt,
             alloc: _alloc,
             desk: _desk,
-            crew: _crew,
+            worker: _worker,
             pieces: _pieces,
             sessions: _guests,
             at: _at,
@@ -103,14 +103,14 @@ impl<'t, 'a, L: DeskLedger, R: Wait, A: Allocator + Clone> PlayedDesk<'t, 'a, L,
         rt: &'a R,
         alloc: Global,
         desk: &'a Desk<L, A>,
-        crew: Crew<'a, L, R, A>,
+        worker: DeskWorker<'a, L, R, A>,
         pieces: usize,
     ) -> PlayedDesk<'t, 'a, L, R, A> {
         PlayedDesk {
             rt,
             alloc,
             desk,
-            crew,
+            worker,
             pieces,
             sessions: Vec::new(alloc),
             at: 0,
@@ -188,7 +188,7 @@ impl<L: DeskLedger, R: Wait, A: Allocator + Clone> Office for PlayedDesk<'_, '_,
             Some(session) => session.office.hello(reserve)?,
             None => return Err(Refusal::NoTenant),
         }
-        let tenant = self.crew.admitted();
+        let tenant = self.worker.admitted();
         self.seat(Some(tenant));
         Ok(())
     }
@@ -206,7 +206,7 @@ impl<L: DeskLedger, R: Wait, A: Allocator + Clone> Office for PlayedDesk<'_, '_,
             None => return Err(Refusal::NoTenant),
         };
         if let Some(tenant) = tenant {
-            self.crew.asked(tenant);
+            self.worker.asked(tenant);
         }
         Ok(job)
     }
@@ -220,10 +220,10 @@ impl<L: DeskLedger, R: Wait, A: Allocator + Clone> Office for PlayedDesk<'_, '_,
 
     /// A job that is pending although nothing is left to do would be waited for for ever, so its standing is answered.
     fn wait(&mut self, job: u64) -> Result<Standing, Refusal> {
-        if !self.crew.is_closed {
-            self.crew.work(ALL_STEPS);
+        if !self.worker.is_closed {
+            self.worker.work(ALL_STEPS);
         }
-        let is_closed = self.crew.is_closed;
+        let is_closed = self.worker.is_closed;
         match self.served() {
             Some(session) => wait_at(session, job, is_closed),
             None => Err(Refusal::NoJob),

@@ -17,6 +17,7 @@
 //! Advance 1 1.1 -> Spawned 1.2
 //! frame 1.2 = under 1.1 Ready(1): 5 0 0 0
 //! ```
+use crate::agreement::{Agreement, Done};
 use crate::answered::draw_answer;
 use crate::looks::draw_tenant;
 use crate::plain_core::{Counting, made, run};
@@ -24,13 +25,12 @@ use crate::reader::Reader;
 use crate::reading::tenant_of;
 use crate::scenes::{Row, Scene};
 use crate::stage::{Played, play_row, tell};
-use crate::tally::{Done, Tally};
-use crate::values::{FromWords, Input};
-use crate::words::{Words, option, small_option};
+use crate::values::{DrawnInput, FromWords};
+use crate::words::{LineWords, option, small_option};
 use jamboree::Jamboree;
 use sched_core::{Config, Procedure};
 use std::alloc::{AllocError, Global};
-use toys::{Chain, Counted, Fan, Spin};
+use toys::{Chain, CountedAlloc, Fan, Spin};
 
 /// The totals that a head asks for; None where a number is missing or not within its limits.
 pub fn read_totals(head: &str) -> Option<Config> {
@@ -46,29 +46,29 @@ fn read_jamboree(head: &str) -> Option<Jamboree> {
 
 /// Plays a scene. Its head is `core PROCEDURE segments S nodes N`, with `grain G` for Jamboree (0 where it isn't named). Where it
 /// has `refuses K`, the K-th growth after the core was made is refused.
-pub fn play_steps(alloc: Global, scene: &Scene<'_>, tally: &mut Tally) -> Done {
+pub fn play_steps(alloc: Global, scene: &Scene<'_>, agreement: &mut Agreement) -> Done {
     let head = scene.head;
-    let mut words = Words::of(head.text);
+    let mut words = LineWords::of(head.text);
     let _core = words.word();
     let Some(config) = read_totals(head.text) else {
-        return tally.miss(head, "segments and nodes", head.text);
+        return agreement.miss(head, "segments and nodes", head.text);
     };
     match words.word() {
-        Some("Fan") => play_on(alloc, Fan::new(), config, scene, tally),
-        Some("Chain") => play_on(alloc, Chain::new(), config, scene, tally),
-        Some("Spin") => play_on(alloc, Spin::new(), config, scene, tally),
-        Some("Reader") => play_on(alloc, Reader::new(), config, scene, tally),
+        Some("Fan") => play_on(alloc, Fan::new(), config, scene, agreement),
+        Some("Chain") => play_on(alloc, Chain::new(), config, scene, agreement),
+        Some("Spin") => play_on(alloc, Spin::new(), config, scene, agreement),
+        Some("Reader") => play_on(alloc, Reader::new(), config, scene, agreement),
         Some("Jamboree") => match read_jamboree(head.text) {
-            Some(procedure) => play_on(alloc, procedure, config, scene, tally),
-            None => tally.miss(head, "a grain from 0 to 6", "another"),
+            Some(procedure) => play_on(alloc, procedure, config, scene, agreement),
+            None => agreement.miss(head, "a grain from 0 to 6", "another"),
         },
-        _ => tally.miss(head, "a procedure", head.text),
+        _ => agreement.miss(head, "a procedure", head.text),
     }
 }
 
 /// What a scene is played by, and its head.
 #[derive(Drop)]
-struct Setting<'t, P: Drop> {
+struct CoreScene<'t, P: Drop> {
     alloc: Global,
     procedure: P,
     config: Config,
@@ -76,50 +76,50 @@ struct Setting<'t, P: Drop> {
 }
 
 /// Plays a scene on a new core, and then its steps again: by `run` on a new core, and those of each tenant on a core of its own.
-fn play_on<P: Procedure<Answer: FromWords, Input: Input> + Copy>(
+fn play_on<P: Procedure<Answer: FromWords, Input: DrawnInput> + Copy>(
     alloc: Global,
     procedure: P,
     config: Config,
     scene: &Scene<'_>,
-    tally: &mut Tally,
+    agreement: &mut Agreement,
 ) -> Done {
-    let counted = Counted::new(alloc);
+    let counted = CountedAlloc::new(alloc);
     let mut core = made(&counted, config, procedure)?;
     counted.refuse(option(scene.head.text, "refuses").unwrap_or(0));
     let mut played = Played::new(alloc);
     for row in scene.rows.iter() {
-        play_row(alloc, &counted, &mut core, &mut played, *row, tally)?;
+        play_row(alloc, &counted, &mut core, &mut played, *row, agreement)?;
     }
-    let setting = Setting {
+    let setting = CoreScene {
         alloc,
         procedure,
         config,
         head: scene.head,
     };
-    play_together(&setting, &core, &played, tally)?;
+    play_together(&setting, &core, &played, agreement)?;
     for tenant in tenants(alloc, &played)?.iter() {
-        play_alone(&setting, &core, &played, *tenant, tally)?;
+        play_alone(&setting, &core, &played, *tenant, agreement)?;
     }
     Ok(())
 }
 
 /// Plays the steps by `run` on a new core, and compares the answers and all that is read.
-fn play_together<P: Procedure<Answer: FromWords, Input: Input> + Copy>(
-    setting: &Setting<'_, P>,
+fn play_together<P: Procedure<Answer: FromWords, Input: DrawnInput> + Copy>(
+    setting: &CoreScene<'_, P>,
     core: &Counting<'_, P>,
     played: &Played<'_, P::Answer>,
-    tally: &mut Tally,
+    agreement: &mut Agreement,
 ) -> Done {
-    let counted = Counted::new(setting.alloc);
+    let counted = CountedAlloc::new(setting.alloc);
     let mut again = made(&counted, setting.config, setting.procedure)?;
-    run_again(setting, &counted, &mut again, played, tally)?;
+    run_again(setting, &counted, &mut again, played, agreement)?;
     for tenant in tenants(setting.alloc, played)?.iter() {
-        compare_tenant(setting, core, &again, played, *tenant, tally)?;
+        compare_tenant(setting, core, &again, played, *tenant, agreement)?;
     }
     if core.free_segments() == again.free_segments() {
         return Ok(());
     }
-    tally.miss(
+    agreement.miss(
         setting.head,
         "as many free segments by run",
         "another count",
@@ -127,16 +127,16 @@ fn play_together<P: Procedure<Answer: FromWords, Input: Input> + Copy>(
 }
 
 /// Plays the steps by `run`, and compares the answers.
-fn run_again<'c, P: Procedure<Answer: FromWords, Input: Input> + Copy>(
-    setting: &Setting<'_, P>,
-    counted: &'c Counted<Global>,
+fn run_again<'c, P: Procedure<Answer: FromWords, Input: DrawnInput> + Copy>(
+    setting: &CoreScene<'_, P>,
+    counted: &'c CountedAlloc<Global>,
     core: &mut Counting<'c, P>,
     played: &Played<'_, P::Answer>,
-    tally: &mut Tally,
+    agreement: &mut Agreement,
 ) -> Done {
     let mut answers = Vec::new(counted);
     if run(core, played.steps.as_slice(), &mut answers).is_err() {
-        return tally.miss(setting.head, "answers by run", "none for want of memory");
+        return agreement.miss(setting.head, "answers by run", "none for want of memory");
     }
     for ((answer, told), row) in answers
         .iter()
@@ -145,17 +145,17 @@ fn run_again<'c, P: Procedure<Answer: FromWords, Input: Input> + Copy>(
     {
         let mut text = String::new(setting.alloc);
         draw_answer(&mut text, answer)?;
-        agree(*row, "by run", told.as_str(), text.as_str(), tally)?;
+        agree(*row, "by run", told.as_str(), text.as_str(), agreement)?;
     }
     Ok(())
 }
 
 /// A row that is counted only where it disagrees.
-fn agree(row: Row<'_>, how: &str, due: &str, came: &str, tally: &mut Tally) -> Done {
+fn agree(row: Row<'_>, how: &str, due: &str, came: &str, agreement: &mut Agreement) -> Done {
     if due == came {
         return Ok(());
     }
-    tally.miss(row, how, came)
+    agreement.miss(row, how, came)
 }
 
 /// The tenants of the steps, each once.
@@ -183,12 +183,12 @@ fn steps_of<A: Drop>(played: &Played<'_, A>, tenant: u64) -> u64 {
 
 /// Compares all that is read of a tenant in two cores.
 fn compare_tenant<P: Procedure<Answer: FromWords> + Drop>(
-    setting: &Setting<'_, P>,
+    setting: &CoreScene<'_, P>,
     one: &Counting<'_, P>,
     other: &Counting<'_, P>,
     played: &Played<'_, P::Answer>,
     tenant: u64,
-    tally: &mut Tally,
+    agreement: &mut Agreement,
 ) -> Done {
     let last = steps_of(played, tenant).saturating_add(1);
     let mut due = String::new(setting.alloc);
@@ -196,18 +196,18 @@ fn compare_tenant<P: Procedure<Answer: FromWords> + Drop>(
     draw_tenant(&mut due, one, tenant, last)?;
     draw_tenant(&mut came, other, tenant, last)?;
     let head = setting.head;
-    agree(head, due.as_str(), due.as_str(), came.as_str(), tally)
+    agree(head, due.as_str(), due.as_str(), came.as_str(), agreement)
 }
 
 /// Plays the steps of a tenant that were taken on a core of its own, and compares answers and tenant.
-fn play_alone<P: Procedure<Answer: FromWords, Input: Input> + Copy>(
-    setting: &Setting<'_, P>,
+fn play_alone<P: Procedure<Answer: FromWords, Input: DrawnInput> + Copy>(
+    setting: &CoreScene<'_, P>,
     together: &Counting<'_, P>,
     played: &Played<'_, P::Answer>,
     tenant: u64,
-    tally: &mut Tally,
+    agreement: &mut Agreement,
 ) -> Done {
-    let counted = Counted::new(setting.alloc);
+    let counted = CountedAlloc::new(setting.alloc);
     let mut core = made(&counted, setting.config, setting.procedure)?;
     for ((step, told), row) in played
         .steps
@@ -217,8 +217,8 @@ fn play_alone<P: Procedure<Answer: FromWords, Input: Input> + Copy>(
     {
         if tenant_of(step) == tenant && !told.as_str().starts_with("Err ") {
             let answer = tell(setting.alloc, &counted, &mut core, step)?;
-            agree(*row, "alone", told.as_str(), answer.as_str(), tally)?;
+            agree(*row, "alone", told.as_str(), answer.as_str(), agreement)?;
         }
     }
-    compare_tenant(setting, together, &core, played, tenant, tally)
+    compare_tenant(setting, together, &core, played, tenant, agreement)
 }

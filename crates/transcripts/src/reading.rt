@@ -1,6 +1,6 @@
 //! Steps, read from texts.
 use crate::values::FromWords;
-use crate::words::Words;
+use crate::words::LineWords;
 use frame_tree::FrameId;
 use sched_core::{GivenWords, StepOf, Worker};
 use tenant_quota::Reserve;
@@ -11,14 +11,14 @@ use tenant_quota::Reserve;
 /// `Steal WORKER HOME FRAME`, `Advance WORKER FRAME`, `Answer WORKER FRAME ANSWER..`, `Inlet WORKER FRAME`,
 /// `Finish WORKER FRAME`, `Spend FRAME`, `Cancel TENANT JOB`, `Leave TENANT`.
 pub fn read_step<A: FromWords>(text: &str) -> Option<StepOf<A>> {
-    let mut words = Words::of(text);
+    let mut words = LineWords::of(text);
     let kind = words.word()?;
     let step = read_step_of_kind(kind, &mut words)?;
     if words.is_empty() { Some(step) } else { None }
 }
 
 /// The rest of a step of this kind.
-fn read_step_of_kind<A: FromWords>(kind: &str, words: &mut Words<'_>) -> Option<StepOf<A>> {
+fn read_step_of_kind<A: FromWords>(kind: &str, words: &mut LineWords<'_>) -> Option<StepOf<A>> {
     match kind {
         "Admit" => Some(StepOf::Admit(words.number()?, read_reserve(words)?)),
         "AdmitMore" => Some(StepOf::AdmitMore(words.number()?, read_reserve(words)?)),
@@ -34,7 +34,7 @@ fn read_step_of_kind<A: FromWords>(kind: &str, words: &mut Words<'_>) -> Option<
 }
 
 /// The tenant, the size, and at most eight words.
-fn read_submit<A>(words: &mut Words<'_>) -> Option<StepOf<A>> {
+fn read_submit<A>(words: &mut LineWords<'_>) -> Option<StepOf<A>> {
     let tenant = words.number()?;
     let size = usize::try_from(words.number()?).ok()?;
     let mut given = [0u64; 8];
@@ -50,14 +50,18 @@ fn read_submit<A>(words: &mut Words<'_>) -> Option<StepOf<A>> {
     Some(StepOf::Submit(tenant, GivenWords::new(given)?, size))
 }
 
-fn read_reserve(words: &mut Words<'_>) -> Option<Reserve> {
+fn read_reserve(words: &mut LineWords<'_>) -> Option<Reserve> {
     let segments = words.small()?;
     let nodes = words.small()?;
     Reserve::new(segments, nodes)
 }
 
 /// A step by this worker.
-fn read_work<A: FromWords>(kind: &str, worker: Worker, words: &mut Words<'_>) -> Option<StepOf<A>> {
+fn read_work<A: FromWords>(
+    kind: &str,
+    worker: Worker,
+    words: &mut LineWords<'_>,
+) -> Option<StepOf<A>> {
     match kind {
         "Take" => Some(StepOf::Take(worker, read_frame(words)?)),
         "Steal" => Some(StepOf::Steal(worker, words.byte()?, read_frame(words)?)),
@@ -73,7 +77,7 @@ fn read_work<A: FromWords>(kind: &str, worker: Worker, words: &mut Words<'_>) ->
 }
 
 /// The frame that the next word names.
-pub fn read_frame(words: &mut Words<'_>) -> Option<FrameId> {
+pub fn read_frame(words: &mut LineWords<'_>) -> Option<FrameId> {
     let (tenant, serial) = words.pair()?;
     Some(FrameId { tenant, serial })
 }

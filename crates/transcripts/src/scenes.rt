@@ -1,6 +1,6 @@
 //! A text as its scenes. A scene begins with a head, a line `= ` and words: what is played, and its options, each a word and its numbers.
 //! The lines up to the next head are its rows. Empty lines and those that begin with `#` are remarks.
-use crate::tally::Done;
+use crate::agreement::Done;
 use std::alloc::{AllocError, Global};
 use std::fmt;
 

@@ -5,11 +5,11 @@
 //! session. `! work N` lets the worker offer N steps, and `! close` closes the desk. At a line WAIT the worker runs all jobs.
 ghost use Rattle.std.specs.Prelude.{◌≡◌, ◌≤◌, length};
 
+use crate::agreement::{Agreement, Done};
 use crate::compared::compare_lines;
 use crate::played_desk::{GOES_ON, PlayedDesk, PlayedSession, WENT_ON};
 use crate::scenes::Row;
 use crate::talks::{TalkLine, gather, read_talk_line};
-use crate::tally::{Done, Tally};
 use crate::words::option;
 use desk::DeskLedger;
 use std::alloc::{AllocError, Allocator};
@@ -55,12 +55,12 @@ fn goes_on(rows: &[Row<'_>], name: &str) -> bool {
 
 impl<'t, 'a, L: DeskLedger, R: Wait, A: Allocator + Clone> PlayedDesk<'t, 'a, L, R, A> {
     /// Plays all rows.
-    pub fn play(&mut self, rows: &[Row<'t>], tally: &mut Tally) -> Done
+    pub fn play(&mut self, rows: &[Row<'t>], agreement: &mut Agreement) -> Done
         requires { L.all ≡ L.parts }
     {
         let mut at = 0usize;
         for _ in 0..rows.len() {
-            at = at.saturating_add(self.play_from(rows, at, tally)?);
+            at = at.saturating_add(self.play_from(rows, at, agreement)?);
         }
         Ok(())
     }
@@ -71,13 +71,13 @@ impl<'t, 'a, L: DeskLedger, R: Wait, A: Allocator + Clone> PlayedDesk<'t, 'a, L,
         &mut self,
         rows: &[Row<'t>],
         at: usize,
-        tally: &mut Tally,
+        agreement: &mut Agreement,
     ) -> Result<usize, AllocError>
         requires { L.all ≡ L.parts }
     {
         let (_, rest) = rows.split_at(at.min(rows.len()));
         match rest.first() {
-            Some(row) => self.play_first(rest, *row, tally),
+            Some(row) => self.play_first(rest, *row, agreement),
             None => Ok(0),
         }
     }
@@ -87,24 +87,30 @@ impl<'t, 'a, L: DeskLedger, R: Wait, A: Allocator + Clone> PlayedDesk<'t, 'a, L,
         &mut self,
         rows: &[Row<'t>],
         row: Row<'t>,
-        tally: &mut Tally,
+        agreement: &mut Agreement,
     ) -> Result<usize, AllocError>
         requires { L.all ≡ L.parts }
     {
         match read_talk_line(row.text) {
             TalkLine::Sent(name, _) | TalkLine::Due(name, _) => {
                 let (now, later) = rows.split_at(part_of(rows, name));
-                self.talk(now, name, goes_on(later, name), tally)?;
+                self.talk(now, name, goes_on(later, name), agreement)?;
                 return Ok(now.len());
             }
-            TalkLine::Between(name, words) => self.happen(row, name, words, tally)?,
-            TalkLine::Nothing => tally.miss(row, "a line of a session", row.text)?,
+            TalkLine::Between(name, words) => self.happen(row, name, words, agreement)?,
+            TalkLine::Nothing => agreement.miss(row, "a line of a session", row.text)?,
         }
         Ok(1)
     }
 
     /// Plays a part of a session, after which its tenant stays or not.
-    fn talk(&mut self, rows: &[Row<'t>], name: &'t str, stays: bool, tally: &mut Tally) -> Done
+    fn talk(
+        &mut self,
+        rows: &[Row<'t>],
+        name: &'t str,
+        stays: bool,
+        agreement: &mut Agreement,
+    ) -> Done
         requires { L.all ≡ L.parts }
     {
         let Some(end) = rows.last() else {
@@ -113,10 +119,10 @@ impl<'t, 'a, L: DeskLedger, R: Wait, A: Allocator + Clone> PlayedDesk<'t, 'a, L,
         let at = self.session_of(name)?;
         let begun = self.is_seated(at);
         let first = if begun { GOES_ON } else { NOTHING };
-        let part = gather(self.alloc, first, rows, tally)?;
+        let part = gather(self.alloc, first, rows, agreement)?;
         let came = self.serve(at, part.sent.as_slice(), stays);
         let written = without_welcome(came.as_slice(), begun);
-        compare_lines(tally, *end, part.dues.as_slice(), written)
+        compare_lines(agreement, *end, part.dues.as_slice(), written)
     }
 
     /// The place of the session of this name, which is a new one where none had it.
@@ -131,13 +137,13 @@ impl<'t, 'a, L: DeskLedger, R: Wait, A: Allocator + Clone> PlayedDesk<'t, 'a, L,
     }
 
     /// What happens between two lines.
-    fn happen(&mut self, row: Row<'t>, name: &str, words: &str, tally: &mut Tally) -> Done {
+    fn happen(&mut self, row: Row<'t>, name: &str, words: &str, agreement: &mut Agreement) -> Done {
         if let Some(steps) = option(words, "work") {
-            self.crew.work(steps);
+            self.worker.work(steps);
             return Ok(());
         }
         if words == "close" {
-            self.crew.close();
+            self.worker.close();
             return Ok(());
         }
         let is_there = match self.find(name) {
@@ -147,7 +153,7 @@ impl<'t, 'a, L: DeskLedger, R: Wait, A: Allocator + Clone> PlayedDesk<'t, 'a, L,
         if words == "end" && !is_there {
             return Ok(());
         }
-        tally.miss(row, "`work N`, `close` or `end`", words)
+        agreement.miss(row, "`work N`, `close` or `end`", words)
     }
 }
 

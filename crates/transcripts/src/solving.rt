@@ -4,29 +4,29 @@
 //! are one input.
 ghost use Rattle.std.specs.Prelude.{◌≤◌, IfSome};
 
+use crate::agreement::{Agreement, Done};
 use crate::compared::compare_lines;
 use crate::scenes::{Row, Scene};
-use crate::talks::{Part, gather};
-use crate::tally::{Done, Tally};
+use crate::talks::{TalkPart, gather};
 use crate::words::{behind, has_word};
 use line_io::{FromReader, FromWriter};
 use solve_engine::{solve_bytes, solve_visited};
 use std::alloc::Global;
 
 /// Plays a scene at each grain that its head names, and by `visited` where its head says so.
-pub fn play_solve(alloc: Global, scene: &Scene<'_>, tally: &mut Tally) -> Done {
-    let part = gather(alloc, b"", scene.rows.as_slice(), tally)?;
+pub fn play_solve(alloc: Global, scene: &Scene<'_>, agreement: &mut Agreement) -> Done {
+    let part = gather(alloc, b"", scene.rows.as_slice(), agreement)?;
     let head = scene.head;
     if has_word(head.text, "visited") {
         let came = visited(alloc, part.sent.as_slice());
-        return compare_lines(tally, head, part.dues.as_slice(), came.as_slice());
+        return compare_lines(agreement, head, part.dues.as_slice(), came.as_slice());
     }
     let mut grains = behind(head.text, "grain");
     for _ in 0..7u8 {
         let Some(grain) = grains.number() else {
             break;
         };
-        play_at(alloc, head, &part, grain, tally)?;
+        play_at(alloc, head, &part, grain, agreement)?;
     }
     Ok(())
 }
@@ -42,12 +42,18 @@ fn grain_of(number: u64) -> Option<u8>
 }
 
 /// Plays lines at a grain.
-fn play_at(alloc: Global, head: Row<'_>, part: &Part<'_>, grain: u64, tally: &mut Tally) -> Done {
+fn play_at(
+    alloc: Global,
+    head: Row<'_>,
+    part: &TalkPart<'_>,
+    grain: u64,
+    agreement: &mut Agreement,
+) -> Done {
     let Some(grain) = grain_of(grain) else {
-        return tally.miss(head, "a grain from 0 to 6", "another");
+        return agreement.miss(head, "a grain from 0 to 6", "another");
     };
     let came = solved(alloc, part.sent.as_slice(), grain);
-    compare_lines(tally, head, part.dues.as_slice(), came.as_slice())
+    compare_lines(agreement, head, part.dues.as_slice(), came.as_slice())
 }
 
 /// What `solve` writes.

@@ -1,14 +1,14 @@
 //! A list of steps on a core.
+use crate::agreement::{Agreement, Done};
 use crate::answered::draw_answer;
 use crate::looks::{draw_look, read_look};
 use crate::plain_core::{Counting, foretell, step as do_step};
 use crate::reading::{may_call_allocator, read_step};
 use crate::scenes::Row;
-use crate::tally::{Done, Tally};
-use crate::values::{FromWords, Input};
+use crate::values::{DrawnInput, FromWords};
 use sched_core::{Procedure, Step, StepOf};
 use std::alloc::{AllocError, Global};
-use toys::Counted;
+use toys::CountedAlloc;
 
 /// Steps, what each was answered, and the row of each.
 #[derive(Drop)]
@@ -39,9 +39,9 @@ impl<'t, A: Drop> Played<'t, A> {
 
 /// Takes a step, and returns its answer as a text. Where `refusal`, asked before, said something else, the text says so, but
 /// not of a refusal for want of memory, which nobody can foretell; and where the allocator was called by a step that may not.
-pub fn tell<P: Procedure<Input: Input>>(
+pub fn tell<P: Procedure<Input: DrawnInput>>(
     alloc: Global,
-    counted: &Counted<Global>,
+    counted: &CountedAlloc<Global>,
     core: &mut Counting<'_, P>,
     step: &Step<P>,
 ) -> Result<String, AllocError> {
@@ -67,28 +67,28 @@ fn is_wanting(told: &str) -> bool {
 
 /// Plays a row on a core: a step `STEP -> ANSWER`, which is noted unless memory was wanting, as it isn't where the steps are
 /// played again; or a look `LOOK = WHAT IS SEEN`.
-pub fn play_row<'t, P: Procedure<Answer: FromWords, Input: Input>>(
+pub fn play_row<'t, P: Procedure<Answer: FromWords, Input: DrawnInput>>(
     alloc: Global,
-    counted: &Counted<Global>,
+    counted: &CountedAlloc<Global>,
     core: &mut Counting<'_, P>,
     played: &mut Played<'t, P::Answer>,
     row: Row<'t>,
-    tally: &mut Tally,
+    agreement: &mut Agreement,
 ) -> Done {
     if let Some((step, due)) = row.text.split_once(" -> ") {
         let Some(step) = read_step::<P::Answer>(step) else {
-            return tally.miss(row, "a step", row.text);
+            return agreement.miss(row, "a step", row.text);
         };
         let told = tell(alloc, counted, core, &step)?;
-        tally.compare(row, due, told.as_str())?;
+        agreement.compare(row, due, told.as_str())?;
         if is_wanting(told.as_str()) {
             return Ok(());
         }
         return played.note(row, step, told);
     }
     match row.text.split_once(" = ") {
-        Some((asked, due)) => play_look(alloc, core, row, asked, due, tally),
-        None => tally.miss(row, "a step or a look", row.text),
+        Some((asked, due)) => play_look(alloc, core, row, asked, due, agreement),
+        None => agreement.miss(row, "a step or a look", row.text),
     }
 }
 
@@ -99,12 +99,12 @@ fn play_look<P: Procedure>(
     row: Row<'_>,
     asked: &str,
     due: &str,
-    tally: &mut Tally,
+    agreement: &mut Agreement,
 ) -> Done {
     let Some(look) = read_look(asked) else {
-        return tally.miss(row, "a look", asked);
+        return agreement.miss(row, "a look", asked);
     };
     let mut seen = String::new(alloc);
     draw_look(&mut seen, core, look)?;
-    tally.compare(row, due, seen.as_str())
+    agreement.compare(row, due, seen.as_str())
 }

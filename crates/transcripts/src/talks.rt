@@ -1,7 +1,7 @@
 //! The lines of talks.
+use crate::agreement::Agreement;
 use crate::escapes::push_line;
 use crate::scenes::Row;
-use crate::tally::Tally;
 use crate::words::{first_word, rest_of};
 use std::alloc::{AllocError, Global};
 
@@ -36,12 +36,12 @@ pub fn read_talk_line(text: &str) -> TalkLine<'_> {
 
 /// What a part of a talk sends, and what is due.
 #[derive(Drop)]
-pub struct Part<'t> {
+pub struct TalkPart<'t> {
     pub sent: Vec<u8>,
     pub dues: Vec<Row<'t>>,
 }
 
-impl<'t> Part<'t> {
+impl<'t> TalkPart<'t> {
     /// Takes a row. False where it is neither sent nor due, or has a wrong escape.
     fn take(&mut self, row: Row<'t>) -> Result<bool, AllocError> {
         match read_talk_line(row.text) {
@@ -60,16 +60,16 @@ pub fn gather<'t>(
     alloc: Global,
     first: &[u8],
     rows: &[Row<'t>],
-    tally: &mut Tally,
-) -> Result<Part<'t>, AllocError> {
-    let mut part = Part {
+    agreement: &mut Agreement,
+) -> Result<TalkPart<'t>, AllocError> {
+    let mut part = TalkPart {
         sent: Vec::new(alloc),
         dues: Vec::new(alloc),
     };
     part.sent.extend_from_slice(first)?;
     for row in rows {
         if !part.take(*row)? {
-            tally.miss(*row, "a line that is sent or due", row.text)?;
+            agreement.miss(*row, "a line that is sent or due", row.text)?;
         }
     }
     Ok(part)

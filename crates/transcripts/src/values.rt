@@ -1,9 +1,9 @@
 //! Answers and inputs as words.
 ghost use Rattle.std.specs.Prelude.{◌≤◌};
 
+use crate::agreement::Done;
 use crate::reader::ReaderAnswer;
-use crate::tally::Done;
-use crate::words::Words;
+use crate::words::LineWords;
 use jamboree::{Leaf, LeafAnswer};
 use othello_board::Board;
 use std::fmt::Debug;
@@ -12,12 +12,12 @@ use toys::FanAnswer;
 /// An answer that a computation gave, as the words of a text have it.
 pub trait FromWords: Drop + Sized {
     /// Reads the words; None where they are no answer.
-    fn from_words(words: &mut Words<'_>) -> Option<Self>;
+    fn from_words(words: &mut LineWords<'_>) -> Option<Self>;
 }
 
 /// What it was computed from, and its value.
 impl FromWords for FanAnswer {
-    fn from_words(words: &mut Words<'_>) -> Option<FanAnswer> {
+    fn from_words(words: &mut LineWords<'_>) -> Option<FanAnswer> {
         let asked = words.number()?;
         let value = words.number()?;
         Some(FanAnswer { asked, value })
@@ -26,27 +26,27 @@ impl FromWords for FanAnswer {
 
 /// A number that asks for itself.
 impl FromWords for u64 {
-    fn from_words(words: &mut Words<'_>) -> Option<u64> {
+    fn from_words(words: &mut LineWords<'_>) -> Option<u64> {
         words.number()
     }
 }
 
 /// A number that asks for itself.
 impl FromWords for ReaderAnswer {
-    fn from_words(words: &mut Words<'_>) -> Option<ReaderAnswer> {
+    fn from_words(words: &mut LineWords<'_>) -> Option<ReaderAnswer> {
         Some(ReaderAnswer(words.number()?))
     }
 }
 
 /// The leaf, whose answer is computed here.
 impl FromWords for LeafAnswer {
-    fn from_words(words: &mut Words<'_>) -> Option<LeafAnswer> {
+    fn from_words(words: &mut LineWords<'_>) -> Option<LeafAnswer> {
         Some(LeafAnswer::compute(read_leaf(words)?))
     }
 }
 
 /// A leaf: the words of the mover's and of the other's squares, the depth, alpha and beta; None where they are beyond their limits.
-fn read_leaf(words: &mut Words<'_>) -> Option<Leaf> {
+fn read_leaf(words: &mut LineWords<'_>) -> Option<Leaf> {
     let own = words.number()?;
     let opp = words.number()?;
     let board = Board::new(own, opp)?;
@@ -65,19 +65,19 @@ fn read_leaf(words: &mut Words<'_>) -> Option<Leaf> {
 }
 
 /// What a frame gives out to be computed, as a text.
-pub trait Input: Copy + Debug {
+pub trait DrawnInput: Copy + Debug {
     /// Appends it.
     fn draw(&self, text: &mut String) -> Done;
 }
 
-impl Input for u64 {
+impl DrawnInput for u64 {
     fn draw(&self, text: &mut String) -> Done {
         write!(text, "{self}")
     }
 }
 
 /// As it is read.
-impl Input for Leaf {
+impl DrawnInput for Leaf {
     fn draw(&self, text: &mut String) -> Done {
         let own = self.board.own;
         let opp = self.board.opp;

@@ -1,5 +1,5 @@
 //! Words and numbers of a line, words of rows, and lines of words.
-use crate::tally::Done;
+use crate::agreement::Done;
 use std::fmt::Write;
 
 /// The number that a word stands for: decimal digits, or `0o` and octal ones.
@@ -21,8 +21,8 @@ pub fn has_word(line: &str, word: &str) -> bool {
 }
 
 /// The words behind a word of a line.
-pub fn behind<'t>(line: &'t str, word: &str) -> Words<'t> {
-    let mut words = Words::of(line);
+pub fn behind<'t>(line: &'t str, word: &str) -> LineWords<'t> {
+    let mut words = LineWords::of(line);
     for _ in 0..line.len() {
         match words.word() {
             Some(first) if first != word => {}
@@ -44,14 +44,14 @@ pub fn small_option(line: &str, word: &str) -> Option<u32> {
 
 /// The words of a line that are not read yet. Words are parted by single spaces.
 #[derive(Clone, Copy)]
-pub struct Words<'t> {
+pub struct LineWords<'t> {
     rest: &'t str,
 }
 
-impl<'t> Words<'t> {
+impl<'t> LineWords<'t> {
     /// All words of a line.
-    pub fn of(line: &'t str) -> Words<'t> {
-        Words { rest: line }
+    pub fn of(line: &'t str) -> LineWords<'t> {
+        LineWords { rest: line }
     }
 
     /// Whether all words were read.
@@ -106,7 +106,7 @@ impl<'t> Words<'t> {
 
 /// The first word of a row; empty where it has none.
 pub fn first_word(row: &str) -> &str {
-    Words::of(row).word().unwrap_or("")
+    LineWords::of(row).word().unwrap_or("")
 }
 
 /// A row without its first word.

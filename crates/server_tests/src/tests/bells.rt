@@ -8,7 +8,7 @@ use hall::{DidOf, LeafAnswer, Outcome, StepOf, Worker};
 use othello_board::Board;
 use position_text::{Position, Side};
 use site_book::{Told, Who, Whom};
-use site_desk::{Seat, SiteDesk, SiteGuard};
+use site_desk::{SiteDesk, SiteGuard, SiteSeat};
 use std::alloc::Global;
 use std::process::Abort;
 use std::sync::Wait;
@@ -136,7 +136,7 @@ fn finish_all<R: Wait + Abort>(rt: &R, desk: &SiteDesk, from: u64, to: u64, seri
 }
 
 /// The seat of a guest of this number, which is its session's, that has asked for a job of one frame.
-fn asked<R: Wait + Abort>(rt: &R, desk: &SiteDesk, number: u32) -> Seat {
+fn asked<R: Wait + Abort>(rt: &R, desk: &SiteDesk, number: u32) -> SiteSeat {
     let mut seat = seat_of(rt, desk, Who::V4(number), 1_000).expect(rt, "there is room");
     holds(rt, seat.number() == u64::from(number));
     holds(rt, desk.ask(rt, &mut seat, &OPENING, 0) == Ok(1));
@@ -144,7 +144,7 @@ fn asked<R: Wait + Abort>(rt: &R, desk: &SiteDesk, number: u32) -> Seat {
 }
 
 /// A session waits for its first job, and is counted.
-fn waits<R: Wait>(rt: &R, desk: &SiteDesk, seat: Seat, watch: &Watch) {
+fn waits<R: Wait>(rt: &R, desk: &SiteDesk, seat: SiteSeat, watch: &Watch) {
     add(&watch.there);
     if let Ok(Outcome::Done(_)) = desk.wait(rt, &seat, 1, 1_000) {
         add(&watch.done);
@@ -158,7 +158,7 @@ fn start<'s, E, R: Wait + Abort + Sync>(
     rt: &'s R,
     desk: &'s SiteDesk,
     watch: &'s Watch,
-    seat: Seat,
+    seat: SiteSeat,
 ) {
     let started = scope.spawn(move || waits(rt, desk, seat, watch));
     holds(rt, started.is_ok());
@@ -199,7 +199,7 @@ fn is_waiting(number: u32) -> bool {
 }
 
 /// Jobs of a session that doesn't wait end, by a worker and by its own word.
-fn end_own<R: Wait + Abort + Clock>(rt: &R, desk: &SiteDesk, seat: &mut Seat) {
+fn end_own<R: Wait + Abort + Clock>(rt: &R, desk: &SiteDesk, seat: &mut SiteSeat) {
     let number = seat.number();
     for turn in 1..TURNS + 1 {
         holds(rt, desk.ask(rt, seat, &OPENING, 0) == Ok(2 * turn));
@@ -222,7 +222,7 @@ fn end_others<'s, E, R>(
 where
     R: Wait + Abort + Clock + CpuClock + Sync,
 {
-    let mut others: Vec<Seat> = Vec::new(alloc);
+    let mut others: Vec<SiteSeat> = Vec::new(alloc);
     for number in 1..LAST + 1 {
         let seat = asked(rt, desk, number);
         if is_waiting(number) {

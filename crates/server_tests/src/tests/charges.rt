@@ -6,14 +6,14 @@ use desk_rules::Backoff;
 use fair_pool::Hands;
 use hall::{LeafAnswer, Worker};
 use site_book::Who;
-use site_desk::{Seat, SiteDesk};
+use site_desk::{SiteDesk, SiteSeat};
 use std::process::Abort;
 use std::sync::Wait;
 use task_deques::deal;
 use task_deques::pool_rules::{Action, Holding, Task};
 
 /// The seat of a guest of this number that has asked for two jobs of one frame.
-fn asked_twice<R: Wait + Abort>(rt: &R, desk: &SiteDesk, number: u32) -> Seat {
+fn asked_twice<R: Wait + Abort>(rt: &R, desk: &SiteDesk, number: u32) -> SiteSeat {
     let mut seat = seat_of(rt, desk, Who::V4(number), 1_000).expect(rt, "there is room");
     for job in 1..3u64 {
         holds(rt, desk.ask(rt, &mut seat, &OPENING, 0) == Ok(job));

@@ -5,8 +5,8 @@ use crate::tests::{holds, spell};
 use fair_pool::FairShare;
 use hall::{Config, Hall};
 use line_io::{FromReader, FromWriter};
-use site_book::{Amount, Book, Comer, Plan, Who};
-use site_desk::{BookedHall, Entry, Seat, SiteDesk};
+use site_book::{Amount, Comer, CustomerBook, Plan, Who};
+use site_desk::{BookedHall, SeatOutcome, SiteDesk, SiteSeat};
 use site_office::{Cause, House, Met, Note, SiteOffice, serve_connection};
 use std::alloc::Global;
 use std::process::Abort;
@@ -51,7 +51,7 @@ pub(super) fn desk_of(
     let plan = Plan::new(totals, customers, guest, network, guests)?;
     let config = Config::new(segments, nodes)?;
     let (Ok(book), Ok(hall), Ok(shares)) = (
-        Book::new(alloc, plan),
+        CustomerBook::new(alloc, plan),
         Hall::new(alloc, config, 4),
         FairShare::new(alloc, 8),
     ) else {
@@ -87,7 +87,7 @@ struct TestHouse<'a, R> {
     /// How many lines are paid.
     paid: u32,
     is_crowded: bool,
-    other: Option<Seat>,
+    other: Option<SiteSeat>,
     /// What it was told, a letter each.
     told: Vec<u8>,
 }
@@ -198,7 +198,12 @@ fn guest_plays<R: Wait + Clock + Abort + AllocGlobal>(
 }
 
 /// A seat of a customer that came then.
-pub(super) fn seat_of<R: Wait + Abort>(rt: &R, desk: &SiteDesk, who: Who, at: u64) -> Option<Seat> {
+pub(super) fn seat_of<R: Wait + Abort>(
+    rt: &R,
+    desk: &SiteDesk,
+    who: Who,
+    at: u64,
+) -> Option<SiteSeat> {
     let ask = Reserve::new(8, 80)?;
     let comer = Comer {
         who,
@@ -207,13 +212,13 @@ pub(super) fn seat_of<R: Wait + Abort>(rt: &R, desk: &SiteDesk, who: Who, at: u6
         most: 60_000,
     };
     match desk.come(rt, &comer) {
-        Entry::Seated(seat) => Some(seat),
+        SeatOutcome::Seated(seat) => Some(seat),
         _ => None,
     }
 }
 
 /// Whose seat this is leaves.
-fn leaves<R: Wait + Abort>(rt: &R, desk: &SiteDesk, seat: Option<Seat>) {
+fn leaves<R: Wait + Abort>(rt: &R, desk: &SiteDesk, seat: Option<SiteSeat>) {
     desk.leave(rt, seat.expect(rt, "a seat"));
 }
 

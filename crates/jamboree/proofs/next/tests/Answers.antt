@@ -1,4 +1,4 @@
-use Rattle.jamboree.proofs.Common.{◌==◌, ◌≤◌, ◌&&◌, nat_lt, nat_le, slice_index, List, Bool, true, false, subst, sym, ◌∙◌, ap, arith, and_parts, lt-ltb, le-ltb, ltb-true, le-leb, lt-leb, length-map, length-drop, status_of, Act, first_open, tests, tests_from, View, Ends, Waits, act_for, frame_with, entries_of, statuses_in}
+use Rattle.jamboree.proofs.Common.{◌==◌, ◌≤◌, ◌&&◌, nat_lt, nat_le, slice_index, List, Bool, true, false, subst, sym, ◌∙◌, ap, arith, and_parts, lt-ltb, le-ltb, ltb-true, le-leb, lt-leb, length-map, length-drop, status_of, Act, first_open, tests, tests_from, FrameView, Ends, Waits, act_for, frame_with, entries_of, statuses_in}
 use Rattle.std.proofs.Common.{◌≡◌, ℕ, ◌+◌, ◌<◌, drop, length, refl}
 use Rattle.jamboree.proofs.ActLemmas.{tests-by}
 use Rattle.jamboree.proofs.next.tests.Goals as goal
@@ -37,7 +37,7 @@ search_again-requires-clause-inside c =
     inside w n c.args.frame.now.count c.requires.entries (ltb-true n (length (statuses_in w)) parts.0)
 
 -- what is next where no test has failed and no choice is left to be tested, by whether all are settled
-untested : (v : View) (w : List ℕ) (n : ℕ) (act : Act) (all : Bool) → length w ≡ 12 + v.count → n ≡ first_open (statuses_in w) →
+untested : (v : FrameView) (w : List ℕ) (n : ℕ) (act : Act) (all : Bool) → length w ≡ 12 + v.count → n ≡ first_open (statuses_in w) →
     (nat_lt n (length (statuses_in w)) && (slice_index (statuses_in w) n == 3)) ≡ false → v.count ≤ v.spawned → nat_le v.count n ≡ all →
     act ≡ tests false false all (frame_with v (entries_of w)) n → act ≡ tests_from (frame_with v (entries_of w)) (first_open (statuses_in w))
 untested v w n act all entries first quiet spawned settled next =

@@ -4,7 +4,7 @@ use Rattle.line_io.proofs.answering.answer_block.Goals as goal
 use Rattle.line_io.proofs.answering.answer_block.Goals.{then-byte-eq-LF+in_ok-answer_line, else-byte-eq-LF}
 
 pub loop-byte-init : goal.loop-byte-init
-loop-byte-init g c = Block-start g.K.Sink.takes g.A.Answer.answers _ _ _ _
+loop-byte-init g c = Block-start g.K.Sink.takes g.A.LineAnswerer.answers _ _ _ _
 
 pub returns-in_err-answer_line-clause-lines : goal.returns-in_err-answer_line-clause-lines
 returns-in_err-answer_line-clause-lines g c =

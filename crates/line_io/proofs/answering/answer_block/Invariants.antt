@@ -3,4 +3,4 @@ use Rattle.line_io.proofs.answering.answer_block.Given as goal
 
 abbrev pub invariant-loop-byte : goal.invariant-loop-byte
 invariant-loop-byte g l =
-    BlockSoFar g.K.Sink.takes g.A.Answer.answers l.initial.sink l.initial.answerer l.initial.cutter l.block l.byte-index l.sink l.answerer l.cutter
+    BlockSoFar g.K.Sink.takes g.A.LineAnswerer.answers l.initial.sink l.initial.answerer l.initial.cutter l.block l.byte-index l.sink l.answerer l.cutter

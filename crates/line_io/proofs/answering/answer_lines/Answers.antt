@@ -4,7 +4,7 @@ use Rattle.line_io.proofs.answering.answer_lines.Goals as goal
 
 pub loop-total-init : goal.loop-total-init
 loop-total-init g c =
-    Run-start g.S.Source.gives g.K.Sink.takes g.A.Answer.answers _ _ _ _ c.new-cutter.ensures
+    Run-start g.S.Source.gives g.K.Sink.takes g.A.LineAnswerer.answers _ _ _ _ c.new-cutter.ensures
 
 pub returns-in_err-count : goal.returns-in_err-count
 returns-in_err-count g c =

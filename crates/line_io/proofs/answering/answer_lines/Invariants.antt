@@ -4,7 +4,7 @@ use Rattle.line_io.proofs.answering.answer_lines.Given as goal
 
 abbrev pub invariant-loop-total : goal.invariant-loop-total
 invariant-loop-total g l =
-    RunSoFar g.S.Source.gives g.K.Sink.takes g.A.Answer.answers l.initial.source l.initial.sink l.initial.answerer l.total l.source l.sink l.answerer l.cutter
+    RunSoFar g.S.Source.gives g.K.Sink.takes g.A.LineAnswerer.answers l.initial.source l.initial.sink l.initial.answerer l.total l.source l.sink l.answerer l.cutter
 
 abbrev pub decreases-loop-total : goal.decreases-loop-total
 decreases-loop-total g l = 4611686018427387904 - l.total

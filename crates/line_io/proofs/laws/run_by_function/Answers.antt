@@ -4,4 +4,4 @@ use Rattle.line_io.proofs.laws.run_by_function.Goals as goal
 pub returns : goal.returns
 returns g c =
     λ answer same source source' sink sink' answerer answerer' r x.
-    Run-function g.A.Answer.answers (λ _. Unit {0}) answer (λ a line text b _ h. (same a line text b h, tt)) tt x
+    Run-function g.A.LineAnswerer.answers (λ _. Unit {0}) answer (λ a line text b _ h. (same a line text b h, tt)) tt x

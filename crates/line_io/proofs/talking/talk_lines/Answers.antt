@@ -9,7 +9,7 @@ not-false false e = absurd (true≢false (sym e))
 
 pub loop-init : goal.loop-init
 loop-init g c =
-    Talking-start g.A.Ends.ends g.S.Source.gives g.K.Sink.takes g.A.Answer.answers _ _ _ _ c.new-cutter.ensures
+    Talking-start g.A.Ends.ends g.S.Source.gives g.K.Sink.takes g.A.LineAnswerer.answers _ _ _ _ c.new-cutter.ensures
 
 pub returns-in_err-count : goal.returns-in_err-count
 returns-in_err-count g c =

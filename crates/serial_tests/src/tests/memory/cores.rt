@@ -5,7 +5,7 @@ use sched_core::{Core, Step, StepOf};
 use std::alloc::{Allocator, Global};
 use std::process::Abort;
 use tenant_quota::Left;
-use toys::{Counted, Fan};
+use toys::{CountedAlloc, Fan};
 
 /// An admission is run or not, which gives so many answers and leaves this of the tenant.
 fn runs<A: Allocator + Copy>(
@@ -23,7 +23,11 @@ fn runs<A: Allocator + Copy>(
 }
 
 /// An admission isn't run where memory for its answer is refused, and the next time it is.
-fn runs_the_next_time<A: Allocator + Copy>(rt: &impl Abort, alloc: A, counted: &Counted<Global>) {
+fn runs_the_next_time<A: Allocator + Copy>(
+    rt: &impl Abort,
+    alloc: A,
+    counted: &CountedAlloc<Global>,
+) {
     let core = made(alloc, config_of(rt, 64, 64), Fan::new());
     let mut core = core.expect(rt, "there is room");
     counted.refuse(1);
@@ -34,6 +38,6 @@ fn runs_the_next_time<A: Allocator + Copy>(rt: &impl Abort, alloc: A, counted: &
 /// Where memory for the answers is refused, `run` tries no step; the next time it does.
 #[test]
 fn a_run_without_memory_for_its_answers(rt: HostRuntime) {
-    let counted = Counted::new(rt.alloc());
+    let counted = CountedAlloc::new(rt.alloc());
     runs_the_next_time(&rt, &counted, &counted);
 }

@@ -139,6 +139,7 @@ const LONG_PLACE: u32 = 48;
 
 /// The places of a journal beside those for nodes, and those of long steps, as in hall/src/journal.rt.
 const BESIDE_NODES: u32 = 770;
+
 const LONGS_BESIDE_NODES: u32 = 513;
 
 /// What the hall shows of its first tenant and of its storage.

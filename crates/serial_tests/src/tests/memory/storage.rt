@@ -9,7 +9,7 @@ use segment_region::Region;
 use std::alloc::{AllocError, Allocator};
 use std::process::Abort;
 use std::test::Fail;
-use tenant_quota::{Book, Refusal};
+use tenant_quota::{Book, QuotaRefusal};
 
 /// A segment is written, and given back.
 #[test]
@@ -110,7 +110,12 @@ pub fn make_guesses<A: Allocator>(rt: &impl Abort, alloc: A) -> Result<(), Alloc
 }
 
 /// A tenant that isn't there reserves so many segments, and eight nodes.
-fn reserves(rt: &impl Abort, book: &mut Book, tenant: u64, segments: u32) -> Result<(), Refusal> {
+fn reserves(
+    rt: &impl Abort,
+    book: &mut Book,
+    tenant: u64,
+    segments: u32,
+) -> Result<(), QuotaRefusal> {
     holds(rt, book.left(tenant).is_none());
     book.reserve(tenant, reserve_of(rt, segments, 8))
 }
@@ -121,7 +126,10 @@ fn two_tenants_share_a_book(rt: HostRuntime) -> Result<(), Fail> {
     let mut book = Book::new(rt.alloc(), 8, 32)?;
     holds(&rt, reserves(&rt, &mut book, 1, 5) == Ok(()));
     holds(&rt, reserves(&rt, &mut book, 2, 3) == Ok(()));
-    holds(&rt, reserves(&rt, &mut book, 3, 1) == Err(Refusal::Full));
+    holds(
+        &rt,
+        reserves(&rt, &mut book, 3, 1) == Err(QuotaRefusal::Full),
+    );
     holds(&rt, book.left(1).is_some());
     holds(&rt, book.charge(1, 5, 1) == Ok(()));
     holds(&rt, book.left(1) == Some(left_of(0, 7, 128)));

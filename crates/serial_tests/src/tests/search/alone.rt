@@ -11,7 +11,7 @@ use solve_engine::{Searched, Way, search_within, solve_by_core};
 use std::alloc::{AllocError, Allocator, Global};
 use std::process::Abort;
 use tenant_quota::Reserve;
-use toys::Counted;
+use toys::CountedAlloc;
 
 /// Five squares are empty, White to move. It takes a corner, and wins by 26 discs.
 const NEAR_THE_END: &[u8; 66] =
@@ -32,6 +32,7 @@ fn solved<A: Allocator + Copy>(
 
 /// The nodes of that core, and the steps that it may take.
 const NODES: u32 = 65_536;
+
 const STEPS: u32 = 16 * NODES;
 
 /// Whether the search was done by its core.
@@ -157,7 +158,7 @@ fn each_growth_is_refused_in_turn(rt: HostRuntime) {
 }
 
 /// How often a search that is done by its core calls its allocator; 0 where it isn't.
-fn calls_of(counted: &Counted<Global>, depth: u8) -> u64
+fn calls_of(counted: &CountedAlloc<Global>, depth: u8) -> u64
     requires { depth ≤ 12 }
 {
     let before = counted.calls();
@@ -170,7 +171,7 @@ fn calls_of(counted: &Counted<Global>, depth: u8) -> u64
 /// What a search takes of its allocator doesn't grow with it: the core takes its memory when it is made.
 #[test]
 fn searches_take_no_memory(rt: HostRuntime) {
-    let counted = Counted::new(rt.alloc());
+    let counted = CountedAlloc::new(rt.alloc());
     let once = calls_of(&counted, 0);
     holds(&rt, once > 0);
     for depth in 1..5u8 {

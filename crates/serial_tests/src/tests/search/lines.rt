@@ -3,7 +3,7 @@
 use super::{given, holds, holds_at};
 use arrayvec::ArrayVec;
 use line_io::{
-    Answer, FromReader, FromWriter, Line, ReadFailed, Sink, Source, WriteFailed, answer_lines,
+    FromReader, FromWriter, Line, LineAnswerer, ReadFailed, Sink, Source, WriteFailed, answer_lines,
 };
 use std::alloc::Global;
 use std::cell::Cell;
@@ -23,7 +23,7 @@ impl Echo {
     }
 }
 
-impl Answer for Echo {
+impl LineAnswerer for Echo {
     ghost answers = { λ _ _ _ _. Unit {0} };
 
     ghost kept = { λ echo. echo.text.items };

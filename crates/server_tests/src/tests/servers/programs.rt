@@ -7,7 +7,7 @@ mod words;
 
 use super::{Host, holds};
 use crate::tests::spell;
-use commands::{Explained, Input, Output, Streams, run};
+use commands::{Explained, ProgramInput, ProgramOutput, Streams, run};
 use line_io::{FromReader, FromWriter, Sink};
 use std::alloc::Global;
 use std::io::{self, Error, ErrorKind, IsTerminal, Read, Write};
@@ -84,7 +84,7 @@ impl Write for Broken {
 }
 
 /// Does what the words ask for: the exit status. It says nothing of what `run` promises, so that a call is cheap to prove.
-fn status_of<S: Input, K: Output, E: Sink, R>(
+fn status_of<S: ProgramInput, K: ProgramOutput, E: Sink, R>(
     rt: &R,
     alloc: Global,
     words: &[&str],
@@ -98,7 +98,7 @@ where
 }
 
 /// The exit status with these streams, the output then, and what was said on the errors.
-fn ended<S: Input + Drop, K: Output, R>(
+fn ended<S: ProgramInput + Drop, K: ProgramOutput, R>(
     rt: &R,
     alloc: Global,
     words: &[&str],
@@ -114,7 +114,7 @@ where
 }
 
 /// The same with this input and this output.
-fn followed<S: Input + Drop, K: Output, R>(
+fn followed<S: ProgramInput + Drop, K: ProgramOutput, R>(
     rt: &R,
     alloc: Global,
     words: &[&str],

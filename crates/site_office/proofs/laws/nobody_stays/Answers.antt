@@ -1,10 +1,10 @@
-use Rattle.site_office.proofs.Common.{◌≡◌, ℕ, List, sym, ◌∙◌, LineText, Ghosts, Clerk, site_request, SiteTurned}
+use Rattle.site_office.proofs.Common.{◌≡◌, ℕ, List, sym, ◌∙◌, LineText, Ghosts, SiteClerk, site_request, SiteTurned}
 use Rattle.site_office.specs.declared.reception.Reception.{Ghosts as ReceptionGhosts}
 use Rattle.site_office.proofs.ClerkLemmas.{chain-holds, leaves, site-turned}
 use Rattle.site_office.proofs.laws.nobody_stays.Goals as goal
 
 -- how a clerk answers
-abbrev Answers-line : {O : Type 0} (office : Ghosts O) (reception : ReceptionGhosts O) → Clerk O office reception → LineText → List ℕ → Clerk O office reception → Type 0
+abbrev Answers-line : {O : Type 0} (office : Ghosts O) (reception : ReceptionGhosts O) → SiteClerk O office reception → LineText → List ℕ → SiteClerk O office reception → Type 0
 Answers-line office reception s line text t =
     (t.office.ghost_name ≡ s.office.ghost_name) × SiteTurned office.does reception.greets reception.pays reception.informs (site_request s.seated line) s.office.now s.seated text t.office.now t.seated
 

@@ -5,7 +5,7 @@ use super::*;
 use crate::tests::{holds, holds_of};
 use linked_list_allocator::LocalHeap;
 use std::process::Abort;
-use toys::Counted;
+use toys::CountedAlloc;
 
 /// What is refused memory.
 #[derive(Clone, Copy)]
@@ -58,8 +58,8 @@ fn is_returned<A: Allocator + Clone>(rt: &impl Abort, others: A, alloc: A) -> bo
 /// Which growth of this is refused in a heap, the first of which is 1; 0 where none is. What was had before it was
 /// given back, so that the calls are one less than twice the number of the growth.
 fn refused_at(rt: &impl Abort, ample: &LocalHeap, heap: &LocalHeap, growing: Growing) -> u64 {
-    let others = Counted::new(ample);
-    let counted = Counted::new(heap);
+    let others = CountedAlloc::new(ample);
+    let counted = CountedAlloc::new(heap);
     let is_made = match growing {
         Growing::Deal => is_dealt(rt, &counted),
         Growing::Return => is_returned(rt, &others, &counted),

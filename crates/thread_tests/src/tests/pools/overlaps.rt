@@ -91,7 +91,10 @@ fn overlaps_with_two_and_eight<S: Scenario, R: Threads + Wait + Sync>(
 /// The first computation of a pool goes on only once the second was begun.
 #[test]
 fn two_computations_overlap(rt: HostRuntime) {
-    holds(&rt, overlaps_with_two_and_eight(&rt, rt.alloc(), &TwoJobs, 1));
+    holds(
+        &rt,
+        overlaps_with_two_and_eight(&rt, rt.alloc(), &TwoJobs, 1),
+    );
 }
 
 /// One job of depth 1, asked once all workers have had time to fall asleep.
@@ -114,7 +117,10 @@ impl<C: Clock> Scenario for OneJob<'_, C> {
 /// computation waits, another worker begins the third.
 #[test]
 fn a_ready_frame_wakes_a_worker(rt: HostRuntime) {
-    holds(&rt, overlaps_with_two_and_eight(&rt, rt.alloc(), &OneJob { clock: &rt }, 2));
+    holds(
+        &rt,
+        overlaps_with_two_and_eight(&rt, rt.alloc(), &OneJob { clock: &rt }, 2),
+    );
 }
 
 /// A first seat's job is computed when the seat leaves, or cancels it; a second seat's job ends all the

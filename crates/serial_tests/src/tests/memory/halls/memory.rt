@@ -3,7 +3,7 @@ use super::*;
 use othello_eval::Valued;
 use promises::{entry_in, value_in};
 use std::alloc::Global;
-use toys::Counted;
+use toys::CountedAlloc;
 
 /// A second job of the second tenant is cancelled, and what can't be taken is refused.
 fn cancel<A: Allocator + Clone>(rt: &impl Abort, hall: &mut Hall<A>) {
@@ -50,7 +50,7 @@ fn have_ended<A: Allocator>(rt: &impl Abort, hall: &Hall<A>) {
 
 /// The allocator is called at the admissions of a tenant with few nodes and of one with enough, and not at what comes
 /// after them: both ask for the opening to depth 2, and each job is driven to its end.
-fn takes_no_more<A: Allocator + Clone>(rt: &impl Abort, alloc: A, counted: &Counted<Global>) {
+fn takes_no_more<A: Allocator + Clone>(rt: &impl Abort, alloc: A, counted: &CountedAlloc<Global>) {
     let hall = made(alloc, config_of(rt, 24, 96), 0);
     let mut hall = hall.expect(rt, "there is room");
     let alone = counted.calls();
@@ -69,7 +69,7 @@ fn takes_no_more<A: Allocator + Clone>(rt: &impl Abort, alloc: A, counted: &Coun
 /// Between the admissions and a Leave no step calls the allocator.
 #[test]
 fn no_step_but_an_admission_takes_memory(rt: HostRuntime) {
-    let counted = Counted::new(rt.alloc());
+    let counted = CountedAlloc::new(rt.alloc());
     takes_no_more(&rt, &counted, &counted);
 }
 

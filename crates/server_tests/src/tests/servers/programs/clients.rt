@@ -4,7 +4,7 @@ use super::served::has_many_sessions;
 use super::{followed, typed, written};
 use crate::tests::servers::{ASK_2, LAST, Row, SPENT, are_told, are_told_before_last, is_answered};
 use crate::tests::{Host, holds};
-use commands::Output;
+use commands::ProgramOutput;
 use line_io::{Sink, WriteFailed};
 use std::fs::Files;
 use std::net::{Net, TcpListener, TcpStream};
@@ -73,7 +73,7 @@ impl<R: Net<Stream = TcpStream> + Host + Files> Sink for Told<'_, R> {
     }
 }
 
-impl<R: Net<Stream = TcpStream> + Host + Files> Output for Told<'_, R> {
+impl<R: Net<Stream = TcpStream> + Host + Files> ProgramOutput for Told<'_, R> {
     fn is_closed(&self) -> bool {
         false
     }

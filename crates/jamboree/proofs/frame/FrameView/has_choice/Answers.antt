@@ -1,5 +1,5 @@
 use Rattle.jamboree.proofs.Common.{inl, inr, ⊎_elim, ap, arith, nat_tests, frame-told, phase_number, frame_in}
-use Rattle.jamboree.proofs.frame.View.has_choice.Goals as goal
+use Rattle.jamboree.proofs.frame.FrameView.has_choice.Goals as goal
 
 pub returns-in-First : goal.returns-in-First
 returns-in-First c =

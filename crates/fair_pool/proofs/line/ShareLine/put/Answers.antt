@@ -1,7 +1,7 @@
 use Rattle.fair_pool.proofs.Common.{rules, ◌≡◌, ◌∙◌, length-set}
 use Rattle.std.proofs.Common.{slice_index_or}
 use Rattle.fair_pool.proofs.NameLemmas.{names-put, names-stay}
-use Rattle.fair_pool.proofs.line.Line.put.Goals as goal
+use Rattle.fair_pool.proofs.line.ShareLine.put.Goals as goal
 
 pub invariant_of-self : goal.invariant_of-self
 invariant_of-self c = (

@@ -1,7 +1,7 @@
 use Rattle.site_book.proofs.Common.{length, ap, sym, subst, arith, length_push, IsKept}
 use Rattle.site_book.proofs.BookLemmas.{opened, pushed-is}
 use Rattle.site_book.proofs.Keepings.{kept-few}
-use Rattle.site_book.proofs.book.Book.open.Goals as goal
+use Rattle.site_book.proofs.book.CustomerBook.open.Goals as goal
 
 pub unwrap-requires : goal.unwrap-requires
 unwrap-requires c =

@@ -12,7 +12,7 @@ pub type Done = Result<(), AllocError>;
 
 /// How the rows that were played came out.
 #[derive(Drop)]
-pub struct Tally {
+pub struct Agreement {
     /// How many agree, up to 2^64 - 1.
     pub agreed: u64,
     /// How many don't, up to 2^64 - 1.
@@ -21,13 +21,13 @@ pub struct Tally {
     pub told: String,
 }
 
-impl Tally {
+impl Agreement {
     /// No row was played.
-    pub fn new(alloc: Global) -> Tally
+    pub fn new(alloc: Global) -> Agreement
         ensures agreed { result.agreed ≡ 0 }
         ensures missed { result.missed ≡ 0 }
     {
-        Tally {
+        Agreement {
             agreed: 0,
             missed: 0,
             told: String::new(alloc),

@@ -1,6 +1,6 @@
 //! The house of a connection's office: clock, keys and rates, and what it is told.
 use crate::counts::{NAMES, place_of};
-use crate::links::Talk;
+use crate::links::TalkState;
 use crate::shared::Shared;
 use crate::telling::log_refusal;
 use site_book::{Told, Who};
@@ -13,12 +13,12 @@ use std::time::Clock;
 
 /// The house of a connection's office.
 #[derive(Drop)]
-pub(crate) struct Caller<'a, R> {
+pub(crate) struct SiteHouse<'a, R> {
     pub(crate) rt: &'a R,
     pub(crate) alloc: Global,
     pub(crate) shared: &'a Shared,
     pub(crate) stream: Arc<TcpStream, Global>,
-    pub(crate) talk: &'a Talk,
+    pub(crate) talk: &'a TalkState,
     /// Whose the connection is, and where it comes from.
     pub(crate) own: Who,
     pub(crate) address: Address,
@@ -36,7 +36,7 @@ pub(crate) struct Caller<'a, R> {
     pub(crate) asked: u64,
 }
 
-impl<R: Clock + Wait> Caller<'_, R> {
+impl<R: Clock + Wait> SiteHouse<'_, R> {
     /// Its session has begun.
     fn begin(&mut self, number: u64, who: Who) {
         let took = self.shared.micros(self.rt).saturating_sub(self.asked);
@@ -96,7 +96,7 @@ impl<R: Clock + Wait> Caller<'_, R> {
     }
 }
 
-impl<R: Clock + Wait> House for Caller<'_, R> {
+impl<R: Clock + Wait> House for SiteHouse<'_, R> {
     fn now(&self) -> u64 {
         self.shared.now(self.rt)
     }

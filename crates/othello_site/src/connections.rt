@@ -4,29 +4,29 @@ use std::alloc::Global;
 
 /// How many connections count as a customer's.
 #[derive(Clone, Copy)]
-struct Tally {
+struct CustomerConnections {
     who: Who,
     connections: u32,
 }
 
 /// Those of each customer that has any.
 #[derive(Drop)]
-pub(crate) struct Tallies {
-    all: Vec<Tally>,
+pub(crate) struct ConnectionCounts {
+    all: Vec<CustomerConnections>,
 }
 
-impl Tallies {
+impl ConnectionCounts {
     /// Nobody has any.
-    pub(crate) fn new(alloc: Global) -> Tallies {
-        Tallies {
+    pub(crate) fn new(alloc: Global) -> ConnectionCounts {
+        ConnectionCounts {
             all: Vec::new(alloc),
         }
     }
 
-    /// The place of a customer's tally.
+    /// The place of a customer's count.
     fn place_of(&self, who: Who) -> Option<usize> {
-        for (place, tally) in self.all.iter().enumerate() {
-            if tally.who.is(who) {
+        for (place, own) in self.all.iter().enumerate() {
+            if own.who.is(who) {
                 return Some(place);
             }
         }
@@ -37,7 +37,7 @@ impl Tallies {
     pub(crate) fn of(&self, who: Who) -> u32 {
         match self.place_of(who) {
             Some(place) => match self.all.get(place) {
-                Some(tally) => tally.connections,
+                Some(own) => own.connections,
                 None => 0,
             },
             None => 0,
@@ -47,14 +47,14 @@ impl Tallies {
     /// A customer has one connection more; false where there is no memory to note it.
     pub(crate) fn arrive(&mut self, who: Who) -> bool {
         let Some(place) = self.place_of(who) else {
-            let tally = Tally {
+            let own = CustomerConnections {
                 who,
                 connections: 1,
             };
-            return self.all.push(tally).is_ok();
+            return self.all.push(own).is_ok();
         };
-        if let Some(tally) = self.all.get_mut(place) {
-            tally.connections = tally.connections.saturating_add(1);
+        if let Some(own) = self.all.get_mut(place) {
+            own.connections = own.connections.saturating_add(1);
         }
         true
     }
@@ -65,9 +65,9 @@ impl Tallies {
             return;
         };
         let mut is_last = false;
-        if let Some(tally) = self.all.get_mut(place) {
-            tally.connections = tally.connections.saturating_sub(1);
-            is_last = tally.connections == 0;
+        if let Some(own) = self.all.get_mut(place) {
+            own.connections = own.connections.saturating_sub(1);
+            is_last = own.connections == 0;
         }
         if is_last && place < self.all.len() {
             self.all.swap_remove(place);

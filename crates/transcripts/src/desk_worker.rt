@@ -14,7 +14,7 @@ use std::alloc::{Allocator, Global};
 use std::sync::Wait;
 
 /// The one worker of a desk.
-pub struct Crew<'a, L: DeskLedger, R: Wait, A: Allocator> {
+pub struct DeskWorker<'a, L: DeskLedger, R: Wait, A: Allocator> {
     rt: &'a R,
     desk: &'a Desk<L, A>,
     badge: Badge<L>,
@@ -27,9 +27,9 @@ pub struct Crew<'a, L: DeskLedger, R: Wait, A: Allocator> {
     pub is_closed: bool,
 }
 
-impl<L: DeskLedger, R: Wait, A: Allocator> Drop for Crew<'_, L, R, A> {
+impl<L: DeskLedger, R: Wait, A: Allocator> Drop for DeskWorker<'_, L, R, A> {
     fn drop(self) {
-        let Crew {
+        let DeskWorker {
             rt: _rt,
             desk: _desk,
             badge: _badge,
@@ -42,16 +42,16 @@ impl<L: DeskLedger, R: Wait, A: Allocator> Drop for Crew<'_, L, R, A> {
     }
 }
 
-impl<'a, L: DeskLedger, R: Wait, A: Allocator + Clone> Crew<'a, L, R, A> {
+impl<'a, L: DeskLedger, R: Wait, A: Allocator + Clone> DeskWorker<'a, L, R, A> {
     /// The worker of this number, with a badge of a desk at which no tenant was yet. None where the desk gives no badge.
     pub fn new(
         alloc: Global,
         rt: &'a R,
         desk: &'a Desk<L, A>,
         worker: Worker,
-    ) -> Option<Crew<'a, L, R, A>> {
+    ) -> Option<DeskWorker<'a, L, R, A>> {
         let badge = desk.badge(rt)?;
-        Some(Crew {
+        Some(DeskWorker {
             rt,
             desk,
             badge,

@@ -1,7 +1,7 @@
 use Rattle.site_book.proofs.Common.{length, ap, sym, subst, arith, IsKept}
 use Rattle.site_book.proofs.GrantLemmas.{length-without}
 use Rattle.site_book.proofs.Keepings.{kept-close}
-use Rattle.site_book.proofs.book.Book.close.Goals as goal
+use Rattle.site_book.proofs.book.CustomerBook.close.Goals as goal
 
 pub invariant_of-self : goal.invariant_of-self
 invariant_of-self c =

@@ -3,11 +3,11 @@ use Rattle.toys.proofs.Common.{◌≡◌, ℕ, ◌+◌, ◌^◌, ◌<◌, List, 
 use Rattle.toys.proofs.Ticks.{Tick, at_tick, Tick-goes, Tick-gives}
 use Rattle.toys.proofs.counting.tick.Symbol as c_sym
 use Rattle.toys.proofs.counting.tick.Met as c_met
-use Rattle.toys.specs.contracts.counting.Counted as wrapper
-use Rattle.toys.specs.contracts.counting.CountedAllocator.deallocate as F
-use Rattle.toys.specs.contracts.counting.CountedAllocator.deallocate.Key as key
-use Rattle.toys.proofs.counting.CountedAllocator.deallocate.Statement as stated
-use Rattle.toys.proofs.counting.CountedAllocator.deallocate.Code as code
+use Rattle.toys.specs.contracts.counting.CountedAlloc as wrapper
+use Rattle.toys.specs.contracts.counting.CountedAllocAllocator.deallocate as F
+use Rattle.toys.specs.contracts.counting.CountedAllocAllocator.deallocate.Key as key
+use Rattle.toys.proofs.counting.CountedAllocAllocator.deallocate.Statement as stated
+use Rattle.toys.proofs.counting.CountedAllocAllocator.deallocate.Code as code
 
 module _ (Z : Al) where
   abbrev args : Args

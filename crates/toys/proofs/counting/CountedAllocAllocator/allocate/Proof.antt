@@ -1,13 +1,13 @@
 -- It asks the inner allocator, and refuses where it is to. Assumes `Logic`.
 use Rattle.toys.proofs.Common.{◌≡◌, refl, sym, subst, true, false, ℕ, ◌<◌, ◌^◌, List, [], ◌∷◌, Option, Some, None, Ok, Err, Bor, Ura, Ty, Args, Fn, a_type, dnil, dcons, Val, vint, vptr, inst_fn, SProp, ent, Lft, Share, ftrue, flft, Memory, size, align, capped, Routine, WpFn, Tables, Logic, ◌⊑◌, ⊑_trans, Fun, fact, tables, tables_of, fm_of, WpFn-mono, stop, no_more, and_then, of_opd, returns, enter, yes, owns, shr_vals, bounded, param, uint_vals, uint_Tells, Slot, plain, types_at, heard, nothing, Ended, Clauses, triple_of, Triple, entered, Stays, stay_dropped, walk_of, ends_at, walked, Goes-dropped, walk_Meets, ‵, raw, ◌⊛◌, later, ◌$◌, ◌∵◌, !, qed, move, keep, use0, use1, use2, split, split3, join, fsplit, fjoin, suffices, await, done, alloc_all, pass_all, free_all, look_at, get, sets, lands_as, block_ptr, usize, RefOf, calls_at, Al, Answer, answer_val, Answer-typed, Answer-Ok, Answer-err, takes_key, Takes, at_takes, Answered, Takes-goes, Takes-gives, answers, token, T, place, has_ty, WT, layout, whole, agg, lit, holding, block_if_ok, by, Item, Seq, Go, ⋆, lands, at_ret, given, learn, some, pick, rewrite, any_q, Post as After, fld, first, exec, switches_on, vrt, in_variant, get_in, get_tag, lands_last, sets_last, env, Env, Wp, after_seq, at_return, calls_at_last, after, front, arm_body}
 use mir.Syntax.{w64}
-use Rattle.toys.specs.contracts.counting.CountedAllocator.allocate as F
-use Rattle.toys.specs.contracts.counting.CountedAllocator.allocate.Key as key
-use Rattle.toys.proofs.counting.CountedAllocator.allocate.Statement as stated
-use Rattle.toys.proofs.counting.CountedAllocator.allocate.Code as code
-use Rattle.toys.specs.contracts.counting.Counted as L
+use Rattle.toys.specs.contracts.counting.CountedAllocAllocator.allocate as F
+use Rattle.toys.specs.contracts.counting.CountedAllocAllocator.allocate.Key as key
+use Rattle.toys.proofs.counting.CountedAllocAllocator.allocate.Statement as stated
+use Rattle.toys.proofs.counting.CountedAllocAllocator.allocate.Code as code
+use Rattle.toys.specs.contracts.counting.CountedAlloc as L
 use Rattle.toys.proofs.Asked.{asked_key, Asks, at_asked, Told, shown_val, seen_if, Shown-typed, asked-goes, asked-gives}
-use Rattle.toys.proofs.counting.Counted.asked.Met as asked_met
+use Rattle.toys.proofs.counting.CountedAlloc.asked.Met as asked_met
 
 -- a value of the answer's type
 abbrev IsTyped : Val → Type 0
@@ -109,7 +109,7 @@ allocate_spec 𝓤 𝓛 𝓜 𝓡 wired Y L g d d' met _ =
     let 𝓣 : Tables 𝓤 𝓛.H = tables_of 𝓤 𝓛.H 𝓜 (tables 𝓤 𝓛.H 𝓜 𝓡 𝓡.env) in
     let c = F.clauses Y g d d' 𝓛 𝓜.mem 𝓡.returns in
     let wp = WpFn 𝓤 𝓛.H 𝓣.C 𝓣.Λ (here Z) in
-    let asks = asked_met.met 𝓤 𝓛 𝓜 𝓡 (code.calls-toys::counting::Counted::asked 𝓡.env wired) Y L in
+    let asks = asked_met.met 𝓤 𝓛 𝓜 𝓡 (code.calls-toys::counting::CountedAlloc::asked 𝓡.env wired) Y L in
     let sizes = Goes-dropped 𝓛 2 (plain (λ _. usize)) yes (λ κs x f. refl) in
     entered 𝓤 𝓛.H (triple_of 𝓛 (F.signature Y) (F.spec Y g d d' 𝓛 𝓜.mem 𝓡.returns)) 𝓣.C 𝓣.Λ (key.name (args Z)) (here Z)
     (code.unfolded 𝓤 𝓛.H 𝓜 𝓡 wired (Y, tt) d d')

@@ -1,6 +1,6 @@
 use Rattle.site_book.proofs.Common.{sym, subst, IsKept}
 use Rattle.site_book.proofs.BookLemmas.{replanned}
-use Rattle.site_book.proofs.book.Book.replan.Goals as goal
+use Rattle.site_book.proofs.book.CustomerBook.replan.Goals as goal
 
 pub invariant_of-self : goal.invariant_of-self
 invariant_of-self c =

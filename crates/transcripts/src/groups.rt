@@ -1,29 +1,29 @@
-//! Rows as turns: what is put in, and the lines that are due then.
+//! Rows as groups: what is put in, and the lines that are due then.
+use crate::agreement::Done;
 use crate::scenes::Row;
 use crate::talks::{TalkLine, read_talk_line};
-use crate::tally::Done;
 use std::alloc::Global;
 
 /// Rows that are put in together, and the lines that are due then.
 #[derive(Drop)]
-pub struct Turn<'t> {
+pub struct RowGroup<'t> {
     /// The last row so far: at first the scene's head.
     pub end: Row<'t>,
     pub given: Vec<Row<'t>>,
     pub dues: Vec<Row<'t>>,
 }
 
-impl<'t> Turn<'t> {
+impl<'t> RowGroup<'t> {
     /// No rows behind this head.
-    pub fn new(alloc: Global, head: Row<'t>) -> Turn<'t> {
-        Turn {
+    pub fn new(alloc: Global, head: Row<'t>) -> RowGroup<'t> {
+        RowGroup {
             end: head,
             given: Vec::new(alloc),
             dues: Vec::new(alloc),
         }
     }
 
-    /// Whether this row begins another turn. All that is sent in a talk is of one turn.
+    /// Whether this row begins another group. All that is sent in a talk is of one group.
     pub fn is_over(&self, row: Row<'t>) -> bool {
         match read_talk_line(row.text) {
             TalkLine::Nothing => !self.dues.is_empty(),

@@ -1,6 +1,6 @@
 use Rattle.site_book.proofs.Common.{length, ap, sym, subst, arith, IsKept}
 use Rattle.site_book.proofs.BookLemmas.{raised, length-with-ask}
-use Rattle.site_book.proofs.book.Book.raise.Goals as goal
+use Rattle.site_book.proofs.book.CustomerBook.raise.Goals as goal
 
 pub invariant_of-self : goal.invariant_of-self
 invariant_of-self c =

@@ -1,6 +1,6 @@
 use Rattle.site_book.proofs.Common.{rules}
 use Rattle.site_book.proofs.BookLemmas.{opens-room, few-seats}
-use Rattle.site_book.proofs.book.Book.why_not_open.Goals as goal
+use Rattle.site_book.proofs.book.CustomerBook.why_not_open.Goals as goal
 
 pub returns-clause-room : goal.returns-clause-room
 returns-clause-room c = opens-room _ _ c.args.self.now c.self.view_is c.self.invariant.0 c.args.who c.args.ask c.why_beyond.result (search rules)
