@@ -3,15 +3,18 @@
 
 usage: tools/dead_lemmas.py [CRATE..]
 
-What the code and wrong bodies name, and each written answer, is used; so is what a used declaration names. The rest is listed. Names
-are compared as words, so a dead lemma that shares its name with a used one isn't found.
+What the code and wrong bodies import or cite, and each written answer, is used; so is what a used declaration names. A name stands for
+what its file declares or imports under it. The rest is listed. (Within a file names are compared as words: a lemma that shares its name
+with a variable or a field there counts as used.)
 """
+import functools
 import pathlib
 import re
 import sys
 
 TOP = pathlib.Path(__file__).resolve().parent.parent
 WORD = re.compile(r"[^\s(){}\[\],;.@`\"]+")
+IMPORT = re.compile(r"\buse (Rattle\.\S+)\.\{([^}]*)\}")
 ANSWERS = ("Answers", "Invariants", "Proof")
 
 
@@ -20,14 +23,27 @@ def bare(line):
     return re.sub(r"(^|\s)--(\s.*)?$", "", line)
 
 
+def imports_in(text):
+    """Of each name that is imported: the module and the name there."""
+    found = {}
+    for module, names in IMPORT.findall(text):
+        for name in filter(None, (it.strip() for it in names.split(","))):
+            there, _, here = name.partition(" as ")
+            found[here or there] = (module, there)
+    return found
+
+
 class File:
-    """A file of declarations: for each the name, the first line and the line behind the last."""
+    """A file of declarations: for each the name, the first line and the line behind the last; and what it imports."""
 
     def __init__(self, path):
         self.path, self.lines = path, path.read_text().split("\n")
+        self.module = ".".join(["Rattle", *path.relative_to(TOP / "crates").with_suffix("").parts])
         # (what the prover asks for stands in a folder of its own, and so does what makes a type Send or Sync)
         self.is_answer = path.parts[-2] != "proofs" and (path.stem in ANSWERS or path.parts[-2].startswith("The"))
-        self.items, self.imported, self.heads = [], {}, ""
+        text = "\n".join(map(bare, self.lines))
+        self.items, self.imported, self.heads = [], imports_in(text), ""
+        self.modules = [(alias, module, bool(passed_on)) for passed_on, module, alias in re.findall(r"\b(pub )?use (Rattle\.\S+) as (\w+)", text)]
         depth, at, header = 0, 0, None
         while at < len(self.lines):
             line = bare(self.lines[at])
@@ -43,15 +59,12 @@ class File:
                 continue
             if line.strip() and indent < depth:
                 depth = indent
-            if line.strip() and indent == depth and not re.match(r"\s*((pub )?(module|use|mod|open|unfolding)\s|[#)}\]])", line):
+            if line.strip() and indent == depth and not re.match(r"\s*((unfoldable )?(pub )?(module|use|mod|open|unfolding)\s|[#)}\]])", line):
                 name = re.match(r"(?:(?:pub|abbrev|unfoldable|opaque|data|record|ruleset)\s+)*(\S+)", line.strip())[1]
                 if not self.items or self.items[-1][0] != name:
                     self.items.append([name, at, at + 1])
             if self.items and line.strip() and (indent > depth or line.split()[0] == self.items[-1][0] or line.strip()[0] in ")}]"):
                 self.items[-1][2] = at + 1
-            for found in re.finditer(r"^(?:pub )?use (\S+)\.\{([^}]*)\}", line.strip()):
-                for name in found[2].split(","):
-                    self.imported[name.split(" as ")[-1].strip()] = found[1]
             at += 1
 
     def text(self, item):
@@ -67,33 +80,77 @@ def names_in(text):
     return set(WORD.findall(text))
 
 
+def words_behind(alias, text):
+    return re.findall(rf"\b{alias}\.({WORD.pattern})", text)
+
+
 def is_named(name, words):
     return all(it in words for it in name.split("◌") if it) if "◌" in name else name in words
+
+
+class Names:
+    """What names stand for: where each is declared, through imports that are passed on and modules under another name."""
+
+    def __init__(self, files):
+        self.files = {it.module: it for it in files}
+        self.declared = {(it.module, item[0]) for it in files for item in it.items}
+        passed_on = ((it.module.removesuffix(".Lib"), *module) for it in files for module in it.modules)
+        self.aliases = {f"{here}.{alias}": module for here, alias, module, is_passed_on in passed_on if is_passed_on}
+
+    @functools.cache
+    def plain(self, module):
+        for alias, stands_for in self.aliases.items():
+            if f"{module}.".startswith(f"{alias}."):
+                return self.plain(stands_for + module[len(alias) :])
+        return module
+
+    def place(self, module, name):
+        """Where this name of a module is declared; None where no file here declares it."""
+        module = self.plain(module)
+        while (module, name) not in self.declared:
+            file = self.files.get(module)
+            if file is None or name not in file.imported:
+                return None
+            module, name = file.imported[name]
+            module = self.plain(module)
+        return module, name
+
+    def named(self, file, text):
+        """What a text of this file names."""
+        words = names_in(text)
+        own = [(file.module, it[0]) for it in file.items if is_named(it[0], words)]
+        imported = [self.place(*it) for name, it in file.imported.items() if is_named(name, words)]
+        behind = [self.place(module, it) for alias, module, _ in file.modules if alias in words for it in words_behind(alias, text)]
+        return {*own, *imported, *behind}
 
 
 def dead(crates):
     every = sorted(it.name for it in (TOP / "crates").iterdir() if it.is_dir())
     files = [it for crate in every for it in files_of(crate)]
+    names = Names(files)
     used = set()
     for crate in every:
         for path in [*(TOP / "crates" / crate / "src").rglob("*.rt"), *(TOP / "crates" / crate).glob("*/*.edit")]:
-            used |= names_in(re.sub(r"//.*|[:&#<>|!]", " ", path.read_text()))
+            text = path.read_text()
+            used |= {names.place(*it) for it in imports_in(text).values()}
+            for owner, module, name in re.findall(r"(\w+)::proofs::(\w+(?:::\w+)*)::(\w+)", text):
+                used.add(names.place(f"Rattle.{crate if owner == 'crate' else owner}.proofs.{module.replace('::', '.')}", name))
     rest = []
     for file in files:
-        used |= names_in(file.heads)
+        used |= names.named(file, file.heads)
         for item in file.items:
             if file.is_answer:
-                used |= names_in(file.text(item))
+                used |= names.named(file, file.text(item))
             else:
-                rest.append((file, item, names_in(file.text(item))))
+                rest.append((file, item, names.named(file, file.text(item))))
     grows = True
     while grows:
         grows, left = False, []
-        for file, item, words in rest:
-            if is_named(item[0], used):
-                grows, used = True, used | words
+        for file, item, named in rest:
+            if (file.module, item[0]) in used:
+                grows, used = True, used | named
             else:
-                left.append((file, item, words))
+                left.append((file, item, named))
         rest = left
     lines = 0
     for file, item, _ in rest:

@@ -15,7 +15,7 @@ module _ (old new : Segments) where
   blocks-agrees [] agrees blocks = tt
   blocks-agrees (s ∷ segments) agrees blocks = grind (arith, blocks-agrees segments agrees.1 blocks.2)
 
-  -- what is kept where a list lacks it is the same on segments that the list shares none of
+  -- where new keeps each taken segment that 'changed' lacks, both agree on taken segments that share none with it
   pub agrees-apart : (changed segments : List ℕ) → ((s : ℕ) → IsTaken old s → Lacks changed s → segment_at new s ≡ segment_at old s) → AllBlocks old segments → AreApart segments changed → AgreesOn old new segments
   agrees-apart changed [] kept blocks apart = tt
   agrees-apart changed (s ∷ segments) kept blocks apart =
@@ -171,7 +171,7 @@ pub blocks-link : (region : Segments) (xs : List ℕ) (n : ℕ) (link : Option �
 blocks-link region [] n link blocks = tt
 blocks-link region (x ∷ xs) n link blocks = grind (arith, blocks-link region xs n link blocks.2, taken-write, words_at-link)
 
--- What a sound list gives.
+-- How many segments words are charged; the front of a chain.
 
 pub charge-some : (len : ℕ) → 0 < len → 0 < charge len
 charge-some len some = omega arith
@@ -219,7 +219,7 @@ len-of-node region n len parent h5 = grind arith
 pub node_in-some : (region : Segments) (n len : ℕ) (parent : Option ℕ) → 0 < len → node_in region n len parent ≡ Some (record { parent = parent; words = words_in_chain region n len })
 node_in-some region n len parent h5 = grind arith
 
--- What a sound list has, and its segments.
+-- What a sound list has: its length, and the segment in which each of its words lies.
 module _ {region : Segments} {n len : ℕ} (sound : IsSoundList region n len) where
   pub length-sound : length (content region (segments_of region n len)) ≡ 16 * charge len
   length-sound = grind (arith, length-content)

@@ -1,5 +1,5 @@
--- What the laws say, by induction.
-use Rattle.cactus_stack.proofs.Common.{◌≡◌, ◌≢◌, ℕ, zero, suc, ◌+◌, ◌<◌, List, [], ◌∷◌, length, map, sum_by, AllPairs, Option, None, Some, Contains, get_or, refl, sym, ap, ◌∙◌, arith, get_or-set_other, IsSome, ◌-◌, ◌≤◌, min, take, drop, inl, inr, get_or-set_same, set, sum_by-cons, Node, Nodes, charge_of, total_charge, node_at, node_words, node_parent, IsSight, IsPath, with_node, without, parent_of_node, IsOpen, HasNoChild, HasAllChildren, with_node_words, get_or-take, length-take-le, cases_eq, place_at, IsUnder, IsForest, sight_within, IsWholeSight, Place, set-holds}
+-- What the laws say, by induction; and how many words a new node has.
+use Rattle.cactus_stack.proofs.Common.{◌≡◌, ◌≢◌, ℕ, zero, suc, ◌+◌, ◌<◌, List, [], ◌∷◌, length, map, sum_by, AllPairs, Option, None, Some, Contains, get_or, refl, sym, ap, ◌∙◌, arith, get_or-set_other, IsSome, ◌-◌, ◌≤◌, min, take, drop, inl, inr, get_or-set_same, set, sum_by-cons, Node, Nodes, charge_of, total_charge, node_at, node_words, node_parent, IsSight, IsPath, with_node, without, parent_of_node, IsOpen, HasNoChild, HasAllChildren, with_node_words, get_or-take, length-take-le, cases_eq, place_at, IsUnder, IsForest, sight_within, IsWholeSight, Place, set-holds, replicate, length-append, length-replicate, padded}
 
 none-at : (nodes : Nodes) (n : ℕ) → node_at (set nodes n None) n ≡ None
 none-at [] n = refl
@@ -54,6 +54,10 @@ module _ (nodes : Nodes) where
       let differs : n ≢ other = λ e. not (0, omega arith, path.0 ∙ e) in
       let same : node_at (set nodes other entry) n ≡ node_at nodes n = get_or-set_other nodes other n entry None differs in
       rw same (sight.0, sight.1, beside-path (node_parent nodes n) numbers levels other entry path.2 (λ is. not (suc is.0, omega (arith, is.1), is.2)) sight.2)
+
+-- how many words a new node has
+pub length-padded : (words : List ℕ) (size : ℕ) → length words ≤ size → length (padded words size) ≡ size
+length-padded words size room = omega (arith, length-append words (replicate (size - length words) 0), length-replicate {A = ℕ} (size - length words) 0)
 
 -- what is charged when nodes go
 

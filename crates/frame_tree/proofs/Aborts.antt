@@ -20,6 +20,7 @@ abbrev pub AllStay : {T : Type 0} → (ℕ → Bool) → List (Slot T) → Type 
 AllStay keep [] = Unit {0}
 AllStay keep (x ∷ xs) = (keep x.serial ≡ true) × AllStay keep xs
 
+-- where all slots pass a test of serials, and what filters by it leave
 module _ {T : Type 0} (keep : ℕ → Bool) where
   all-stay : (n : ℕ) (frames : List (Frame T)) (xs : List (Slot T)) → FollowsBy keep n xs → child_slots n xs ≡ [] → IsLinked frames xs →
       ((p : ℕ) → has_frame frames p ≡ true → keep p ≡ true) → AllStay keep xs
@@ -43,6 +44,7 @@ module _ {T : Type 0} (keep : ℕ → Bool) where
   filter-none [] s = refl
   filter-none (x ∷ xs) s = rw s.0 (filter-none xs s.1)
 
+-- an abort at a frame n without a child leaves every frame, and no value is under it
 module _ {T : Type 0} (n : ℕ) (xs : List (Slot T)) (l : IsLinked [] xs) (none : count_in xs n ≡ 0) where
   stay : AllStay (stays_in n xs) xs
   stay = all-stay (stays_in n xs) n [] xs (abort-follows n xs l) (none-of-length (child_slots n xs) none) l (λ p has. absurd (false≢true has))
@@ -50,8 +52,8 @@ module _ {T : Type 0} (n : ℕ) (xs : List (Slot T)) (l : IsLinked [] xs) (none 
   pub leaf-aborted : aborted n (frames_from [] xs) ≡ frames_from [] xs
   leaf-aborted = sym (kept_slots-frames n xs l) ∙ ap (frames_from []) (filter-all (stays_in n xs) xs stay)
 
-  pub leaf-under : values_of (frames_under n (frames_from [] xs)) ≡ []
-  leaf-under = sym (gone_values-frames n xs l) ∙ ap (map (λ x. x.value)) (filter-none (stays_in n xs) xs stay)
+  pub leaf-none-under : values_of (frames_under n (frames_from [] xs)) ≡ []
+  leaf-none-under = sym (gone_values-frames n xs l) ∙ ap (map (λ x. x.value)) (filter-none (stays_in n xs) xs stay)
 
 -- What stands up to an aborted frame stays.
 
@@ -79,6 +81,7 @@ early-slot slab before (j ∷ keys) (suc i) n k x h rise lt at has is =
     let long = slots_in-length slab (before ++ j ∷ []) keys h.1 in
     grind (arith, found.1, long, above-at (slots_in slab keys) found.0.slot.serial i, early-slot slab (before ++ j ∷ []) keys i n k x)
 
+-- the slots before the place of the aborted one stay, and none of them is marked
 module _ {T : Type 0} (n : ℕ) (slab : Slab (StoredSlot T)) (keys : List ℕ) (i : ℕ) (h : AllHere slab [] keys) (l : IsLinked [] (slots_in slab keys))
     (lt : i < length (slots_in slab keys)) (at : slice_index (serials_of (slots_in slab keys)) i ≡ n) where
   early-staying : (k : ℕ) (x : StoredSlot T) → has_number (take i keys) k ≡ true → get slab k ≡ Some x →
@@ -109,10 +112,10 @@ pub record CutsReady {T : Type 0} (xs zs : List (TenantSlot T)) (i n places : �
   pub room : length (filter (λ frame. nat_lt frame.serial n) frames) + length zs ≤ places + i
   pub ready : filter (λ frame. nat_lt frame.serial n) frames ++ ready_in (drop i zs) ≡ ready_in zs
 
--- the slot that was read with no child counted, and what is ready after an abort at it
+-- the slot at place i is written back with no child counted: the serial there stays n; and what is ready after an abort at it
 module _ {T : Type 0} {xs : List (TenantSlot T)} {count i n : ℕ} {slot : TenantSlot T} (s : AreSoundSlots xs count) (seen : IsSeenAt xs n i slot) where
-  pub childless-at : slice_index (serials_of (set xs i (childless slot))) i ≡ n
-  childless-at = ap (λ ns. slice_index ns i) (cleared s seen).serials ∙ seen.named
+  pub childless-serial : slice_index (serials_of (set xs i (childless slot))) i ≡ n
+  childless-serial = ap (λ ns. slice_index ns i) (cleared s seen).serials ∙ seen.named
 
   pub cut-ready : {frames : List ReadyFrame} {places : ℕ} → frames ≡ ready_in xs → length xs ≤ places →
       CutsReady xs (kept_slots n (set xs i (childless slot))) i n places frames
@@ -122,7 +125,7 @@ module _ {T : Type 0} {xs : List (TenantSlot T)} {count i n : ℕ} {slot : Tenan
       let lt : i < length ys = omega (arith, (cleared s seen).long, seen.within) in
       let front : length (take i ys) ≡ i = length-front i ys (omega arith) in
       let linked = cut-linked s seen in
-      let stay = early-stay (stays_in n ys) ys i n (linked_rises [] ys linked) lt childless-at (λ s low. kept-low n s ys linked low) in
+      let stay = early-stay (stays_in n ys) ys i n (linked_rises [] ys linked) lt childless-serial (λ s low. kept-low n s ys linked low) in
       let stays : TenantSlot T → Bool = λ x. stays_in n ys x.serial in
       let rest : List (TenantSlot T) = filter stays (drop i ys) in
       let parts : zs ≡ take i ys ++ rest = ap (filter stays) (sym (take-append-drop i ys)) ∙ filter-append stays (take i ys) (drop i ys)

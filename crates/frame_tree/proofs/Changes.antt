@@ -14,7 +14,7 @@ use Rattle.frame_tree.proofs.Finds.{count_in, CountsAre-same, CountsAre-append, 
 use Rattle.frame_tree.proofs.Finds.{length-filter-set, length-filter-remove, CountsAre-with_child, CountsAre-without_child, no-child-of-new, no-child-stays}
 use Rattle.frame_tree.proofs.Finds.{children-stay, counts-below, counted-at, root_under-path, children_of-length, frames_from-length, none-of-length}
 use Rattle.frame_tree.specs.SlotStores.{new_slot}
-use Rattle.frame_tree.proofs.TreeLaws.{missing}
+use Rattle.frame_tree.proofs.TreeLaws.{missing, below-found}
 
 -- a change that keeps the serial, parent and root of each slot
 module _ {T : Type 0} (n : ℕ) (change : Slot T → Slot T) (serial : (x : Slot T) → (change x).serial ≡ x.serial)
@@ -140,16 +140,11 @@ pub record HasLost {T : Type 0} (xs ys : List (Slot T)) (slot : Slot T) : Type 0
   pub counts : (m : ℕ) → count_in ys m + cond (is_serial m slot.parent) 1 0 ≡ count_in xs m
   pub parent : has_parent_slot ys slot.parent ≡ true
 
--- what is below all of a list's bound
-pub below-bound : {T : Type 0} (frames : List (Frame T)) (m p : ℕ) → AllBelow m frames → has_frame frames p ≡ true → p < m
-below-bound [] m p b h = absurd (false≢true h)
-below-bound (f ∷ fs) m p b h = grind (arith, below-bound fs m p)
-
 -- the parent of a slot that was read has a lower serial, and a slot
 pub parent-below : {T : Type 0} (frames : List (Frame T)) (xs : List (Slot T)) (i : ℕ) (slot : Slot T) (p : ℕ) → IsLinked frames xs → i < length xs →
     slot ≡ get_or xs i slot → slot.parent ≡ Some p → (p < slot.serial) × ((has_frame frames p || has_slot xs p) ≡ true)
 parent-below frames [] i slot p l lt is parent = absurd (omega arith)
-parent-below frames (x ∷ xs) zero slot p l lt is parent = grind (arith, below-bound)
+parent-below frames (x ∷ xs) zero slot p l lt is parent = grind (arith, below-found)
 parent-below frames (x ∷ xs) (suc i) slot p l lt is parent = grind (arith, parent-below (next_to frames x) xs i slot p, has_frame-append)
 
 -- the count of children in a slot that is there
@@ -198,6 +193,7 @@ module _ {T : Type 0} {xs : List (Slot T)} {ready : ℕ} (s : AreSoundSlots xs r
         ready_count = omega (arith, more, same.chosen (λ x. is_ready x.state) (λ x k. refl), s.ready_count);
       }
 
+-- the frames after one was added; and a leaf's slots
 module _ {T : Type 0} (xs : List (Slot T)) (serial : ℕ) where
   pub added-frames : (home : ℕ) (parent : Option ℕ) (value : T) → frames_from [] (with_child parent xs ++ new_slot xs serial parent home value ∷ []) ≡ frames_from [] xs ++ new_frame (frames_from [] xs) serial parent home value ∷ []
   added-frames home parent value = rw (frames_from-push [] (with_child parent xs) (new_slot xs serial parent home value), (recount-more parent xs).frames) refl

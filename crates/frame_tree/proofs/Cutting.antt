@@ -20,6 +20,7 @@ pub all-there : {T : Type 0} (slab : Slab (StoredSlot T)) (before keys : List �
 all-there slab before [] h = tt
 all-there slab before (k ∷ keys) h = (here-contains slab before k h.0, all-there slab (before ++ k ∷ []) keys h.1)
 
+-- a filter leaves the keys that pass it
 module _ (keep : ℕ → Bool) where
   has_number-filter : (keys : List ℕ) (a : ℕ) → has_number keys a ≡ true → keep a ≡ true → has_number (filter keep keys) a ≡ true
   has_number-filter [] a has kept = absurd (false≢true has)
@@ -33,6 +34,7 @@ module _ (keep : ℕ → Bool) where
   apart-filter [] a = tt
   apart-filter (k ∷ keys) a = grind (arith, apart-filter keys, no-key-filter)
 
+-- a list of keys with one more in front
 module _ (k : ℕ) where
   pub head-key : (keys : List ℕ) → has_number (k ∷ keys) k ≡ true
   head-key keys = rw (eq-eqb k k refl) refl
@@ -122,6 +124,7 @@ pub record HasCut {T : Type 0} (under : ℕ) (old marked new : Slab (StoredSlot 
   pub kept : left ≡ filter (is_left marked) order
   pub swept : (key : ℕ) → get new key ≡ swept_in marked order key
 
+-- what a cut leaves: the slots that don't stay are marked, and the others are as before
 module _ {T : Type 0} {under : ℕ} {old marked new : Slab (StoredSlot T)} {order left : List ℕ} (c : HasCut under old marked new order left) where
   pub cut-marks : OfEach old order (λ k x. get marked k ≡ Some (record x { marked = not (stays_in under (slots_in old order) x.slot.serial) }))
   cut-marks k x has is = c.marks k ∙ (rw (is, has) refl)
@@ -273,6 +276,7 @@ pub record IsParentKey {T : Type 0} (slab : Slab (StoredSlot T)) (keys : List �
   pub key_at : IsKeyAt slab keys name at key
   pub found : get slab key ≡ Some kept
 
+-- the key of a slot's parent is the one that is known
 module _ {T : Type 0} (slab : Slab (StoredSlot T)) (keys : List ℕ) (parent above : Option ℕ) where
   pub parent-key : (key : ℕ) → above ≡ Some key → AreKeys slab keys → KnowsParent slab keys parent above → IsParentKey slab keys parent key
   parent-key key is are k = of parent are (rw is at k)

@@ -24,6 +24,7 @@ module _ {T : Type 0} where
   parent_of-path_under frames None serial ends h = refl
   parent_of-path_under frames (Some p) serial ends h = parent_of-append (path_in frames p) p serial (EndsIn-path_in frames p ends h)
 
+  -- the frame of a slot that was seen after some frames is found
   pub found : (frames : List (Frame T)) (xs : List (Slot T)) (i serial : ℕ) (slot : Slot T) → IsLinked frames xs → AllEnd frames → IsSeenAt xs serial i slot →
       (path : List ℕ) × IsFound (frames_from frames xs) slot serial path
   found frames [] i serial slot l ends seen = absurd (omega (arith, seen.within))
@@ -35,7 +36,7 @@ module _ {T : Type 0} where
       let rest = found (next_to frames x) xs i serial slot l.1 (AllEnd-next frames x ends) next in
       (rest.0, record { at = rw differs rest.1.at; parent = rest.1.parent; root = rest.1.root; same = rw differs rest.1.same })
 
-  -- so is that of a slot that was read
+  -- the same, where no frames come before
   pub seen-frame : {xs : List (Slot T)} {i serial : ℕ} {slot : Slot T} → IsLinked [] xs → IsSeenAt xs serial i slot →
       (path : List ℕ) × IsFound (frames_from [] xs) slot serial path
   seen-frame {xs = xs} {i} {serial} {slot} l seen = found [] xs i serial slot l tt seen
@@ -103,7 +104,7 @@ root_under-path xs (Some p) serial l h =
 abbrev pub IsNewest : {T : Type 0} → ℕ → List (Frame T) → FrameId × ℕ → Type 0
 IsNewest tenant frames ready = (ready.0.tenant ≡ tenant) × IsReadyAt (frame_at frames ready.0.serial) ready.1
 
--- what is above all serials is not the newest ready
+-- the newest ready frame is above what all slots are above
 module _ {T : Type 0} (tenant : ℕ) where
   pub newest-above : (serial : ℕ) (xs : List (Slot T)) (ready : FrameId × ℕ) → AllAbove serial xs → newest_in tenant xs ≡ Some ready → serial < ready.0.serial
   newest-above serial [] ready above is = absurd (none-some ready is)

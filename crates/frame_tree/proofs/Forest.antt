@@ -20,7 +20,7 @@ stays_in under xs = is_kept under (frames_from [] xs)
 abbrev pub ArePathsOf : {T : Type 0} → List (Frame T) → List (Frame T) → Type 0
 ArePathsOf all frames = (p : ℕ) → has_frame frames p ≡ true → path_in all p ≡ path_in frames p
 
--- what is above the last of some frames is above that one
+-- a serial is above two lists joined exactly where it is above each
 module _ {T : Type 0} (serial : ℕ) where
   pub AllBelow-append : (xs ys : List (Frame T)) → AllBelow serial xs → AllBelow serial ys → AllBelow serial (xs ++ ys)
   AllBelow-append [] ys p q = q
@@ -152,7 +152,7 @@ module _ {T : Type 0} where
   has_slot-found (s ∷ slots) zero serial lt is = grind (arith, is)
   has_slot-found (s ∷ slots) (suc i) serial lt is = grind (arith, has_slot-found slots i serial)
 
-  -- a serial above another, at a place
+  -- the serial at a place is above what all are above
   pub above-at : (slots : List (Slot T)) (serial k : ℕ) → AllAbove serial slots → k < length slots → serial < slice_index (serials_of slots) k
   above-at [] serial k above lt = absurd (omega arith)
   above-at (s ∷ slots) serial zero above lt = above.0

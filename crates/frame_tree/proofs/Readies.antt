@@ -41,6 +41,7 @@ abbrev pub named : ℕ → Option ReadyFrame → Option (FrameId × ℕ)
 named tenant None = None
 named tenant (Some frame) = Some (record { tenant = tenant; serial = frame.serial }, frame.home)
 
+-- the newest ready frame is the last of the ready ones
 module _ {T : Type 0} (tenant : ℕ) where
   pub newest_in-ready : (xs : List (Slot T)) → newest_in tenant xs ≡ named tenant (last_ready (ready_in xs))
   newest_in-ready [] = refl

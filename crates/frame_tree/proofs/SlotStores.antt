@@ -116,6 +116,7 @@ serial-like p None n like h = absurd h
 serial-like p (Some x) None like h = absurd (like x refl)
 serial-like p (Some x) (Some y) like h = (like x refl).0 ∙ h
 
+-- what is known of a slab's slots is so of another's that are like them
 module _ {T : Type 0} (old new : Slab (StoredSlot T)) where
   pub knows-like : (keys : List ℕ) (parent above : Option ℕ) → AreLike old new → KnowsParent old keys parent above → KnowsParent new keys parent above
   knows-like keys parent above h6 h7 = grind (arith, serial-like)
@@ -178,6 +179,7 @@ roomy-here : {T : Type 0} (slab : Slab (StoredSlot T)) (capacity : ℕ) (before 
 roomy-here {T} slab capacity before [] here = tt
 roomy-here {T} slab capacity before (key ∷ keys) here = grind (arith, roomy-here slab capacity (before ++ key ∷ []) keys)
 
+-- a slab with more room has the same slots
 module _ {T : Type 0} (old new : Slab (StoredSlot T)) (same : new ≡ record old { capacity = new.capacity }) where
   pub roomy-store : (keys : List ℕ) (room room' places places' : ℕ) → IsSlotStore old keys room places → places ≤ places' → places' ≤ new.capacity →
       places' ≤ room' → IsSlotStore new keys room' places'

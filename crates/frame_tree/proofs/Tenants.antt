@@ -57,6 +57,7 @@ module _ {T : Type 0} (xs : List (TenantTree T)) (t : ℕ) (found : Option (Bor 
   pub frames_found : IfSome found (λ x. IsTreeOf xs t x.now) → IfNone found (HasNoTree xs t) → frames_in found ≡ frames_of xs t
   frames_found some none = grind arith
 
+-- trees whose places are within a room
 module _ {T : Type 0} (room : ℕ) where
   pub fit-more : (more : ℕ) (xs : List (TenantTree T)) → room ≤ more → AllFitPlaces room xs → AllFitPlaces more xs
   fit-more more xs le fit = all-map (λ tree. FitsPlaces room tree) (λ tree. FitsPlaces more tree) (λ x f. grind arith) xs fit
@@ -173,6 +174,7 @@ module _ {T : Type 0} {xs : List (TenantTree T)} {room ready : ℕ} {y : TenantT
       read_by_number owner_of_tree say none t (inserted owner_of_tree y xs) ≡ say (record { tenant = t; places = places; frames = [] })
   reserve-here say none = rw is (said-inserted-own owner_of_tree say none (record { tenant = t; places = places; frames = [] }) xs (no-places room xs t s.fit fresh))
 
+-- a tenant that comes or goes leaves the others
 module _ {T : Type 0} (xs : List (TenantTree T)) where
   pub insert-keeps : (t : ℕ) (y : TenantTree T) → y.tenant ≡ t → KeepsOtherTenants xs (inserted owner_of_tree y xs) t
   insert-keeps t y named = grind (arith, said-inserted-other)

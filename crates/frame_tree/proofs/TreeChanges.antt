@@ -115,6 +115,7 @@ no-child-found {T} q xs s x none at = each-found (λ y. q y ≡ false) xs s x (a
     all [] e = tt
     all (y ∷ ys) e = grind (arith, all ys)
 
+-- a tree without the frame p
 module _ {T : Type 0} (p : ℕ) where
   pub tree-without : (xs : List (Frame T)) → IsTree xs → children_of xs p ≡ [] → IsTree (frames_without p xs)
   tree-without xs t leaf = grind (arith, children-by-paths, tree-filter, not_from_false, found-serial, eqb-true, eq-eqb, true≢false, no-child-found)

@@ -175,6 +175,7 @@ under-through frames frame p t u = grind (arith, goes_under-append, found-ends)
 abbrev pub GoesThrough : {T : Type 0} → List (Frame T) → Frame T → Type 0
 GoesThrough frames frame = (p : ℕ) → goes_under p frame.path ≡ true → (p < frame.serial) × (has_frame frames p ≡ true)
 
+-- a path goes through frames that are there, of lower serials
 module _ {T : Type 0} (frames : List (Frame T)) (serial : ℕ) (frame : Frame T) (t : IsTree frames) (at : frame_at frames serial ≡ Some frame) where
   pub goes-through : GoesThrough frames frame
   goes-through =
@@ -209,6 +210,7 @@ child-under {T} frames s f x t at u =
       ]
     ]
 
+-- filters by tests that agree on each frame, and by one that none passes
 module _ {T : Type 0} (p : Frame T → Bool) where
   filter-alike : (q : Frame T → Bool) (frames : List (Frame T)) → Each (λ x. p x ≡ q x) frames → filter p frames ≡ filter q frames
   filter-alike q [] each = refl
@@ -218,6 +220,7 @@ module _ {T : Type 0} (p : Frame T → Bool) where
   filter-none [] each = refl
   filter-none (x ∷ xs) each = rw each.0 (filter-none xs each.1)
 
+-- the children of a frame are those whose paths say so
 module _ {T : Type 0} (frames : List (Frame T)) (s : ℕ) where
   not-child-missing : (x : Frame T) → has_frame frames s ≡ false → IsPlaced frames x → is_child_of s x.path ≡ false
   not-child-missing x lacks (inl top) = rw top.0 refl
@@ -234,6 +237,7 @@ module _ {T : Type 0} (frames : List (Frame T)) (s : ℕ) where
   pub top-path : (frame : Frame T) → IsTree frames → frame_at frames s ≡ Some frame → parent_of frame.path ≡ None → frame.path ≡ s ∷ []
   top-path frame t at none = let place = placed frames s frame t at in let own = found-serial frames s frame at in grind (arith, place, own)
 
+-- a frame whose path names a parent: the parent is there, and of a lower serial
 module _ {T : Type 0} (frames : List (Frame T)) (s p : ℕ) (frame : Frame T) (t : IsTree frames) (at : frame_at frames s ≡ Some frame)
     (named : parent_of frame.path ≡ Some p) where
   pub named-under : (u : IsUnder frames frame) × (u.parent ≡ p)

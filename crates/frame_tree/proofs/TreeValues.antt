@@ -15,6 +15,7 @@ tree-push-after : {T : Type 0} (before xs : List (Frame T)) (y : Frame T) → Is
 tree-push-after {T} before [] y t next = (rw append-nil at next, tt)
 tree-push-after {T} before (x ∷ xs) y t next = grind (arith, tree-push-after (before ++ x ∷ []) xs y, append_assoc)
 
+-- a tree with a frame more
 module _ {T : Type 0} (xs : List (Frame T)) where
   pub tree-push : (y : Frame T) → IsTree xs → IsNextFrame xs y → IsTree (xs ++ y ∷ [])
   tree-push y t next = tree-push-after [] xs y t next
@@ -26,6 +27,7 @@ module _ {T : Type 0} (xs : List (Frame T)) where
       let f = there-found xs p there in
       parent_of-append (path_in xs p) p serial (rw (found-path xs p f.0 f.1) (found-ends xs p f.0 t f.1))
 
+-- a new frame of a higher serial is next in the tree
 module _ {T : Type 0} (xs : List (Frame T)) (serial : ℕ) (parent : Option ℕ) (home : ℕ) (value : T) (t : IsTree xs) (below : AllBelow serial xs)
     (there : has_parent xs parent ≡ true) where
   pub new-frame-next : IsNextFrame xs (new_frame xs serial parent home value)
@@ -156,6 +158,7 @@ pub append-map_values : {T U : Type 0} (change : T → U) (xs ys : List (Frame T
 append-map_values change [] ys = refl
 append-map_values {T} {U} change (x ∷ xs) ys = ap (λ (zs : List (Frame U)). map_value change x ∷ zs) (append-map_values change xs ys)
 
+-- a change of all values, before or after a change of the tree, comes to the same
 module _ {T U : Type 0} (change : T → U) where
   paths-map_values : (p : List ℕ → Bool) (xs : List (Frame T)) → filter (λ x. p x.path) (map_values change xs) ≡ map_values change (filter (λ x. p x.path) xs)
   paths-map_values p [] = refl

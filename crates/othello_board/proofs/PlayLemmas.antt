@@ -1,6 +1,6 @@
 -- The flips, all directions together.
-use Rattle.othello_board.proofs.Common.{◌≡◌, ℕ, ◌^◌, ◌<◌, true, false, List, bit_and, bit_or, ap, ap₂, ◌∙◌, arith, ◌-◌, Bool, cond, eqb, ◌||◌, ◌∷◌, min, max, sym, w64, flat_map, bit_at_or, same_from_bits, bit_at_and, bit_at_not, bit_at-zero, bit_at-lt, same_from_bits_below, Direction, North, NorthEast, East, SouthEast, South, SouthWest, West, NorthWest, directions, ray, run, flips, squares, cell_at, is_among, made_own, exchanged_cell, exchanged, cells_of, bits_of, cell_of, rising_run, falling_run, bit_at, and_le_l, or_comm, Empty, Own, Opp}
-use Rattle.othello_board.proofs.CellLemmas.{or-assoc, or-zero, bits_of-append, apart, bit_at-pow, bit_at-bits_of, map-map, map-squares-same, cell_at-cells_of, exchanged-cell_of-by}
+use Rattle.othello_board.proofs.Common.{◌≡◌, ℕ, ◌^◌, ◌<◌, true, false, List, bit_and, bit_or, ap, ap₂, ◌∙◌, arith, ◌-◌, Bool, cond, eqb, ◌∷◌, min, max, sym, w64, flat_map, bit_at_or, same_from_bits, bit_at_and, bit_at_not, bit_at-zero, bit_at-lt, same_from_bits_below, Direction, North, NorthEast, East, SouthEast, South, SouthWest, West, NorthWest, directions, ray, run, flips, squares, cell_at, is_among, made_own, exchanged_cell, exchanged, cells_of, bits_of, cell_of, rising_run, falling_run, bit_at, and_le_l, or_comm, Empty, Own, Opp}
+use Rattle.othello_board.proofs.CellLemmas.{or-assoc, or-zero, bits_of-append, apart, bit_at-bits_of, map-map, map-squares-same, cell_at-cells_of, exchanged-cell_of-by}
 use Rattle.othello_board.proofs.ShiftLemmas.{ray_at, stride, ordered, falls_by, table-read, ray-fits, ray-ordered, ray-falls}
 use Rattle.othello_board.proofs.EndLemmas.{rising, falling}
 
@@ -50,9 +50,6 @@ flips-in-lanes own opp s opp_fits disjoint below =
 
 -- The two words after a move, square by square.
 
-max-of-tests-turned : (a b : Bool) → max (cond b 1 0) (cond a 1 0) ≡ cond (a || b) 1 0
-max-of-tests-turned a b = grind arith
-
 -- the words after these discs were made own and the board was exchanged share no bit
 pub play-disjoint : (own opp discs : ℕ) → opp < 2 ^ 64 → discs < 2 ^ 64 → bit_and own opp ≡ 0 → bit_and (bit_and opp (2 ^ 64 - 1 - discs)) (bit_or own discs) ≡ 0
 play-disjoint own opp discs opp_fits discs_fit disjoint =
@@ -83,4 +80,4 @@ played-cells_of own opp discs made discs_fit disjoint same =
 
 -- the word that `play` makes holds the square and what it flips
 pub bit_at-made : (flipped : List ℕ) (s i : ℕ) → bit_at (bit_or (bits_of flipped) (2 ^ s)) i ≡ cond (is_among i (s ∷ flipped)) 1 0
-bit_at-made flipped s i = grind (arith, bit_at_or, bit_at-pow, bit_at-bits_of, max-of-tests-turned)
+bit_at-made flipped s i = ap (λ n. bit_at n i) (or_comm (bits_of flipped) (2 ^ s)) ∙ bit_at-bits_of (s ∷ flipped) i

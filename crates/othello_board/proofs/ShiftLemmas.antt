@@ -68,7 +68,7 @@ bit_at-left x k t below =
     sym (ap (λ n. bit_at n t) (omega arith ∙ sym (div-add-mod' y (2 ^ 64)))
     ∙ bit_at_cat_low (y / 2 ^ 64) 64 (y % 2 ^ 64) t below)
 
--- what a shift to the left by k does at square t, where the square one step back is this one
+-- whether a shift to the left (up_test) or right (down_test) by k brings to square t the bit of this square; of None: a 0
 abbrev pub up_test : ℕ → ℕ → Option ℕ → Bool
 up_test k t None = ltb t k
 up_test k t (Some s) = leb k t && eqb s (t - k)
@@ -77,6 +77,7 @@ abbrev pub down_test : ℕ → ℕ → Option ℕ → Bool
 down_test k t None = ltb 63 (t + k)
 down_test k t (Some s) = eqb s (t + k)
 
+-- where the test holds, the shift brings that bit
 up-by : (x k t : ℕ) (from : Option ℕ) → t < 64 → up_test k t from ≡ true → bit_at (x * 2 ^ k % 2 ^ 64) t ≡ bit_there x from
 up-by x k t None below test =
     let fell : t < k = ltb-true t k test in

@@ -1,7 +1,7 @@
 -- The names that the proofs take of the library, of the crates below and of this crate's definitions, from one place.
 pub use Rattle.std.proofs.Common.{All, Bool, Contains, FitsSigned, IsSome, List, None, Option, Some, [], ap, ap₂, arith, bit_and, cond, count_by, count_ones}
 pub use Rattle.std.proofs.Common.{drop, eq-eqb, eqb, false, filter, find, get_or, inl, inr, int_lt, leb, leb-true, length, map, min, nat_abs, neg_ℤ, negsuc}
-pub use Rattle.std.proofs.Common.{of_z, pos, refl, rules, subst, suc, sym, take, to_z, true, unsigned_abs, unwrap_or, w32, zero, ℕ, ℤ, ⊎_elim, ◌%◌, ◌&&◌, ◌*ℤ◌}
+pub use Rattle.std.proofs.Common.{of_z, pos, refl, rules, subst, suc, sym, take, to_z, true, unsigned_abs, unwrap_or, w32, zero, ℕ, ℤ, ⊎_elim, ◌&&◌, ◌*ℤ◌}
 pub use Rattle.std.proofs.Common.{◌*◌, ◌++◌, ◌+ℤ◌, ◌+◌, ◌-ℤ◌, ◌-◌, ◌/◌, ◌<ℤ◌, ◌<◌, ◌^◌, ◌||◌, ◌∙◌, ◌∷◌, ◌≡◌, ◌≢◌, ◌≤ℤ◌, ◌≤◌}
 pub use Rattle.std.proofs.Math.IntN.{*ℤ-zero, *ℤ_comm, -ℤ_one, pred_ℤ, pred_ℤ-*ℤ, zero-*ℤ}
 pub use Rattle.std.proofs.Props.{props}
@@ -13,13 +13,13 @@ pub use Rattle.std.proofs.lemmas.List.{at_drop_all, at_drop_more}
 pub use Rattle.std.proofs.lemmas.List.Elements.{All-cons, All-contains_itself, All-from_recursion, All-head, All-nil, All-tail, All-weaker}
 pub use Rattle.std.proofs.lemmas.List.Folds.{find-append}
 pub use Rattle.std.proofs.lemmas.List.Sums.{count_by-le-length}
-pub use Rattle.std.proofs.lemmas.Nat.{and_le_l, and_le_r, div-add-mod', mod_below, mul-le, pow_pos}
-pub use Rattle.std.proofs.lemmas.Nat.Bits.{bit_at-lt, bit_at-zero, bit_at_and, bit_at_cat_high, bit_at_ones}
+pub use Rattle.std.proofs.lemmas.Nat.{and_le_l, and_le_r, mul-le}
+pub use Rattle.std.proofs.lemmas.Nat.Bits.{bit_at-lt, bit_at-zero, bit_at_and, bit_at_ones}
 pub use Rattle.std.specs.Int.{bit_at, int_max}
 pub use Rattle.std.specs.List.{flat_map, list_all, range_with_len}
 pub use Rattle.std.specs.Option.{option_or}
 pub use Rattle.othello_board.proofs.CellLemmas.{apart, bit-cases, cell_at-cells_of, cell_at-map, count_in, is-opp-cell_of, map-map, ones-by-bits}
-pub use Rattle.othello_board.proofs.ShiftLemmas.{all_below, holds-below}
+pub use Rattle.othello_board.proofs.ShiftLemmas.{all_below, bit_at-right, holds-below}
 pub use Rattle.othello_board.specs.Rows.{opening}
 pub use Rattle.othello_board.specs.Rules.{cell_at, directions, exchanged, exchanged_cell, flips, is_among, is_empty_cell, is_legal, is_nil, is_opp_cell}
 pub use Rattle.othello_board.specs.Rules.{is_own_cell, led_by, outflanked, played, ray, run}

@@ -1,5 +1,5 @@
 -- The weights of discs, counted under one word of squares for each weight.
-use Rattle.othello_eval.proofs.Common.{leb, leb-true, ◌≡◌, ℕ, zero, suc, ◌+◌, ◌^◌, ◌<◌, ◌≤◌, ◌*◌, Bool, ◌&&◌, cond, eqb, List, [], ◌∷◌, map, length, min, bit_and, ℤ, pos, negsuc, ◌+ℤ◌, ◌-ℤ◌, ◌*ℤ◌, neg_ℤ, refl, sym, ap, ◌∙◌, arith, to_z, of_z, w32, ◌≤ℤ◌, drop, get_or, ◌/◌, ◌%◌, true, take, ◌-◌, ap₂, count_ones, unsigned_abs, FitsSigned, bit_at, range_with_len, at_drop_more, at_drop_all, ints, unsigned_abs-mul, and_le_l, mul-le, and_le_r, div-add-mod', mod_below, pow_pos, bit_at_and, bit_at-lt, bit_at-zero, bit_at_ones, bit_at_cat_high, pred_ℤ, -ℤ_one, *ℤ_comm, pred_ℤ-*ℤ, *ℤ-zero, zero-*ℤ, common_steps, Empty, Own, Opp, squares, cell_of, cells_of, apart, bit-cases, count_in, ones-by-bits, weights, disc_value, discs_value, IsWithin, disc_difference, row_value, kind_of, eqb-true, Cell, all_below, holds-below, ROW_VALUES}
+use Rattle.othello_eval.proofs.Common.{leb, leb-true, ◌≡◌, ℕ, zero, suc, ◌+◌, ◌^◌, ◌<◌, ◌≤◌, ◌*◌, Bool, ◌&&◌, cond, eqb, List, [], ◌∷◌, map, length, min, bit_and, ℤ, pos, negsuc, ◌+ℤ◌, ◌-ℤ◌, ◌*ℤ◌, neg_ℤ, refl, sym, ap, ◌∙◌, arith, to_z, of_z, w32, ◌≤ℤ◌, drop, get_or, ◌/◌, true, take, ◌-◌, ap₂, count_ones, unsigned_abs, FitsSigned, bit_at, range_with_len, at_drop_more, at_drop_all, ints, unsigned_abs-mul, and_le_l, mul-le, and_le_r, bit_at_and, bit_at-lt, bit_at-zero, bit_at_ones, pred_ℤ, -ℤ_one, *ℤ_comm, pred_ℤ-*ℤ, *ℤ-zero, zero-*ℤ, common_steps, Empty, Own, Opp, squares, cell_of, cells_of, apart, bit-cases, count_in, ones-by-bits, weights, disc_value, discs_value, IsWithin, disc_difference, row_value, kind_of, eqb-true, Cell, all_below, holds-below, ROW_VALUES, bit_at-right}
 use Rattle.othello_eval.proofs.ValueLemmas.{discs_value-within, abs_sum}
 
 -- the sum of these differences, each at its weight
@@ -257,19 +257,12 @@ maps-same f g a b (suc n) same =
     later a i = omega arith
 
 module _ (x k t : ℕ) where
-  bit-further : bit_at (x / 2 ^ k) t ≡ bit_at x (t + k)
-  bit-further =
-      let back : t + k - k ≡ t = omega arith in
-      sym (ap (λ n. bit_at n (t + k)) (sym (div-add-mod' x (2 ^ k)))
-      ∙ bit_at_cat_high (x / 2 ^ k) k (x % 2 ^ k) (t + k) (mod_below x (2 ^ k) (pow_pos k)) (omega arith)
-      ∙ ap (bit_at (x / 2 ^ k)) back)
-
   byte-bit : t < 8 → bit_at x (k + t) ≡ bit_at (bit_and (x / 2 ^ k) 255) t
   byte-bit below =
       let small = bit_at-lt (x / 2 ^ k) t in
       let set = bit_at_ones 8 t below in
       let all_set : bit_at (x / 2 ^ k) t ≡ min (bit_at (x / 2 ^ k) t) (bit_at 255 t) = omega (arith, small, set) in
-      ap (bit_at x) (omega arith) ∙ sym bit-further ∙ all_set ∙ sym (bit_at_and (x / 2 ^ k) 255 t)
+      ap (bit_at x) (omega arith) ∙ sym (bit_at-right x k t) ∙ all_set ∙ sym (bit_at_and (x / 2 ^ k) 255 t)
 
   byte-cell : t < 8 → cell_of x 0 (k + t) ≡ cell_of (bit_and (x / 2 ^ k) 255) 0 (0 + t)
   byte-cell below =

@@ -1,4 +1,4 @@
--- How large values are.
+-- Values: how large they are, that 32 bits hold them, and how a move changes that of the discs.
 use Rattle.othello_eval.proofs.Common.{◌≡◌, ℕ, ◌+◌, ◌<◌, ◌≤◌, List, [], ◌∷◌, length, count_by, ℤ, pos, ◌+ℤ◌, ◌-ℤ◌, ◌*ℤ◌, ◌<ℤ◌, nat_abs, refl, arith, w32, to_z, of_z, FitsSigned, zero, suc, ◌-◌, Bool, true, false, ◌&&◌, ◌||◌, cond, eqb, ◌++◌, map, bit_and, min, Option, Some, unwrap_or, inl, inr, neg_ℤ, leb, sym, ap, ◌∙◌, subst, get_or, eq-eqb, ints, count_by-le-length, Cell, exchanged, is_own_cell, is_opp_cell, squares, cell_at, is_among, is_empty_cell, is_legal, exchanged_cell, played, outflanked, led_by, ray, run, flips, directions, legal_squares, legal_squares-fit, weights, disc_value, discs_value, eval, final_value, IsWithin, bit_at, range_with_len, flat_map, list_all, and_parts, cases_lt, ne_eqb, or_cases, eqb-true, false≢true, bit_at_and, bit_at-lt, bit_at-zero, common_steps, Empty, Own, Opp, Direction, cell_of, cells_of, apart, map-map, cell_at-map, cell_at-cells_of, is-opp-cell_of, SQUARE_WEIGHTS, weight_at}
 use Rattle.std.proofs.lemmas.Bool.{leb-true}
 
@@ -94,7 +94,7 @@ eval-is d a b h l m = omega (arith, ints)
 
 outflanked-opposing : (board : List Cell) (xs : List ℕ) (i : ℕ) → is_among i (unwrap_or (outflanked board xs) []) ≡ true → is_opp_cell (cell_at board i) ≡ true
 outflanked-opposing board [] i among = absurd (false≢true among)
-outflanked-opposing board (s ∷ xs) i among = first (cell_at board s) refl (outflanked board xs) (outflanked-opposing board xs i) among
+outflanked-opposing board (s ∷ xs) i among = by-cell (cell_at board s) refl (outflanked board xs) (outflanked-opposing board xs i) among
   where
     later : (ys : List ℕ) → is_opp_cell (cell_at board s) ≡ true → (is_among i ys ≡ true → is_opp_cell (cell_at board i) ≡ true) → (eqb s i || is_among i ys) ≡ true →
         is_opp_cell (cell_at board i) ≡ true
@@ -104,10 +104,10 @@ outflanked-opposing board (s ∷ xs) i among = first (cell_at board s) refl (out
           | inr more ↦ below more
         ]
 
-    first : (c : Cell) → cell_at board s ≡ c → (beyond : Option (List ℕ)) → (is_among i (unwrap_or beyond []) ≡ true → is_opp_cell (cell_at board i) ≡ true) →
+    by-cell : (c : Cell) → cell_at board s ≡ c → (beyond : Option (List ℕ)) → (is_among i (unwrap_or beyond []) ≡ true → is_opp_cell (cell_at board i) ≡ true) →
         is_among i (unwrap_or (led_by c s beyond) []) ≡ true → is_opp_cell (cell_at board i) ≡ true
-    first Opp e (Some ys) below h = later ys (ap is_opp_cell e) below h
-    first _ e beyond below h = absurd (false≢true h)
+    by-cell Opp e (Some ys) below h = later ys (ap is_opp_cell e) below h
+    by-cell _ e beyond below h = absurd (false≢true h)
 
 among-append : (i : ℕ) (xs ys : List ℕ) → is_among i (xs ++ ys) ≡ (is_among i xs || is_among i ys)
 among-append i [] ys = refl

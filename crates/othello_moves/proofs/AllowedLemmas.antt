@@ -29,7 +29,7 @@ legal_squares-fit board = omega (arith, length-filter (is_legal board) in_order,
 pub choices_fit : (board : List Cell) → length (choices board) ≤ 64
 choices_fit board = grind (arith, cond_both, length-map, legal_squares-fit)
 
-squares-length : length squares ≡ 64
+pub squares-length : length squares ≡ 64
 unfolding squares
 squares-length = refl
 

@@ -374,7 +374,7 @@ among-range i a zero over = refl
 among-range i a (suc n) over =
     ap (λ b. b || is_among i (range_with_len (a + 1) n)) (ne_eqb a i (λ e. omega arith)) ∙ among-range i (a + 1) n (omega arith)
 
-no-square : (i : ℕ) → 64 ≤ i → is_among i squares ≡ false
+pub no-square : (i : ℕ) → 64 ≤ i → is_among i squares ≡ false
 unfolding squares
 no-square i over = among-range i 0 64 over
 

@@ -1,11 +1,7 @@
-use Rattle.line_io.proofs.Common.{◌≡◌, ◌∙◌, refl, sym, ap, Ok, not, Bool, true, false, true≢false, err_from_is_err_and, not-true}
+use Rattle.line_io.proofs.Common.{◌∙◌, sym, ap, Ok, true, false, err_from_is_err_and, not-true, not-false}
 use Rattle.line_io.proofs.Whole.{read-gave, read-ended}
 use Rattle.line_io.proofs.Talks.{Talking-start, Talking-more, Talk-read-failed, Talk-stopped, Talk-write-failed, Talk-ended, Talk-last-failed}
 use Rattle.line_io.proofs.talking.talk_lines.Goals as goal
-
-not-false : (b : Bool) → false ≡ not b → b ≡ true
-not-false true e = refl
-not-false false e = absurd (true≢false (sym e))
 
 pub loop-init : goal.loop-init
 loop-init g c =
@@ -41,6 +37,6 @@ returns-then-branch g c =
 
 pub loop-preserved : goal.loop-preserved
 loop-preserved g c =
-    let goes_on = not-false _ (sym c.if-branch.false ∙ c.in_ok-talk_block.ensures.ended) in
+    let goes_on = not-false _ (sym c.in_ok-talk_block.ensures.ended ∙ c.if-branch.false) in
     let gave = read-gave g.S.Source.gives _ _ _ _ c.if-count-eq0.false c.in_ok-count.ensures.answer in
     Talking-more c.loop.invariant gave c.in_ok-talk_block.ensures.lines goes_on (c.in_ok-talk_block.ensures.cutter (ap Ok c.if-branch.false))

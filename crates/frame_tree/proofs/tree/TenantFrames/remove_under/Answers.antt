@@ -1,7 +1,7 @@
 use Rattle.std.proofs.Common.{length-set, [], refl, sym, ◌∙◌, arith, append-nil, length-take}
 use Rattle.frame_tree.proofs.Finds.{frames_from-length, counted-at, count_in}
 use Rattle.frame_tree.proofs.Changes.{childless, cut-linked, cut-sound, cut-frames, cut-values, cut-length}
-use Rattle.frame_tree.proofs.Aborts.{leaf-aborted, leaf-under, childless-at, cut-ready}
+use Rattle.frame_tree.proofs.Aborts.{leaf-aborted, leaf-none-under, childless-serial, cut-ready}
 use Rattle.frame_tree.proofs.Readies.{is-tenant, tenant-rises}
 use Rattle.frame_tree.proofs.Keys.{seen-by, cut-index}
 use Rattle.frame_tree.proofs.tree.TenantFrames.remove_under.Goals as goal
@@ -18,7 +18,7 @@ returns-then-slot-eq0-clause-values g c =
     let seen = seen-by _ _ c.self.invariant.index c.known_place-at.ensures.within c.known_place-at.ensures.found c.at-slot.ensures in
     let slots = c.self.inside.store.slots in
     let none = sym (counted-at (λ n. count_in slots n) slots _ _ _ c.self.invariant.sound.counted seen) ∙ c.if-slot-eq0.true in
-    rw (← c.self.view_is, leaf-under c.args.serial slots c.self.invariant.sound.linked none) (sym (append-nil _))
+    rw (← c.self.view_is, leaf-none-under c.args.serial slots c.self.invariant.sound.linked none) (sym (append-nil _))
 
 pub cut-requires-clause-linked : goal.cut-requires-clause-linked
 cut-requires-clause-linked g c =
@@ -34,7 +34,7 @@ cut-requires-clause-room g c =
 pub cut-requires-clause-named : goal.cut-requires-clause-named
 cut-requires-clause-named g c =
     let seen = seen-by _ _ c.self.invariant.index c.known_place-at.ensures.within c.known_place-at.ensures.found c.at-slot.ensures in
-    rw c.put.ensures (childless-at c.self.invariant.sound seen)
+    rw c.put.ensures (childless-serial c.self.invariant.sound seen)
 
 pub forget_from-requires : goal.forget_from-requires
 forget_from-requires g c = tenant-rises _ _ _ _ c.self.invariant

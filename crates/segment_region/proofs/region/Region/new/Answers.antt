@@ -1,6 +1,7 @@
 use Rattle.segment_region.proofs.Whole.{first-whole, first-entries}
 use Rattle.segment_region.proofs.region.Region.new.Goals as goal
 
+-- the memory is what allocate ensures; no segment is taken yet (first-whole)
 pub invariant_of-result : goal.invariant_of-result
 invariant_of-result g c =
     let made = c.in_ok-base.ensures in
