@@ -103,7 +103,6 @@ module _ (parts : Parts) (trees : Trees) (ledger : JobLedger) (book : Reservatio
       record {
         book = is.sound;
         frames_nodes = same-belongs parts.nodes parts.trees trees frames stored.frames_nodes;
-        sized = stored.sized;
         accounts = λ other a found. elim (cases_eq other number) [
           | inl here ↦ (let mine : account_of number book.accounts ≡ Some a = rw (← here) found in let e : fresh quota ≡ a = cc (is.admits.account, mine) in rw (here, ← e) own)
           | inr differs ↦ others other a differs found
@@ -214,7 +213,6 @@ module _ (parts : Parts) (trees : Trees) (book : Reservations) (number : ℕ) (q
         count = is.count;
         tree = rw is.frames (stored.forest number);
         frames_nodes = same-belongs parts.nodes parts.trees trees frames stored.frames_nodes;
-        sized = stored.sized;
         segments = refl;
         charges = stored.charges ∙ sym is.raises.charged;
         own = grind arith;
@@ -260,7 +258,6 @@ new-stored nodes trees ledgers book places segments nodes_in_all is workers =
         once = λ owner serial other_owner other_serial node these those. absurd (let none = ap node_of (missing owner serial) in cc (none, these));
         no_other = λ node open_one. absurd (closed node open_one);
       };
-      sized = record { some = λ node open_one. absurd (closed node open_one); most = λ node open_one. absurd (closed node open_one) };
       accounts = λ number account there. absurd (let none : ◌≡◌ {A = Option Account} None (Some account) = rw no_accounts at there in cc none);
       nobody = λ number none. is.places number;
       nothing = λ number none. is.frames number;

@@ -3,7 +3,7 @@ use Rattle.std.proofs.Common.{◌≡◌, ◌≢◌, ℕ, zero, suc, ◌<◌, ◌
 use Rattle.sched_store.proofs.Common.{filter, FrameId, frames_of, sum_by-cons, charged_for, get_or_default, with_words_of_nodes, frame_at-stays, filter-found}
 use Rattle.sched_store.proofs.Common.{AreSerialsRising, Each, AllAboveSerial, map_value, cases_Bool, false≢true, true≢false, eq-eqb, eqb-true, there-found}
 use Rattle.sched_store.proofs.Common.{tree-rising, found-each, under-there, found-serial, Frame, frame_at, has_frame, parent_of, values_of, IsTree}
-use Rattle.sched_store.proofs.Common.{frame_in_trees, node_of, node_above, IsFrameNode, HasFrame, AreFramesNodes, AreSized, ArePlaces}
+use Rattle.sched_store.proofs.Common.{frame_in_trees, node_of, node_above, IsFrameNode, HasFrame, AreFramesNodes, ArePlaces}
 use Rattle.cactus_stack.specs.Nodes.{Nodes, Node, IsOpen, node_at, node_words, words_of_node, parent_of_node as parent_at, without, charge, charge_of, node_parent, total_charge, HasAllChildren}
 use Rattle.cactus_stack.proofs.LawFacts.{gone, kept, still-none, charge-without}
 use Rattle.sched_store.proofs.Words.{charge-words, with_words_of_nodes-same}
@@ -99,10 +99,6 @@ unlisted-here nodes trees number keep owner serial frame belong rising at stays 
     let e : frame ≡ goes.frame = cc in
     true≢false (sym (stays one.0) ∙ ap keep e ∙ goes.out)
 
--- an open node is none of those that are closed, and has the same words
-open-kept : (nodes : Nodes) (numbers : List ℕ) (node : ℕ) → IsOpen (without nodes numbers) node → node_at (without nodes numbers) node ≡ node_at nodes node
-open-kept nodes numbers node is = kept nodes numbers node (λ among. false≢true (subst IsSome (gone nodes numbers node among) is))
-
 some-first : (xs : Frames) (keep : Frame ℕ → Bool) (p : ℕ) → AreSerialsRising xs → has_frame (filter keep xs) p ≡ true → node_of (frame_at xs p) ≡ node_of (frame_at (filter keep xs) p)
 some-first xs keep p rising there = grind (arith, there-found, filter-found)
 
@@ -132,10 +128,6 @@ module _ (trees after : Trees) (number : ℕ) (keep : Frame ℕ → Bool) (is : 
             ])
         | inr other ↦ grind (arith, true≢false, eq-eqb)
       ]
-
--- open nodes keep their words, so each still has 1 to 128
-pub cut-sized : (nodes : Nodes) (numbers : List ℕ) → AreSized nodes → AreSized (without nodes numbers)
-cut-sized nodes numbers sized = grind (arith, open-kept)
 
 module _ (nodes : Nodes) (trees after : Trees) (number : ℕ) (keep : Frame ℕ → Bool) (belong : AreFramesNodes nodes trees) (is : IsCut trees after number keep) where
   pub stays-after : (owner serial : ℕ) (frame : Frame ℕ) → frame_in_trees after owner serial ≡ Some frame → Stays nodes trees number keep owner serial frame

@@ -9,7 +9,7 @@ use Rattle.tenant_quota.specs.Accounts.{owner_of_account, account_of, without as
 use Rattle.number_index.proofs.Edits.{said-without-other, all-without}
 use Rattle.sched_store.proofs.Steps.{SameOthers}
 use Rattle.sched_store.proofs.Lookups.{within-reserve, Frames, Trees, tree_in, Owns, numbers-without}
-use Rattle.sched_store.proofs.Closing.{IsCut, closed, closing, cut-belongs, cut-sized, cut-places, cut-words, cut-trees, TakesChildren, closing-open, closing-once, closing-children, cut-frees}
+use Rattle.sched_store.proofs.Closing.{IsCut, closed, closing, cut-belongs, cut-places, cut-words, cut-trees, TakesChildren, closing-open, closing-once, closing-children, cut-frees}
 use Rattle.sched_store.proofs.Removing.{length-without, AreClosable}
 
 -- no frame stays
@@ -116,7 +116,6 @@ module _ (parts : Parts) (nodes : Nodes) (trees : Trees) (ledgers : List JobLedg
       record {
         book = is.sound;
         frames_nodes = rw (← same) (cut-belongs parts.nodes parts.trees trees number none_stays stored.frames_nodes cut);
-        sized = rw (← same) (cut-sized parts.nodes (closing parts.trees number none_stays) stored.sized);
         accounts = λ other a found. other-account other a (differs other a found) found;
         nobody = λ other none. grind arith;
         nothing = λ other none. grind arith;

@@ -3,7 +3,7 @@ use Rattle.std.proofs.Common.{◌≡◌, ◌≢◌, ℕ, ◌<◌, ◌≤◌, ◌
 use Rattle.sched_store.proofs.Common.{Ready, Account, FrameId, CoreState, map_value, Each, Tree, charged_for, Parts, with_words_of_nodes}
 use Rattle.sched_store.proofs.Common.{shared_of, cases_eq, false≢true, and_parts, leb-true, frames_in_core, serials_in, TenantHasLeft, length-set}
 use Rattle.sched_store.proofs.Common.{length-append, length-replicate, charged_by, charged_segments, left_in, Reservations, ChangesOnly}
-use Rattle.sched_store.proofs.Common.{IsSoundBook, opened_of, frames_of, KeepsOtherFrames, places_of, IsParentIn, serial_of, IsStored, AreFramesNodes, AreSized}
+use Rattle.sched_store.proofs.Common.{IsSoundBook, opened_of, frames_of, KeepsOtherFrames, places_of, IsParentIn, serial_of, IsStored, AreFramesNodes}
 use Rattle.sched_store.proofs.Common.{frame_in_trees, node_of, node_above, Frame, frame_at, has_parent, parent_of, path_under, AllBelow, IsTree}
 use Rattle.sched_store.proofs.Common.{new_frame, name_of, found-there, below-found, frame_at-push, frame_at-other-push, frame_at-left}
 use Rattle.sched_store.proofs.Common.{under-there, there-found, Nodes, Node, node_at, node_words, words_of_node, parent_of_node as node_parent_of, with_node}
@@ -21,8 +21,6 @@ pub record OpensFrame (old : Parts) (nodes : Nodes) (trees : Trees) (book : Rese
   pub there : Owns old number account
   pub parent_there : has_parent (frames_of old.trees number) parent ≡ true
   pub above_is : above ≡ node_above (frames_of old.trees number) parent
-  pub some : 1 ≤ size
-  pub most : size ≤ 128
   pub room : length words ≤ size
   pub unused : IsUnused old.nodes node
   pub nodes_is : nodes ≡ with_node old.nodes node (Some (record { parent = above; words = padded words size }))
@@ -50,9 +48,6 @@ module _ (nodes : Nodes) (n : ℕ) where
 
   still-open : (m : ℕ) (entry : Node) → IsUnused nodes n → IsOpen nodes m → IsOpen (with_node nodes n (Some entry)) m
   still-open m entry unused is = rw (opened-other m entry (open-not-unused m unused is)) is
-
-  opened-sized : (entry : Node) → AreSized nodes → IsUnused nodes n → 1 ≤ length entry.words → length entry.words ≤ 128 → AreSized (with_node nodes n (Some entry))
-  opened-sized entry sized unused some most = grind (arith, opened-here, opened-other)
 
 -- the frames after one was added: either it is the new one, or it was there
 
@@ -195,7 +190,6 @@ module _ (old : Parts) (nodes : Nodes) (trees : Trees) (book : Reservations) (nu
         count = opens.kept.count;
         tree = rw opens.frames (tree-new_frame frames (account.opened + 1) parent home node (stored.forest number) account_is.serials opens.parent_there);
         frames_nodes = opened-nodes;
-        sized = rw opens.nodes_is (opened-sized old.nodes node entry stored.sized opens.unused (rw len opens.some) (rw len opens.most));
         segments = ap (λ (ns : Nodes). length ns) opens.nodes_is ∙ length-set old.nodes node (Some entry);
         charges = omega (arith, total, none, size_is, stored.charges, opens.sum);
         own = record {
@@ -261,12 +255,12 @@ module _ (parts : Parts) (stored : IsStored parts) (number : ℕ) where
 
   -- there are no more frames than segments that they are charged
 
-  pub place-left : (size : ℕ) (account : Account) → Owns parts number account → 1 ≤ size → charge size ≤ (left_in account).segments → length (frames_of parts.trees number) < places_of parts.trees number
-  place-left size account there some enough =
+  pub place-left : (size : ℕ) (account : Account) → ((node : ℕ) → IsOpen parts.nodes node → 1 ≤ length (node_words parts.nodes node)) → Owns parts number account → 1 ≤ size → charge size ≤ (left_in account).segments → length (frames_of parts.trees number) < places_of parts.trees number
+  place-left size account sized there some enough =
       let is = stored.accounts number account there in
       let frames = frames_of parts.trees number in
       let few = frames-few parts.nodes frames (each-frame parts stored number (λ x. 1 ≤ length (node_words parts.nodes x.value))
-      (λ s x at. stored.sized.some x.value (stored.frames_nodes.nodes_of_frames number s x at).is_open)) in
+      (λ s x at. sized x.value (stored.frames_nodes.nodes_of_frames number s x at).is_open)) in
       let one : 1 ≤ charge size = omega arith in
       let left : charge size ≤ account.reserve.segments - account.charged = enough in
       omega (arith, few, one, left, is.charged, is.places)

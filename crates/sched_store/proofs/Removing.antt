@@ -9,7 +9,7 @@ use Rattle.sched_store.proofs.Common.{Tenant, charged_for, has_child, is_root, f
 use Rattle.sched_store.proofs.Common.{IsStored, IsAccountFor, frame_in_trees, node_of, node_above, eq-eqb, eqb-true, ne_eqb, ltb-false, true≢false}
 use Rattle.sched_store.proofs.Common.{false≢true, lt-ltb, le-ltb, FrameId, map_values, is_child_of, AllAboveSerial, AreSerialsRising, tree-rising}
 use Rattle.sched_store.proofs.Common.{children-by-paths, found-path, placed, IsPlaced, frames_in_core, path_of, words_under, jobs_of, ltb, Entry}
-use Rattle.sched_store.proofs.Closing.{IsCut, closing, cut-belongs, cut-sized, cut-places, cut-words, cut-trees, cut-frees, closed, parent-open, above-found, TakesChildren, closing-open, closing-once, closing-children}
+use Rattle.sched_store.proofs.Closing.{IsCut, closing, cut-belongs, cut-places, cut-words, cut-trees, cut-frees, closed, parent-open, above-found, TakesChildren, closing-open, closing-once, closing-children}
 use Rattle.sched_store.proofs.OpenFrame.{node-frame}
 use Rattle.sched_store.proofs.States.{frame-account}
 use Rattle.sched_store.proofs.Steps.{TenantStep, Stepped, stepped, other-tenants, length-with_words_of_nodes}
@@ -89,7 +89,6 @@ module _ (parts : Parts) (trees : Trees) (book : Reservations) (number freed : �
     count = is.table.count;
     tree = is.cut.tree_after;
     frames_nodes = cut-belongs parts.nodes parts.trees trees number keep stored.frames_nodes is.cut;
-    sized = cut-sized parts.nodes (closing parts.trees number keep) stored.sized;
     segments = length-without parts.nodes (closing parts.trees number keep);
     charges = omega (arith, is.frees, is.sum, stored.charges);
     own = removed-own stored is;

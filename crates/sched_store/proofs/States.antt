@@ -220,7 +220,6 @@ module _ (old : Parts) (trees : Trees) (name : FrameId) (state : State) (frame :
         count = sets.kept.count;
         tree = rw sets.frames (tree-with_state name.serial state (family old name) (stored.forest name.tenant));
         frames_nodes = like-nodes old.nodes old.trees trees stored.frames_nodes (state-like old.trees trees name state frame sets there);
-        sized = stored.sized;
         segments = refl;
         charges = stored.charges;
         own = (let is = stored.accounts name.tenant account own in record {

@@ -6,7 +6,7 @@ use Rattle.sched_store.proofs.Common.{charged_for, frame_words, total_charge, No
 use Rattle.sched_store.proofs.Common.{IsTree, Frame, names_of, ready_frames, IsReadyAt, frames_of, tenant_count, KeepsOtherFrames}
 use Rattle.sched_store.proofs.Common.{KeepsOtherTenants, Reservations, changed, IsSoundBook, ChangesOnly, left_in_book, Parts, with_words_of_nodes, tenant_from}
 use Rattle.sched_store.proofs.Common.{tenants_from, shared_of, jobs_of, numbers_of, JobLedger, owner_of_ledger, is_there, with_jobs, IsStored, IsAccountFor}
-use Rattle.sched_store.proofs.Common.{AreFramesNodes, AreSized, ArePlaces, numbers_in, frame_in_trees, owner_of_account, account_of, with_changed}
+use Rattle.sched_store.proofs.Common.{AreFramesNodes, ArePlaces, numbers_in, frame_in_trees, owner_of_account, account_of, with_changed}
 use Rattle.sched_store.proofs.Common.{charged_segments, AllEntries, IsRising, ticked, left_in}
 use Rattle.number_index.proofs.Edits.{with-same, said-with-own, said-with-other, length-with, all-with}
 use Rattle.sched_store.proofs.Lookups.{within-reserve, Frames, Trees, tree_in, with_words, Owns, Entries, none-or-some, numbers-with, ledger-there, tenant-there, left-found, named-found, tenant-found}
@@ -51,7 +51,6 @@ pub record TenantStep (old new : Parts) (number : ℕ) (f : Account → Account)
   pub count : tenant_count new.trees ≡ tenant_count old.trees
   pub tree : IsTree (frames_of new.trees number)
   pub frames_nodes : AreFramesNodes new.nodes new.trees
-  pub sized : AreSized new.nodes
   pub segments : length new.nodes ≡ length old.nodes
   pub charges : total_charge new.nodes ≡ charged_segments new.book.accounts
   pub own : IsAccountFor new.nodes new.trees number (f account)
@@ -80,7 +79,6 @@ module _ (old new : Parts) (number : ℕ) where
       record {
         book = step.sound;
         frames_nodes = step.frames_nodes;
-        sized = step.sized;
         accounts = λ other a is. elim (cases_eq other number) [
           | inl same ↦ (let now : account_of number new.book.accounts ≡ Some a = rw (← same) is in
               let own : f account ≡ a = cc (account-after f account step, now) in

@@ -3,7 +3,7 @@ use Rattle.std.proofs.Common.{◌≡◌, ◌≢◌, ℕ, zero, suc, ◌<◌, ◌
 use Rattle.sched_store.proofs.Common.{set, Account, FrameId, frames_of, on_tenant, words_under, TenantHasLeft, AllEntries-map, sum_by-le-with}
 use Rattle.sched_store.proofs.Common.{Frame, frame_at, HasValue, found-serial, tree-rising, Parts, with_words_of_nodes, shared_of}
 use Rattle.sched_store.proofs.Common.{Reservations, changed, IsSoundBook, ChangesOnly, map_value, AllAboveSerial, AreSerialsRising, Each, length-set, drop_all}
-use Rattle.sched_store.proofs.Common.{length-append, length-replicate, AreSized, IsStored, AreFramesNodes, frame_in_trees, node_of, cases_Bool}
+use Rattle.sched_store.proofs.Common.{length-append, length-replicate, IsStored, AreFramesNodes, frame_in_trees, node_of, cases_Bool}
 use Rattle.sched_store.proofs.Common.{eqb-true, eqb-false, or_parts, leb-false, charged_segments, charged_by, reserved_segments, IsWithinReserve}
 use Rattle.cactus_stack.specs.Nodes.{Nodes, Node, node_at, node_words, node_parent, words_of_node, with_node_words, IsOpen, charge, charge_of, total_charge, growth_charge, free_segments}
 use Rattle.sched_rules.specs.Trees.{charged_for, with_frame_words, stored, is_outside, frame_words}
@@ -49,12 +49,8 @@ module _ (nodes : Nodes) (n : ℕ) where
   pub words-there : (m : ℕ) (words : List ℕ) → m ≢ n → node_words (with_node_words nodes n words) m ≡ node_words nodes m
   words-there m words differs = ap words_of_node (words-other m words differs)
 
-module _ (nodes : Nodes) (n : ℕ) (words : List ℕ) where
-  pub words-sized : AreSized nodes → IsOpen nodes n → 1 ≤ length words → length words ≤ 128 → AreSized (with_node_words nodes n words)
-  words-sized sized here some most = grind (arith, words-here, words-there, words-was-open)
-
-  pub words-charge : IsOpen nodes n → total_charge (with_node_words nodes n words) + charge_at nodes n ≡ total_charge nodes + charge (length words)
-  words-charge here = omega (arith, charge-words (node_at nodes n), sum_by-set charge_of nodes n (Some (record { parent = node_parent nodes n; words = words })) None (lt-of-some nodes n here))
+  pub words-charge : (words : List ℕ) → IsOpen nodes n → total_charge (with_node_words nodes n words) + charge_at nodes n ≡ total_charge nodes + charge (length words)
+  words-charge words here = omega (arith, charge-words (node_at nodes n), sum_by-set charge_of nodes n (Some (record { parent = node_parent nodes n; words = words })) None (lt-of-some nodes n here))
 
 -- words that are changed twice
 pub words-twice : (nodes : Nodes) (n : ℕ) (first second : List ℕ) → IsOpen nodes n → with_node_words (with_node_words nodes n first) n second ≡ with_node_words nodes n second
@@ -164,9 +160,9 @@ module _ (old : Parts) (nodes : Nodes) (name : FrameId) (frame : Frame ℕ) (wor
         λ differs. other-frame name.tenant serial x at (λ both. differs (at_serial ∙ both.1)),
       )))
 
-  words-step : (book : Reservations) (f : Account → Account) (account : Account) → 1 ≤ length words → length words ≤ 128 →
+  words-step : (book : Reservations) (f : Account → Account) (account : Account) →
       ChargesWords old book name f account (charge_at old.nodes frame.value) (charge (length words)) → TenantStep old (record old { nodes = nodes; book = book }) name.tenant f account
-  words-step book f account some most charges =
+  words-step book f account charges =
       let account_is = stored.accounts name.tenant account charges.there in
       let own_words = own-changed in
       let total : total_charge nodes + charge_at old.nodes frame.value ≡ total_charge old.nodes + charge (length words) = rw is (words-charge old.nodes frame.value words here) in
@@ -180,7 +176,6 @@ module _ (old : Parts) (nodes : Nodes) (name : FrameId) (frame : Frame ℕ) (wor
         count = refl;
         tree = stored.forest name.tenant;
         frames_nodes = words-frames-nodes;
-        sized = rw is (words-sized old.nodes frame.value words stored.sized here some most);
         segments = ap (λ (ns : Nodes). length ns) is ∙ length-set old.nodes frame.value _;
         charges = omega (arith, total, charges.sum, stored.charges);
         own = grind arith;
@@ -193,10 +188,10 @@ module _ (old : Parts) (nodes : Nodes) (name : FrameId) (frame : Frame ℕ) (wor
         newest = refl;
       }
 
-  pub words-set : (book : Reservations) (f : Account → Account) (account : Account) → 1 ≤ length words → length words ≤ 128 →
+  pub words-set : (book : Reservations) (f : Account → Account) (account : Account) →
       ChargesWords old book name f account (charge_at old.nodes frame.value) (charge (length words)) → WordsSet old nodes book name words
-  words-set book f account some most charges =
-      stepped (holding name.serial words) stored (words-step book f account some most charges) (rw (charges.reserve, charges.opened, charges.ticks, own-changed) refl)
+  words-set book f account charges =
+      stepped (holding name.serial words) stored (words-step book f account charges) (rw (charges.reserve, charges.opened, charges.ticks, own-changed) refl)
 
 -- Stores into a node, one after another.
 
@@ -272,10 +267,10 @@ module _ {parts : Parts} {name : FrameId} {node : ℕ} (is_stored : IsStored par
   own = frame-account parts is_stored name.tenant name.serial has.frame has.there
 
   -- the words of the node become these, and its tenant is charged for them
-  set-node : (nodes : Nodes) (book : Reservations) (words : List ℕ) (f : Account → Account) → nodes ≡ with_node_words parts.nodes node words → 1 ≤ length words → length words ≤ 128 →
+  set-node : (nodes : Nodes) (book : Reservations) (words : List ℕ) (f : Account → Account) → nodes ≡ with_node_words parts.nodes node words →
       ChargesWords parts book name f own.0 (charge_at parts.nodes node) (charge (length words)) → WordsSet parts nodes book name words
-  set-node nodes book words f is some most charges =
-      words-set parts nodes name has.frame words is_stored has.there (rw has.value is) book f own.0 some most
+  set-node nodes book words f is charges =
+      words-set parts nodes name has.frame words is_stored has.there (rw has.value is) book f own.0
       (subst (λ (n : ℕ). ChargesWords parts book name f own.0 (charge_at parts.nodes n) (charge (length words))) (sym has.value) charges)
 
   pub stores-set : (nodes : Nodes) (stores : Stores) → nodes ≡ stored_in parts.nodes node stores → WordsSet parts nodes parts.book name (stored stores (words_under (shared_of parts) name))
@@ -283,20 +278,20 @@ module _ {parts : Parts} {name : FrameId} {node : ℕ} (is_stored : IsStored par
       let words = node_words parts.nodes node in
       let len = stored-length stores words in
       let charges = same-charges parts is_stored name own.0 (charge_at parts.nodes node) (charge (length (stored stores words))) own.1 (ap charge (sym len)) in
-      rw has.words (set-node nodes parts.book (stored stores words) (λ a. a) is (rw len (is_stored.sized.some node has.is_open)) (rw len (is_stored.sized.most node has.is_open)) charges)
+      rw has.words (set-node nodes parts.book (stored stores words) (λ a. a) is charges)
 
   -- a node that is longer
   pub growth-set : (nodes : Nodes) (book : Reservations) (more added : ℕ) → nodes ≡ with_node_words parts.nodes node (node_words parts.nodes node ++ replicate more 0) →
-      length (node_words parts.nodes node) + more ≤ 128 → added ≡ growth_charge (length (node_words parts.nodes node)) more → IsSoundBook book →
+      added ≡ growth_charge (length (node_words parts.nodes node)) more → IsSoundBook book →
       ChangesOnly parts.book book name.tenant (charged_by added 0) → charged_segments book.accounts ≡ charged_segments parts.book.accounts + added →
       WordsSet parts nodes book name (words_under (shared_of parts) name ++ replicate more 0)
-  growth-set nodes book more added is most added_is sound changes sum =
+  growth-set nodes book more added is added_is sound changes sum =
       let words = node_words parts.nodes node in
       let longer : List ℕ = words ++ replicate more 0 in
       let grown : length longer ≡ length words + more = length-append words (replicate more 0) ∙ ap (λ (n : ℕ). length words + n) (length-replicate more 0) in
       let after = ap charge grown in
       let charges = charged-changes parts book name own.0 (charge_at parts.nodes node) (charge (length longer)) added own.1 sound changes sum (omega (arith, after, added_is)) in
-      rw has.words (set-node nodes book longer (charged_by added 0) is (omega (arith, grown, is_stored.sized.some node has.is_open)) (omega (arith, grown, most)) charges)
+      rw has.words (set-node nodes book longer (charged_by added 0) is charges)
 
   pub growth-within : (more : ℕ) → length (words_under (shared_of parts) name) + more ≤ 128 → length (node_words parts.nodes node) + more ≤ 128
   growth-within more size = rw has.words at size

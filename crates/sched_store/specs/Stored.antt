@@ -1,7 +1,7 @@
 -- Representation: what a store keeps true of its parts.
 use Rattle.std.specs.Prelude.{◌≡◌, ℕ, ◌+◌, ◌^◌, ◌≤◌, true, List, [], length, Option, Some, None, slice_index_or}
 use Rattle.std.specs.List.{AllByRecursion}
-use Rattle.cactus_stack.specs.Nodes.{Nodes, IsOpen, node_words, node_parent, total_charge}
+use Rattle.cactus_stack.specs.Nodes.{Nodes, IsOpen, node_parent, total_charge}
 use Rattle.tenant_quota.specs.Accounts.{owner_of_account, account_of, charged_segments}
 use Rattle.tenant_quota.specs.declared.account.Account.{Account}
 use Rattle.tenant_quota.specs.Reservations.{IsSoundBook}
@@ -44,11 +44,6 @@ pub record AreFramesNodes (nodes : Nodes) (trees : List (TenantTree ℕ)) : Type
       (number ≡ other_number) × (serial ≡ other_serial)
   pub no_other : (node : ℕ) → IsOpen nodes node → HasFrame trees node
 
--- each open node has 1 to 128 words
-pub record AreSized (nodes : Nodes) : Type 0 where
-  pub some : (node : ℕ) → IsOpen nodes node → 1 ≤ length (node_words nodes node)
-  pub most : (node : ℕ) → IsOpen nodes node → length (node_words nodes node) ≤ 128
-
 -- a tenant's account and its frames agree: it is charged for its frames, has as many places for them as segments, and their serials were given
 pub record IsAccountFor (nodes : Nodes) (trees : List (TenantTree ℕ)) (number : ℕ) (account : Account) : Type 0 where
   pub charged : account.charged ≡ charged_for (with_words_of_nodes nodes (frames_of trees number))
@@ -74,8 +69,6 @@ pub record IsStored (parts : Parts) : Type 0 where
   pub book : IsSoundBook parts.book
   -- each frame has one open node, and each open node one frame
   pub frames_nodes : AreFramesNodes parts.nodes parts.trees
-  -- 1 to 128 words a node
-  pub sized : AreSized parts.nodes
   -- each tenant's account agrees with its frames
   pub accounts : (number : ℕ) (account : Account) → account_of number parts.book.accounts ≡ Some account → IsAccountFor parts.nodes parts.trees number account
   -- a number without an account has no places for frames

@@ -31,6 +31,8 @@ impl<A: Allocator> Store<A> {
         ensures name { result ≡ record { tenant = tenant; serial = serials_in self.old tenant + 1 } }
         ensures opened { self.new ≡ on_tenant tenant (opened parent words.now size home) self.old }
     {
+        // So each frame is charged a segment, and there are no more frames than segments that they are charged.
+        self.stack.sizes_are_in_limits();
         let above = parent_node(&self.table, tenant, parent);
         let before = self.book.open(tenant, charge(size) as u32).unwrap();
         let serial = before as u64 + 1;

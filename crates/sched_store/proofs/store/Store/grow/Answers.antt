@@ -12,12 +12,10 @@ has g c = has-node _ c.self.invariant _ _ (rw (← c.self.view_is) at c.requires
 -- what the stack and the book made of it
 grown : (g : _) (c : After-unwrap-2 g) → WordsSet (parts_of c.self.inside) c.grow.new.self c.charge.new.self c.args.name (words_under (shared_of (parts_of c.self.inside)) c.args.name ++ replicate c.args.more 0)
 grown g c =
-    let size = rw (← c.self.view_is) at c.requires.size in
     let node = has-node (parts_of c.self.inside) c.self.invariant c.args.name c.node_of-node.result (rw (← c.self.view_is) at c.requires.there) c.node_of-node.ensures in
     let changes = rw c.unwrap-2.ensures at c.charge.ensures.charges in
     let sum = rw c.unwrap-2.ensures at c.charge.ensures.sum in
-    growth-set c.self.invariant node _ _ c.args.more c.growth_charge-added.result (rw c.unwrap.ensures at c.grow.ensures.grown) (growth-within c.self.invariant node c.args.more size)
-    (c.growth_charge-added.ensures ∙ ap (λ n. growth_charge n c.args.more) (c.len.ensures.value ∙ ap length c.own.ensures)) c.charge.ensures.sound changes sum
+    growth-set c.self.invariant node _ _ c.args.more c.growth_charge-added.result (rw c.unwrap.ensures at c.grow.ensures.grown) (c.growth_charge-added.ensures ∙ ap (λ n. growth_charge n c.args.more) (c.len.ensures.value ∙ ap length c.own.ensures)) c.charge.ensures.sound changes sum
 
 pub node_of-node-requires : goal.node_of-node-requires
 node_of-node-requires g c = there-has (parts_of c.self.inside) c.self.invariant c.args.name (rw (← c.self.view_is) at c.requires.there)

@@ -15,8 +15,6 @@ step g c =
       there = own.1.0;
       parent_there = parent-for (parts_of c.self.inside) c.self.invariant c.args.tenant c.args.parent c.self.view_is c.requires.parent;
       above_is = c.parent_node-above.ensures;
-      some = size.0;
-      most = size.1.0;
       room = size.1.1;
       unused = (rw c.unwrap-node.ensures at c.open-2.ensures.was_unused);
       nodes_is = (rw c.unwrap-node.ensures at c.open-2.ensures.opened);
@@ -51,7 +49,7 @@ add-requires g c =
     record {
       above = rw serial (c.self.invariant.accounts c.args.tenant own.0 own.1.0).serials;
       parent = parent-in (frames_of c.self.inside.table c.args.tenant) c.args.tenant c.args.parent c.parent_name.result parent c.parent_name.ensures;
-      room = place-left (parts_of c.self.inside) c.self.invariant c.args.tenant c.args.size own.0 own.1.0 size.0 own.1.1.0;
+      room = place-left (parts_of c.self.inside) c.self.invariant c.args.tenant c.args.size own.0 c.sizes_are_in_limits.ensures.some own.1.0 size.0 own.1.1.0;
     }
 
 pub open-requires : goal.open-requires
