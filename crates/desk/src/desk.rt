@@ -5,6 +5,7 @@ ghost use Rattle.hall.specs.Journals.{is_worker_step};
 ghost use Rattle.hall.specs.Halls.{count_of};
 ghost use Rattle.hall.specs.jamboree_rules.Places.{root_words, frame_size};
 ghost use Rattle.hall.specs.jamboree_rules.Procedure.{jamboree};
+ghost use Rattle.hall.specs.jamboree_rules.othello_eval.othello_moves.declared.choices.TheConstants.{DEEPEST};
 ghost use Rattle.sched_rules.specs.declared.step.StepOf.TheVariants.{AdmitMore, Submit, Cancel, Leave};
 ghost use Rattle.sched_rules.specs.Cores.{tenant_in};
 ghost use Rattle.sched_rules.specs.Views.{left_in_core, live_of};
@@ -126,7 +127,7 @@ impl<L: DeskLedger, A: Allocator + Clone> Desk<L, A> {
         position: &Position,
         depth: u8,
     ) -> Result<u64, Refusal>
-        requires { depth ≤ 12 }
+        requires { depth ≤ DEEPEST }
         ensures asked { IsAsked (record { board = position.now.board; depth = depth }) seat.old result seat.new }
         ensures full { length seat.old.asked ≡ 256 → seat.new ≡ seat.old }
         ensures told { length seat.old.asked ≢ 256 → IsToldOf L.begun seat.old.known (Submit seat.old.tenant (root_words position.now.board.own position.now.board.opp depth) frame_size) result seat.new.known }

@@ -7,6 +7,7 @@ ghost use Rattle.sched_rules.specs.declared.step.DidOf.{DidOf};
 ghost use Rattle.hall.specs.jamboree_rules.declared.leaf.Leaf.{Leaf as LeafOf};
 ghost use Rattle.hall.specs.jamboree_rules.Places.{root_words, frame_size};
 ghost use Rattle.hall.specs.jamboree_rules.Procedure.{jamboree};
+ghost use Rattle.hall.specs.jamboree_rules.othello_eval.othello_moves.declared.choices.TheConstants.{DEEPEST};
 ghost use Rattle.hall.specs.Journals.{is_worker_step};
 ghost use Rattle.hall.specs.Halls.{count_of};
 ghost use Rattle.sched_rules.specs.Headline.{is_admission};
@@ -235,7 +236,7 @@ impl<L: DeskLedger, A: Allocator + Clone> LockedHall<L, A> {
         position: &Position,
         depth: u8,
     ) -> Result<u64, Refusal>
-        requires { depth ≤ 12 }
+        requires { depth ≤ DEEPEST }
         ensures others { IsAsOpen self.old self.new }
         ensures asked { IsAsked (record { board = position.now.board; depth = depth }) seat.old result seat.new }
         ensures refused { IfErr result (Contains ask_refusals) }

@@ -10,7 +10,7 @@ ghost use Rattle.jamboree.specs.Numbers.{status_number};
 ghost use Rattle.jamboree.specs.Knowledge.{known_of};
 
 use crate::phases::Status;
-use crate::score::{score_of_word, word_of_score};
+use crate::score::{GREATEST_WORD, LEAST_WORD, score_of_word, word_of_score};
 use jamboree_rules::othello_eval::BoundKind;
 
 /// What is known of a choice: a score, and what that says of the value of the choice.
@@ -76,7 +76,7 @@ impl PackedBound {
             return self.word == 0;
         }
         let word = self.word / 4;
-        800_000 <= word && word <= 1_200_000
+        LEAST_WORD <= word && word <= GREATEST_WORD
     }
 }
 

@@ -3,6 +3,7 @@ ghost use Rattle.std.specs.Prelude.{◌≡◌, ◌≢◌, ◌+◌, ◌<◌, ◌�
 ghost use Rattle.othello_board.specs.Words.{cells};
 ghost use Rattle.othello_moves.specs.Choices.{choices, plies};
 ghost use Rattle.jamboree_rules.specs.Frames.{Frame, choice_at, rest_at, floor, may_be_child};
+ghost use Rattle.jamboree_rules.specs.Places.{frame_size};
 ghost use Rattle.jamboree_rules.specs.Acts.{spawns, opening_on, first_search, first_open, tests, tests_from, act_of};
 ghost use Rattle.jamboree.specs.Numbers.{role_number};
 ghost use Rattle.jamboree.specs.Plans.{act_for, spawn_of};
@@ -114,7 +115,7 @@ fn first_search(frame: &FrameView, words: &Words) -> FramePlan
 fn tests(frame: &FrameView, words: &Words) -> FramePlan
     requires deep { 0 < frame.now.goal.depth }
     requires choices { frame.now.count ≡ length (choices (cells frame.now.board)) }
-    requires entries { length words.now ≡ 12 + frame.now.count }
+    requires entries { length words.now ≡ frame_size + frame.now.count }
     ensures { act_for result ≡ tests_from (frame_with frame.now (entries_of words.now)) (first_open (statuses_in words.now)) }
 {
     let open = first_open(words);
@@ -163,7 +164,7 @@ fn test(frame: &FrameView, number: usize, rest: PackedBound) -> FramePlan
 #[inline(always)]
 pub(crate) fn later(frame: &FrameView, words: &Words) -> FramePlan
     requires later { (frame_in frame.now).phase ≢ 0 }
-    requires entries { length words.now ≡ 12 + frame.now.count }
+    requires entries { length words.now ≡ frame_size + frame.now.count }
     ensures { (grain : ℕ) (parent : Option Frame) → act_for result ≡ act_of grain (frame_with frame.now (entries_of words.now)) parent }
 {
     match frame.phase {
@@ -178,7 +179,7 @@ pub(crate) fn later(frame: &FrameView, words: &Words) -> FramePlan
 /// depth 0 or where the game is over; else it gets an entry for each choice at its first act.
 #[inline(always)]
 pub(crate) fn of_root(grain: u8, frame: &FrameView, words: &Words) -> FramePlan
-    requires { length words.now ≡ 12 + frame.now.count }
+    requires { length words.now ≡ frame_size + frame.now.count }
     ensures { act_for result ≡ act_of grain (frame_with frame.now (entries_of words.now)) None }
 {
     match frame.phase {

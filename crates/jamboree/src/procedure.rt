@@ -3,7 +3,7 @@ ghost use Rattle.std.specs.Prelude.{◌≡◌, ◌≤◌, ◌+◌, ◌↔◌, �
 ghost use Rattle.othello_board.specs.Words.{cells};
 ghost use Rattle.othello_moves.specs.Choices.{choices};
 ghost use Rattle.jamboree_rules.specs.Frames.{may_be_child};
-ghost use Rattle.jamboree_rules.specs.Places.{frame_of, is_formed, pairs_of};
+ghost use Rattle.jamboree_rules.specs.Places.{frame_of, is_formed, pairs_of, frame_size};
 ghost use Rattle.jamboree_rules.specs.Acts.{returns, act_of, next_act, wakes, inlet_of, inlet_act};
 ghost use Rattle.jamboree_rules.specs.Leaves.{changes_of_answer};
 ghost use Rattle.jamboree_rules.specs.Fits.{AreFitting};
@@ -79,7 +79,7 @@ impl FrameView {
 /// What a frame in these words does next with no level above it. One that isn't a root returns.
 #[inline(always)]
 fn plan_alone(grain: u8, frame: &FrameView, own: &Words) -> FramePlan
-    requires { length own.now ≡ 12 + frame.now.count }
+    requires { length own.now ≡ frame_size + frame.now.count }
     ensures { act_for result ≡ (if (frame_in frame.now).role == 0 then act_of grain (frame_with frame.now (entries_of own.now)) None else returns) }
 {
     match frame.role {
@@ -91,7 +91,7 @@ fn plan_alone(grain: u8, frame: &FrameView, own: &Words) -> FramePlan
 /// What a frame in these words does next under this parent. One that can't be a child of it returns.
 #[inline(always)]
 fn plan_under(grain: u8, frame: &FrameView, own: &Words, parent: &FrameView) -> FramePlan
-    requires { length own.now ≡ 12 + frame.now.count }
+    requires { length own.now ≡ frame_size + frame.now.count }
     ensures { (others : List ℕ) → act_for result ≡ (if may_be_child (frame_with parent.now others) (frame_in frame.now) then act_of grain (frame_with frame.now (entries_of own.now)) (Some (frame_with parent.now others)) else returns) }
 {
     if !frame.may_be_under(parent) {
@@ -106,7 +106,7 @@ fn plan_under(grain: u8, frame: &FrameView, own: &Words, parent: &FrameView) -> 
 /// What a frame in the words `own` does next under a parent in the words `above`, whose form is checked. It returns
 /// where `above` doesn't have the form of a frame, or the frame can't be a child of that parent.
 fn plan_below(grain: u8, frame: &FrameView, own: &Words, above: &Words) -> FramePlan
-    requires { length own.now ≡ 12 + frame.now.count }
+    requires { length own.now ≡ frame_size + frame.now.count }
     ensures { act_for result ≡ (if is_formed above.now && may_be_child (frame_of above.now) (frame_in frame.now) then act_of grain (frame_with frame.now (entries_of own.now)) (Some (frame_of above.now)) else returns) }
 {
     if !is_formed(above) {

@@ -10,7 +10,7 @@ use crate::reply::{MOST, Reply};
 use crate::view::{kept_entries, kept_view};
 use jamboree_rules::othello_eval::{Bound, BoundKind};
 use othello_board::Board;
-use othello_moves::{Choice, choice};
+use othello_moves::{Choice, DEEPEST, choice};
 
 /// What is known of the choices with these entries, in their order; the places after them hold a filler.
 fn known_in(entries: &[u64]) -> [KnownBound; MOST]
@@ -80,7 +80,7 @@ impl Reply {
     /// The depth, 0 to 12 plies.
     pub fn depth(&self) -> u8
         ensures value { result ≡ depth_of self.now }
-        ensures shallow { result ≤ 12 }
+        ensures shallow { result ≤ DEEPEST }
     {
         self.depth
     }

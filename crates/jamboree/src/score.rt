@@ -5,6 +5,12 @@ ghost use Rattle.jamboree_rules.specs.Places.{score_of, word_of};
 /// What is added to a score to make a word of it, so that no word is negative.
 const OFFSET: i32 = 1_000_000;
 
+/// The word of the least score that a frame holds, -200,000.
+pub(crate) const LEAST_WORD: u64 = 800_000;
+
+/// The word of the greatest score that a frame holds, 200,000.
+pub(crate) const GREATEST_WORD: u64 = 1_200_000;
+
 /// The word of a score from -1,000,000 to 1,000,000.
 pub(crate) fn word_of_score(score: i32) -> u64
     requires low { negsuc 999999 ≤ℤ score }

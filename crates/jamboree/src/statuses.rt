@@ -1,6 +1,7 @@
 //! How the choices of a frame stand: the entries after its first twelve words, segment by segment.
 ghost use Rattle.std.specs.Prelude.{◌≡◌, ◌≤◌, ◌==◌, ◌&&◌, nat_lt, drop, length, map, slice_index};
-ghost use Rattle.jamboree_rules.specs.Places.{status_of, are_entries};
+ghost use Rattle.jamboree_rules.specs.Frames.{status_failed};
+ghost use Rattle.jamboree_rules.specs.Places.{status_of, are_entries, frame_size};
 ghost use Rattle.jamboree_rules.specs.Acts.{first_open};
 ghost use Rattle.jamboree.specs.Views.{statuses_in, rests_in};
 
@@ -24,8 +25,8 @@ fn all_are_entries(entries: &[u64]) -> bool
 /// Whether each word after the first twelve of a frame is a valid entry.
 #[tactic(auto, using(crate::proofs::Rules::are_entries_rules))]
 pub(crate) fn are_entries(words: &Words) -> bool
-    requires { 12 ≤ length words.now }
-    ensures { result ≡ are_entries (drop 12 words.now) }
+    requires { frame_size ≤ length words.now }
+    ensures { result ≡ are_entries (drop frame_size words.now) }
 {
     for number in 0..charge(words.len()) {
         if !all_are_entries(entries(words, number)) {
@@ -52,7 +53,7 @@ fn open_in(entries: &[u64]) -> usize
 #[inline(always)]
 #[tactic(auto, using(crate::proofs::Rules::first_open_rules))]
 pub(crate) fn first_open(words: &Words) -> usize
-    requires { 12 ≤ length words.now }
+    requires { frame_size ≤ length words.now }
     ensures value { result ≡ first_open (statuses_in words.now) }
     ensures small { result ≤ 116 }
 {
@@ -70,7 +71,7 @@ pub(crate) fn first_open(words: &Words) -> usize
 #[inline(always)]
 pub(crate) fn has_failed(words: &Words, number: usize) -> bool
     requires { number ≤ 128 }
-    ensures { result ≡ (nat_lt number (length (statuses_in words.now)) && (slice_index (statuses_in words.now) number == 3)) }
+    ensures { result ≡ (nat_lt number (length (statuses_in words.now)) && (slice_index (statuses_in words.now) number == status_failed)) }
 {
     match entry(words, number) {
         Some(entry) => is_entry_of(entry, Status::Failed),

@@ -18,14 +18,14 @@ use crate::entry::PackedBound;
 use crate::frame::{FrameView, Goal};
 use crate::phases::{Phase, Role, Status};
 use crate::plan::NewChild;
-use crate::score::{score_of_word, word_of_score};
+use crate::score::{GREATEST_WORD, LEAST_WORD, score_of_word, word_of_score};
 use crate::statuses::are_entries;
 use cactus_stack::Words;
 use jamboree_rules::Leaf;
 use jamboree_rules::leaf_search::INF;
 use jamboree_rules::sched_rules::{Continuation, GivenWords, Stores};
 use othello_board::Board;
-use othello_moves::choice_count;
+use othello_moves::{DEEPEST, choice_count};
 use position_text::Position;
 
 /// The size of a new frame in words, after which the entries of its choices stand.
@@ -83,7 +83,7 @@ fn read_any_head(words: &Words) -> Head
 /// The twelve words that a segment begins with.
 #[inline(always)]
 fn head_in(front: &[u64]) -> Head
-    requires { 12 ≤ length front.now }
+    requires { frame_size ≤ length front.now }
     ensures { result ≡ head_of front.now }
 {
     Head {
@@ -106,7 +106,7 @@ fn head_in(front: &[u64]) -> Head
 #[inline(always)]
 #[tactic(auto, using(crate::proofs::Rules::read_head_rules))]
 fn read_head(words: &Words) -> Head
-    requires { 12 ≤ length words.now }
+    requires { frame_size ≤ length words.now }
     ensures { result ≡ head_of words.now }
 {
     head_in(words.segment(0))
@@ -115,7 +115,7 @@ fn read_head(words: &Words) -> Head
 /// The entries of choices in the segment of this number, from 0: the whole segment, but in segment 0 only what follows
 /// the first twelve words.
 pub(crate) fn entries<'a>(words: &Words<'a>, number: usize) -> &'a [u64]
-    requires { 12 ≤ length words.now }
+    requires { frame_size ≤ length words.now }
     ensures { result.now ≡ entries_in words.now number }
 {
     let segment = words.segment(number);
@@ -129,7 +129,7 @@ pub(crate) fn entries<'a>(words: &Words<'a>, number: usize) -> &'a [u64]
 /// The number of the first choice, from 0, whose entry stands in the segment of this number.
 pub(crate) fn first_number(number: usize) -> usize
     requires { number ≤ 8 }
-    ensures { result ≡ 16 * number - 12 }
+    ensures { result ≡ 16 * number - frame_size }
 {
     (16 * number).saturating_sub(SIZE)
 }
@@ -137,7 +137,7 @@ pub(crate) fn first_number(number: usize) -> usize
 /// The entry of the choice of this number, from 0; `None` where there is none.
 pub(crate) fn entry(words: &Words, number: usize) -> Option<u64>
     requires { number ≤ 128 }
-    ensures { result ≡ slice_get words.now (12 + number) }
+    ensures { result ≡ slice_get words.now (frame_size + number) }
 {
     words.get(SIZE + number)
 }
@@ -149,10 +149,10 @@ impl Head {
         ensures { result ≡ is_leaf self.now.own self.now.opp self.now.depth (score_of self.now.alpha) (score_of self.now.beta) }
     {
         self.own & self.opp == 0
-            && self.depth <= 12
-            && 800_000 <= self.alpha
+            && self.depth <= u64::from(DEEPEST)
+            && LEAST_WORD <= self.alpha
             && self.alpha < self.beta
-            && self.beta <= 1_200_000
+            && self.beta <= GREATEST_WORD
     }
 
     /// The board, depth and window as a leaf to compute; where they can't be searched (`is_leaf`), the empty board to
@@ -186,8 +186,9 @@ impl Head {
         0 < self.depth && 0 < self.count && self.count == choice_count(board) as u64
     }
 
-    /// Whether best score and count are as the phase asks. In the phases `New` and `Computing` both words are 0; later
-    /// the score is within -200,000 to 200,000, and in `First` and `Tests` the count is right (`counts_choices`).
+    /// Whether best score and count are as the phase asks. In the phases `New` (0) and `Computing` (1) both words are 0;
+    /// later the score is within -200,000 to 200,000, and in `First` (2) and `Tests` (3) the count is right
+    /// (`counts_choices`).
     fn is_in_phase(&self) -> bool
         requires { bit_and self.now.own self.now.opp ≡ 0 }
         ensures { result ≡ is_in_phase (frame_from self.now []) }
@@ -195,7 +196,7 @@ impl Head {
         if self.phase <= 1 {
             return self.best == 0 && self.count == 0;
         }
-        if self.best < 800_000 || 1_200_000 < self.best {
+        if self.best < LEAST_WORD || GREATEST_WORD < self.best {
             return false;
         }
         if self.phase == 2 || self.phase == 3 {
@@ -270,7 +271,7 @@ pub(crate) fn is_formed(words: &Words) -> bool
 pub(crate) fn view(words: &Words) -> FrameView
     requires { is_formed words.now ≡ true }
     ensures frame { frame_with result (entries_of words.now) ≡ frame_of words.now }
-    ensures entries { length words.now ≡ 12 + result.count }
+    ensures entries { length words.now ≡ frame_size + result.count }
 {
     let count = words.len() - SIZE;
     read_head(words).view(count)
@@ -365,7 +366,7 @@ pub(crate) fn kept_view(words: &[u64]) -> FrameView
     requires form { is_formed words.now ≡ true }
     requires few { length words.now ≤ 128 }
     ensures frame { frame_with result (entries_of words.now) ≡ frame_of words.now }
-    ensures entries { length words.now ≡ 12 + result.count }
+    ensures entries { length words.now ≡ frame_size + result.count }
 {
     let count = words.len() - SIZE;
     head_in(words).view(count)
@@ -373,7 +374,7 @@ pub(crate) fn kept_view(words: &[u64]) -> FrameView
 
 /// The entries that a job keeps of its returned root, which stand after the twelve words.
 pub(crate) fn kept_entries(words: &[u64]) -> &[u64]
-    requires { 12 ≤ length words.now }
+    requires { frame_size ≤ length words.now }
     ensures { result.now ≡ entries_of words.now }
 {
     &words[SIZE..]
@@ -403,14 +404,14 @@ pub(crate) fn are_root_words(words: &[u64]) -> bool
 {
     words.len() == 8
         && words[0] & words[1] == 0
-        && words[2] <= 12
+        && words[2] <= u64::from(DEEPEST)
         && words == root_of(words[0], words[1], words[2]).as_slice()
 }
 
 /// The words to submit a job with, for a search of this position to a depth of 0 to 12 plies with the full window. The
 /// size to submit with them is 12.
 pub fn root_words(position: &Position, depth: u8) -> [u64; 8]
-    requires { depth ≤ 12 }
+    requires { depth ≤ DEEPEST }
     ensures words { result ≡ root_words position.now.board.own position.now.board.opp depth }
     ensures fits { AreFitting (padded result frame_size) [] Neither }
     ensures rooted { IsRoot result (padded result frame_size) }

@@ -6,6 +6,7 @@ ghost use Rattle.jamboree_rules.specs.Places.{root_words as words_of_root, frame
 ghost use Rattle.jamboree_core.specs.Replies.{IsSearch};
 
 use jamboree::{Jamboree, root_words};
+use othello_moves::DEEPEST;
 use position_text::Position;
 use sched_rules::{GivenWords, Step, StepOf};
 
@@ -14,7 +15,7 @@ const SIZE: usize = 12;
 
 /// The step by which a tenant asks for the search of a position to a depth of 0 to 12 plies.
 pub fn submit(tenant: u64, position: &Position, depth: u8) -> Step<Jamboree>
-    requires { depth ≤ 12 }
+    requires { depth ≤ DEEPEST }
     ensures step { result ≡ Submit tenant (words_of_root position.now.board.own position.now.board.opp depth) frame_size }
     ensures search { IsSearch {A = LeafAnswer} result }
 {

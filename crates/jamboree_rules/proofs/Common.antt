@@ -41,6 +41,7 @@ pub use Rattle.othello_moves.specs.Choices.{IsAllowed, after, choices, choices_w
 unfoldable pub use Rattle.othello_moves.specs.Choices.{in_order}
 pub use Rattle.othello_moves.specs.declared.choices.Choice.{Choice}
 pub use Rattle.othello_moves.specs.declared.choices.Choice.TheVariants.{Pass, Square}
+pub use Rattle.othello_moves.specs.declared.choices.TheConstants.{DEEPEST}
 pub use Rattle.sched_rules.specs.Functions.{Functions}
 pub use Rattle.sched_rules.specs.Laws.{AcceptKeeps, ActFits, Computes, HasReturned, InletKeeps, Mark, Neither, NewChildFits, NextKeeps, ParentFits}
 pub use Rattle.sched_rules.specs.Laws.{children_after, children_left, grown, has_one, mark_after}

@@ -9,7 +9,7 @@ ghost use Rattle.leaf_search.specs.Bounds.{IsBound};
 use super::scored::{Counted, Scored};
 use super::window::{INF, Window};
 use othello_board::Board;
-use othello_eval::othello_moves::{Choices, Mobility, plies};
+use othello_eval::othello_moves::{Choices, DEEPEST, Mobility, plies};
 use othello_eval::{Weighed, final_value};
 
 /// Searches a board to a depth of 0 to 12 plies through a window (fail-soft alpha-beta: Fishburn 1983).
@@ -21,7 +21,7 @@ use othello_eval::{Weighed, final_value};
 /// is the fail-soft one, and what `visited` counts, is tested and not proved.
 /// Takes no memory and refuses nothing.
 pub fn search(board: Board, depth: u8, alpha: i32, beta: i32) -> Scored
-    requires shallow { depth ≤ 12 }
+    requires shallow { depth ≤ DEEPEST }
     requires least { neg_ℤ INF ≤ℤ alpha }
     requires open { alpha <ℤ beta }
     requires greatest { beta ≤ℤ INF }
@@ -40,7 +40,7 @@ pub fn search(board: Board, depth: u8, alpha: i32, beta: i32) -> Scored
 /// Searches a board to a depth of 0 to 12 plies through the full window, in which every value lies: the
 /// score is the minimax value, and the choice the best choice.
 pub fn search_full(board: Board, depth: u8) -> Scored
-    requires { depth ≤ 12 }
+    requires { depth ≤ DEEPEST }
     ensures score { result.score ≡ minimax depth (cells board) }
     ensures choice { result.choice ≡ best_choice depth (cells board) }
     ensures within { IsWithin 128000 result.score }

@@ -6,7 +6,7 @@ ghost use Rattle.othello_eval.specs.Minimax.{minimax, best_choice};
 
 use super::values::{eval, final_value};
 use othello_board::Board;
-use othello_moves::{Choice, Choices, after, plies};
+use othello_moves::{Choice, Choices, DEEPEST, after, plies};
 
 /// A value of a board to some depth, and the first choice that attains it.
 #[derive(Clone, Copy, Debug, PartialEq, Eq)]
@@ -20,7 +20,7 @@ pub struct Valued {
 /// The minimax value of a board to a depth, 0 to 12, and the best choice.
 #[tactic(auto, using(othello_moves::proofs::AllowedLemmas::goes_down))]
 pub fn plain(board: Board, depth: u8) -> Valued
-    requires { depth ≤ 12 }
+    requires { depth ≤ DEEPEST }
     ensures value { result.value ≡ minimax depth (cells board) }
     ensures within { IsWithin 128000 result.value }
     ensures choice { result.choice ≡ best_choice depth (cells board) }

@@ -2,6 +2,9 @@
 ghost use Rattle.std.specs.Prelude.{◌≡◌, ◌≤◌};
 ghost use Rattle.othello_moves.specs.Choices.{plies};
 
+/// The greatest depth to which a board may be searched, in plies.
+pub const DEEPEST: u8 = 12;
+
 /// What the player to move may do.
 #[derive(Clone, Copy, Debug, PartialEq, Eq)]
 pub enum Choice {

@@ -37,7 +37,7 @@ mod mobility;
 pub mod rows;
 mod sequence;
 
-pub use choices::{Choice, plies};
+pub use choices::{Choice, DEEPEST, plies};
 pub use game::{after, choice, choice_count, over};
 pub use legal::{move_count, moves};
 pub use mobility::Mobility;

@@ -10,7 +10,7 @@ ghost use Rattle.page_engine.specs.Codes.{after_code};
 use super::codes::choice_of;
 use leaf_search::search_full;
 use othello_board::Board;
-use othello_moves::{Choice, after, plies};
+use othello_moves::{Choice, DEEPEST, after, plies};
 
 /// The board after the choice that has this code, seen by the other player; None where no choice of the board has it.
 pub(crate) fn board_after(board: Board, code: u32) -> Option<Board>
@@ -26,7 +26,7 @@ pub(crate) fn board_after(board: Board, code: u32) -> Option<Board>
 pub(crate) fn worth(board: Board, choice: Choice, depth: u8) -> i32
     requires chosen { Contains (choices (cells board)) choice }
     requires deep { 0 < depth }
-    requires shallow { depth ≤ 12 }
+    requires shallow { depth ≤ DEEPEST }
     ensures value { result ≡ choice_value depth (cells board) choice }
     ensures within { IsWithin 128000 result }
 {

@@ -12,10 +12,7 @@ use super::choosing::{board_after, worth};
 use super::codes::{choice_of, code_of_best};
 use leaf_search::search_full;
 use othello_board::Board;
-use othello_moves::{Choice, Choices, moves};
-
-/// The most plies that a search looks ahead.
-const DEEPEST: u32 = 12;
+use othello_moves::{Choice, Choices, DEEPEST, moves};
 
 /// What stands for no value.
 const NO_VALUE: i32 = i32::MIN;
@@ -102,11 +99,11 @@ pub extern "C" fn opp_after(own: u64, opp: u64, choice: u32) -> u64
 /// The two come in one number, as the memory of a page's module holds no place that a page could name.
 #[unsafe(no_mangle)]
 pub extern "C" fn analyse(own: u64, opp: u64, depth: u32) -> i64
-    ensures value { bit_and own opp ≡ 0 → depth ≤ 12 → result ≡ analysis_code (minimax depth (cells_of own opp)) (best_choice depth (cells_of own opp)) }
+    ensures value { bit_and own opp ≡ 0 → depth ≤ DEEPEST → result ≡ analysis_code (minimax depth (cells_of own opp)) (best_choice depth (cells_of own opp)) }
     ensures no_board { bit_and own opp ≢ 0 → result ≡ no_analysis }
-    ensures too_deep { 12 < depth → result ≡ no_analysis }
+    ensures too_deep { DEEPEST < depth → result ≡ no_analysis }
 {
-    if depth > DEEPEST {
+    if depth > u32::from(DEEPEST) {
         return NO_ANALYSIS;
     }
     match Board::new(own, opp) {
@@ -123,13 +120,13 @@ pub extern "C" fn analyse(own: u64, opp: u64, depth: u32) -> i64
 /// depth is 0 or above 12.
 #[unsafe(no_mangle)]
 pub extern "C" fn choice_value(own: u64, opp: u64, depth: u32, choice: u32) -> i32
-    ensures value { bit_and own opp ≡ 0 → 0 < depth → depth ≤ 12 → result ≡ option_map_or (choice_value depth (cells_of own opp)) (choice_of_code (cells_of own opp) choice) no_value }
-    ensures within { bit_and own opp ≡ 0 → 0 < depth → depth ≤ 12 → IsSome (choice_of_code (cells_of own opp) choice) → IsWithin 128000 result }
+    ensures value { bit_and own opp ≡ 0 → 0 < depth → depth ≤ DEEPEST → result ≡ option_map_or (choice_value depth (cells_of own opp)) (choice_of_code (cells_of own opp) choice) no_value }
+    ensures within { bit_and own opp ≡ 0 → 0 < depth → depth ≤ DEEPEST → IsSome (choice_of_code (cells_of own opp) choice) → IsWithin 128000 result }
     ensures no_board { bit_and own opp ≢ 0 → result ≡ no_value }
     ensures no_depth { depth ≡ 0 → result ≡ no_value }
-    ensures too_deep { 12 < depth → result ≡ no_value }
+    ensures too_deep { DEEPEST < depth → result ≡ no_value }
 {
-    if depth == 0 || depth > DEEPEST {
+    if depth == 0 || depth > u32::from(DEEPEST) {
         return NO_VALUE;
     }
     match Board::new(own, opp) {

@@ -6,14 +6,12 @@ ghost use Rattle.protocol.specs.Views.{read_as};
 use crate::faults::ProtocolFault;
 use crate::questions::Question;
 use crate::words::word_number;
+use othello_moves::DEEPEST;
 use position_text::read;
-
-/// The greatest depth that may be asked for, in plies.
-const MOST_DEPTH: u32 = 12;
 
 /// The question about the position in `text`, to `depth` plies, or the first fault in it: length, cell, side (24 to 26).
 fn position_question(depth: u8, text: &[u8]) -> Result<Question, ProtocolFault>
-    requires { depth ≤ 12 }
+    requires { depth ≤ DEEPEST }
     ensures { read_as result ≡ position_question depth text.now }
 {
     match read(text) {
@@ -30,7 +28,7 @@ pub fn read_question(depth: &[u8], position: &[u8]) -> Result<Question, Protocol
     let Some(number) = word_number(depth) else {
         return Err(ProtocolFault::NoNumber);
     };
-    if number > MOST_DEPTH {
+    if number > u32::from(DEEPEST) {
         return Err(ProtocolFault::TooDeep);
     }
     position_question(number as u8, position)

@@ -1,5 +1,6 @@
 //! What is asked of a position.
 ghost use Rattle.std.specs.Prelude.{◌≤◌};
+ghost use Rattle.othello_moves.specs.declared.choices.TheConstants.{DEEPEST};
 
 use position_text::Position;
 
@@ -10,5 +11,5 @@ pub struct Question {
     pub depth: u8,
     /// The position.
     pub position: Position,
-    ghost shallow: { depth ≤ 12 },
+    ghost shallow: { depth ≤ DEEPEST },
 }

@@ -9,6 +9,7 @@ ghost use Rattle.desk_rules.specs.hall.Halls.{count_of};
 ghost use Rattle.desk_rules.specs.hall.Journals.{is_worker_step};
 ghost use Rattle.desk_rules.specs.hall.jamboree_rules.declared.leaf.Leaf.{Leaf as LeafOf};
 ghost use Rattle.desk_rules.specs.hall.jamboree_rules.Places.{root_words, frame_size};
+ghost use Rattle.desk_rules.specs.hall.jamboree_rules.othello_eval.othello_moves.declared.choices.TheConstants.{DEEPEST};
 ghost use Rattle.desk_rules.specs.jamboree_core.Replies.{IsSearch};
 ghost use Rattle.desk_rules.specs.jamboree_core.declared.outcomes.Outcome.{Outcome as OutcomeOf};
 ghost use Rattle.desk_rules.specs.jamboree_core.Outcomes.{IsOutcomeIn};
@@ -206,7 +207,7 @@ impl<A: Allocator + Clone> LockedSite<A> {
         position: &Position,
         depth: u8,
     ) -> Result<u64, Refusal>
-        requires { depth ≤ 12 }
+        requires { depth ≤ DEEPEST }
         ensures asked { IsSiteAsk (record { board = position.now.board; depth = depth }) seat.old result seat.new }
         ensures refused { IfErr result (Contains ask_refusals) }
         ensures full { length seat.old.asked ≡ 256 → self.new ≡ self.old }

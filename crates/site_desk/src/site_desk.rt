@@ -3,13 +3,14 @@ ghost use Rattle.std.specs.Prelude.{◌≡◌, ◌≢◌, ◌≤◌, [], true, E
 ghost use Rattle.sched_rules.specs.declared.refusal.Refusal.TheVariants.{NoJob, NoTenant, OutOfMemory};
 ghost use Rattle.site_desk.specs.declared.turned.Turned.TheVariants.{OldTenant as NumbersOut};
 ghost use Rattle.desk_rules.specs.hall.Journals.{is_worker_step};
+ghost use Rattle.desk_rules.specs.hall.jamboree_rules.othello_eval.othello_moves.declared.choices.TheConstants.{DEEPEST};
 ghost use Rattle.desk_rules.specs.Asked.{ask_refusals, cancel_refusals, seat_asked_at, IsShown};
 ghost use Rattle.fair_pool.specs.Lines.{empty_line};
 ghost use Rattle.task_deques.specs.Deals.{posts};
 ghost use Rattle.site_desk.specs.Entries.{IsEntry};
 ghost use Rattle.site_desk.specs.Seats.{IsSiteAsk};
 
-use crate::bells::{SLEEP_SECS, Bells};
+use crate::bells::{Bells, SLEEP_SECS};
 use crate::booked::BookedHall;
 use crate::came::Came;
 use crate::entry::SeatOutcome;
@@ -153,7 +154,7 @@ impl<A: Allocator + Clone> SiteDesk<A> {
         position: &Position,
         depth: u8,
     ) -> Result<u64, Refusal>
-        requires { depth ≤ 12 }
+        requires { depth ≤ DEEPEST }
         ensures asked { IsSiteAsk (record { board = position.now.board; depth = depth }) seat.old result seat.new }
         ensures refused { IfErr result (Contains ask_refusals) }
     {

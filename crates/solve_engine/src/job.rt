@@ -14,6 +14,7 @@ use jamboree_core::leaf_search::search_full;
 use jamboree_core::sched_core::Core;
 use jamboree_core::{Outcome, outcome_of, step_search, submit};
 use othello_eval::Valued;
+use othello_moves::DEEPEST;
 use position_text::Position;
 use sched_rules::StepOf;
 use std::alloc::{AllocError, Allocator};
@@ -47,7 +48,7 @@ pub(crate) fn ask<A: Allocator + Clone>(
     position: &Position,
     depth: u8,
 )
-    requires { depth ≤ 12 }
+    requires { depth ≤ DEEPEST }
     ensures { (grain : ℕ) (quota : Quota) → IsWithinLimits quota → IsNewCore grain quota core.old
         → WorksOn (record { grain = grain; quota = quota; asked = root_words position.now.board.own position.now.board.opp depth ∷ [] }) core.new }
 {
@@ -60,7 +61,7 @@ pub(crate) fn answer_in<A: Allocator>(
     position: &Position,
     depth: u8,
 ) -> Searched
-    requires shallow { depth ≤ 12 }
+    requires shallow { depth ≤ DEEPEST }
     requires there { (quota : Quota) × HasReserved quota core.now.shared }
     requires asked { HasAsked (root_words position.now.board.own position.now.board.opp depth ∷ []) core.now.shared }
     ensures value { result.answer.value ≡ minimax depth (cells position.now.board) }
@@ -85,7 +86,7 @@ pub(crate) fn answer_in<A: Allocator>(
 
 /// What one serial search finds. How it was found and what is left are as given.
 fn search_serially(position: &Position, depth: u8, way: Way, left: Left) -> Searched
-    requires { depth ≤ 12 }
+    requires { depth ≤ DEEPEST }
     ensures value { result.answer.value ≡ minimax depth (cells position.now.board) }
     ensures choice { result.answer.choice ≡ best_choice depth (cells position.now.board) }
     ensures way { result.way ≡ way }

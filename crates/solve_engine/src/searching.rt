@@ -10,6 +10,7 @@ use crate::job::{admit, answer_in, ask};
 use crate::worker::work;
 use jamboree_core::jamboree::Jamboree;
 use jamboree_core::sched_core::{Config, Core};
+use othello_moves::DEEPEST;
 use position_text::Position;
 use std::alloc::{AllocError, Allocator};
 use tenant_quota::Reserve;
@@ -33,7 +34,7 @@ pub fn solve_by_core<A: Allocator + Clone>(
     depth: u8,
     grain: u8,
 ) -> Result<Searched, AllocError>
-    requires shallow { depth ≤ 12 }
+    requires shallow { depth ≤ DEEPEST }
     requires fine { grain ≤ 6 }
     ensures value { IfOk result (λ found. found.answer.value ≡ minimax depth (cells position.now.board)) }
     ensures choice { IfOk result (λ found. found.answer.choice ≡ best_choice depth (cells position.now.board)) }
@@ -54,7 +55,7 @@ pub fn search_within<A: Allocator + Clone>(
     grain: u8,
     reserve: Reserve,
 ) -> Result<Searched, AllocError>
-    requires shallow { depth ≤ 12 }
+    requires shallow { depth ≤ DEEPEST }
     requires fine { grain ≤ 6 }
     ensures found { IfOk result (λ found. IsFoundBy grain reserve (root_words position.now.board.own position.now.board.opp depth) found) }
     ensures value { IfOk result (λ found. found.answer.value ≡ minimax depth (cells position.now.board)) }

@@ -5,6 +5,7 @@ use crate::agreement::Done;
 use crate::reader::ReaderAnswer;
 use crate::words::LineWords;
 use jamboree::{Leaf, LeafAnswer};
+use jamboree_rules::othello_eval::othello_moves::DEEPEST;
 use othello_board::Board;
 use std::fmt::Debug;
 use toys::FanAnswer;
@@ -53,7 +54,7 @@ fn read_leaf(words: &mut LineWords<'_>) -> Option<Leaf> {
     let depth = words.byte()?;
     let alpha = words.score()?;
     let beta = words.score()?;
-    if depth > 12 || alpha < -200_000 || alpha >= beta || beta > 200_000 {
+    if depth > DEEPEST || alpha < -200_000 || alpha >= beta || beta > 200_000 {
         return None;
     }
     Some(Leaf {

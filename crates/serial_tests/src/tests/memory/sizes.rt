@@ -3,12 +3,15 @@ ghost use Rattle.std.specs.Prelude.{◌≤◌};
 
 use crate::tests::memory::frames::{add, make_places, name, table_of};
 use crate::tests::{heap_of, holds};
-use frame_tree::FrameTable;
+use frame_tree::{FrameTable, PLACES};
 use linked_list_allocator::LocalHeap;
 use segment_region::Region;
 use std::alloc::Global;
 use std::process::Abort;
 use tenant_quota::Book;
+
+/// Up to so many places a raise to 4,096 takes just what 4,096 take at once.
+const MOST_RAISED_EXACTLY: usize = 2032;
 
 /// Makes a region of so many segments, all of them free.
 fn make_region(rt: &impl Abort, alloc: Global, count: usize)
@@ -47,8 +50,8 @@ fn books_of_all_sizes(rt: HostRuntime) {
 /// How much memory a table takes whose tenant has so many places at first, and then as many as can be, if they are more.
 fn used_after_a_raise(rt: &impl Abort, heap: &LocalHeap, places: usize) -> usize {
     let mut table: FrameTable<u64, &LocalHeap> = table_of(rt, heap, 7, places);
-    if places < 4096 {
-        make_places(rt, &mut table, 7, 4096);
+    if places < PLACES {
+        make_places(rt, &mut table, 7, PLACES);
     }
     heap.used()
 }
@@ -59,10 +62,13 @@ fn used_after_a_raise(rt: &impl Abort, heap: &LocalHeap, places: usize) -> usize
 #[test]
 fn tables_of_all_sizes(rt: HostRuntime) {
     let heap = heap_of(&rt, rt.alloc(), 1 << 21);
-    let at_once = used_after_a_raise(&rt, &heap, 4096);
-    for places in 1usize..4096 {
+    let at_once = used_after_a_raise(&rt, &heap, PLACES);
+    for places in 1..PLACES {
         let used = used_after_a_raise(&rt, &heap, places);
-        holds(&rt, used == at_once || places > 2032 && used > at_once);
+        holds(
+            &rt,
+            used == at_once || places > MOST_RAISED_EXACTLY && used > at_once,
+        );
     }
 }
 
@@ -78,7 +84,7 @@ fn fill(rt: &impl Abort, table: &mut FrameTable<u64, &LocalHeap>, tenant: u64, p
 fn used_after_a_raise_of_frames(rt: &impl Abort, heap: &LocalHeap, places: usize) -> usize {
     let mut table: FrameTable<u64, &LocalHeap> = table_of(rt, heap, 7, places);
     fill(rt, &mut table, 7, places as u64);
-    make_places(rt, &mut table, 7, 4096);
+    make_places(rt, &mut table, 7, PLACES);
     heap.used()
 }
 
@@ -86,8 +92,8 @@ fn used_after_a_raise_of_frames(rt: &impl Abort, heap: &LocalHeap, places: usize
 #[test]
 fn full_tables_of_all_sizes(rt: HostRuntime) {
     let heap = heap_of(&rt, rt.alloc(), 1 << 21);
-    let at_once = used_after_a_raise(&rt, &heap, 4096);
-    for places in [1, 2, 63, 64, 65, 500, 1000, 2032] {
+    let at_once = used_after_a_raise(&rt, &heap, PLACES);
+    for places in [1, 2, 63, 64, 65, 500, 1000, MOST_RAISED_EXACTLY] {
         let used = used_after_a_raise_of_frames(&rt, &heap, places);
         holds(&rt, used == at_once);
     }

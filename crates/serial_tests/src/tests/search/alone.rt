@@ -3,7 +3,7 @@ ghost use Rattle.std.specs.Prelude.{◌≤◌};
 
 use super::{heap_of, holds, holds_at, left_of, opening};
 use frame_tree::FrameId;
-use othello_moves::Choice;
+use othello_moves::{Choice, DEEPEST};
 use pool_rules::{Action, Holding};
 use position_text::{Position, read};
 use sched_rules::{DidOf, Worker};
@@ -24,7 +24,7 @@ fn solved<A: Allocator + Copy>(
     depth: u8,
     grain: u8,
 ) -> Result<Searched, AllocError>
-    requires depth { depth ≤ 12 }
+    requires depth { depth ≤ DEEPEST }
     requires grain { grain ≤ 6 }
 {
     solve_by_core(alloc, position, depth, grain)
@@ -93,7 +93,7 @@ fn is_deep(found: &Searched, grain: u8) -> bool {
 
 /// Whether such a core does the search of that position to this depth, at this grain.
 fn is_done_deep(alloc: Global, depth: u8, grain: u8) -> bool
-    requires depth { depth ≤ 12 }
+    requires depth { depth ≤ DEEPEST }
     requires grain { grain ≤ 6 }
 {
     let Ok(position) = read(NEAR_THE_END) else {
@@ -159,7 +159,7 @@ fn each_growth_is_refused_in_turn(rt: HostRuntime) {
 
 /// How often a search that is done by its core calls its allocator; 0 where it isn't.
 fn calls_of(counted: &CountedAlloc<Global>, depth: u8) -> u64
-    requires { depth ≤ 12 }
+    requires { depth ≤ DEEPEST }
 {
     let before = counted.calls();
     match solved(counted, &opening(), depth, 0) {
