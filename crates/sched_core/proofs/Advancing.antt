@@ -36,8 +36,8 @@ module _ (serial : ℕ) (words : List ℕ) {tenant : Tenant} (shape : IsShaped t
 module _ {I A : Type 0} {functions : Functions I A} {shared : CoreState} {worker : ℕ} {name : FrameId} {tenant : Tenant} {frame : F} {act : Act}
     (t : IsSetOut functions shared worker name tenant frame act) where
   -- a step is left to it
-  pub set-left : TenantHasStepLeft shared name.tenant
-  set-left = step-left (begins name.tenant tenant shared t.owner) t.passes.1.0
+  pub has-step-left : TenantHasStepLeft shared name.tenant
+  has-step-left = step-left (begins name.tenant tenant shared t.owner) t.passes.1.0
 
   module _ {now : CoreState} (is : now ≡ on_tenant name.tenant counted shared) where
     -- the tenant with the step counted
@@ -79,7 +79,7 @@ module _ {I A : Type 0} {functions : Functions I A} {shared : CoreState} {worker
             segments = rw (segments-as frame words act.after same, charged-as name.serial words shape frame t.found same) t.passes.1.1.1.1.0;
           }
 
-      -- which is judged by what comes of that
+      -- where what comes after the stores had its outcome (IsCome), the Advance is answered as step_result says
       pub step_result-advance : {root : Bool} {did : DidOf I} {after : CoreState} → root ≡ is_root frame.path →
           ((before : Tenant) (going : F) → GoesOn next name worker act.after before going → root ≡ is_root going.path →
           IsCome name.tenant (then_done functions before worker name going.path going.value act.after) next did after) →

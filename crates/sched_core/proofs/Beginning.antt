@@ -2,7 +2,7 @@
 use Rattle.sched_core.proofs.Common.{◌≡◌, ℕ, ◌+◌, ◌<◌, true, false, List, [], ◌∷◌, Option, Some, None, Ok, refl, sym, ◌∙◌, arith, nat_tests, has_frame, below-found, found-there, Quota, Job, Live, NoTenant, Admit, Submit, Admitted, Functions, Tenant, Tree, admitted_with, number_from, job_under, unless, submitted, submit_tests, opened, on_tenant, AreNumbersGiven, CoreState, tenant_in, step_result, shared_refusal, admit_tests, tenant_in-new, above, IsShaped, AreLiveRootsThere, with_admitted, FollowsResult, AllPass, inl, inr, cases_Bool, Lower, AdmitMore, AdmittedMore, is_lower, raised, with_reserve, reservations_in, reserved_by, is_beyond, IsAboveOwn}
 use Rattle.sched_core.proofs.TakenStep.{all-pass, step_result-taken, IsWith, begins, then-changed, with_tenant-new}
 use Rattle.sched_core.proofs.Deciding.{not-elsewhere}
-use Rattle.sched_core.proofs.Ending.{root-found}
+use Rattle.sched_laws.proofs.FitSteps.{root-found}
 
 -- Submit
 pub record IsSubmitting {I A : Type 0} (functions : Functions I A) (shared : CoreState) (number : ℕ) (words : List ℕ) (size : ℕ) : Type 0 where

@@ -3,7 +3,6 @@ pub use Rattle.std.proofs.Common.{drop, take, vec_len, ◌==◌}
 pub use Rattle.std.proofs.Math.Bool.{or-false, or-true}
 pub use Rattle.std.proofs.lemmas.Bool.{true≢false}
 pub use Rattle.std.proofs.lemmas.Bool.Decides.{nat_tests}
-pub use Rattle.std.proofs.lemmas.Grind.{common_steps}
 pub use Rattle.std.proofs.lemmas.List.{take_more}
 pub use Rattle.std.proofs.lemmas.Result.{err_from_is_err_and}
 pub use Rattle.std.specs.Prelude.{IfSome, IsSome, MatchResult, OnErr, OnOk, if◌then◌else◌, is_err, is_some, not, option_and_then, option_map, replicate, ◌&&◌}
@@ -27,7 +26,7 @@ pub use Rattle.sched_laws.proofs.Common.{counted, does_wait, ended, eq-eqb, fals
 pub use Rattle.sched_laws.proofs.Common.{frame_at-other-without, frames_without, goes_under, has_child, has_frame, holding, in_state, inl, inlet_tests, inr}
 pub use Rattle.sched_laws.proofs.Common.{is_admission, is_bad_then, is_beyond, is_busy_in, is_child_of, is_computed_by, is_lower, is_ok, is_outside, is_ready}
 pub use Rattle.sched_laws.proofs.Common.{is_returned, is_root, is_run_by, is_spendable, job_at, job_under, kept_words, left, length, lone, mark_of_state}
-pub use Rattle.sched_laws.proofs.Common.{meets_busy, newest_ready_of, not-false, number_from, only, opened, or_parts, origins_after, origins_of, parent_of, path_in, raised, refl}
+pub use Rattle.sched_laws.proofs.Common.{meets_busy, newest_ready_of, not-false, number_from, only, opened, or_parts, origins_after, origins_of, parent_of, raised, refl}
 pub use Rattle.sched_laws.proofs.Common.{refusal_in, reservations_in, reserved_by, root_of, segments_for, shared-after-taken, shared_after, shared_by_nobody}
 pub use Rattle.sched_laws.proofs.Common.{shared_with, sight, spent, staying, steal_tests, step-taken, step_result, stored, submit_tests, submitted, sym}
 pub use Rattle.sched_laws.proofs.Common.{take_tests, taken_by, taken_in, taken_steps, tenant_in, then_done, there-found, tree-rising, true, under-below}
@@ -36,13 +35,13 @@ pub use Rattle.sched_laws.proofs.Common.{◌<◌, ◌∙◌, ◌∷◌, ◌≡�
 pub use Rattle.sched_laws.proofs.Consequences.{live-root, returned-leaf, root-above, shaped-in, shaped_answer}
 pub use Rattle.sched_laws.proofs.FitAnswers.{answer-keeps, run-fits}
 pub use Rattle.sched_laws.proofs.Fits.{FitsSomehow, IsLawful, sight-top, sight-under}
-pub use Rattle.sched_laws.proofs.Holds.{F, charged-with_frame_words, children_of-with_frame_words, fits-holds, frame_at-with_frame_words, kids, length-stored}
+pub use Rattle.sched_laws.proofs.Holds.{F, charged-with_frame_words, children_of-with_frame_words, fits-holds, frame_at-with_frame_words, kids}
 pub use Rattle.sched_laws.proofs.Holds.{length-with_frame_words, no-frame}
 pub use Rattle.sched_laws.proofs.Latest.{newest-found}
-pub use Rattle.sched_laws.proofs.Parts.{path-there}
 pub use Rattle.sched_laws.proofs.Shaped.{AllPass}
 pub use Rattle.sched_laws.proofs.Sums.{free-whole, left-nodes, left-segments, left-steps, reserved-answer}
 pub use Rattle.sched_rules.proofs.Isolation.{headline, right-answer}
+pub use Rattle.sched_rules.proofs.StoreLemmas.{length-stored}
 pub use Rattle.sched_rules.proofs.Tenants.{tenant_in-new, tenant_in-with_tenant}
 pub use Rattle.sched_rules.specs.Changes.{ending_job, on_tenant, with_change, with_job, with_reserve, without_frame, without_under}
 pub use Rattle.sched_rules.specs.Cores.{is_busy_elsewhere, shared_refusal}

@@ -1,7 +1,8 @@
 -- A job that ends, with all its frames.
-use Rattle.sched_core.proofs.Common.{◌≡◌, ℕ, false, List, [], ◌∷◌, Option, Some, None, Ok, refl, arith, IsSome, not, FrameId, frame_at, path_in, root_of, IsTree, there-found, aborted-leaf, Live, Cancelled as CancelledJob, NotSpent, Finish, Spend, Cancel, Functions, Tenant, has_child, job_at, ended, spent, finished, finish_tests, is_spendable, on_tenant, without_under, named, job_of, CoreState, tenant_in, step_result, shared_refusal, AreShaped, path-there, shaped-in, live-root, root-above, frames_in_core, words_under, F, Bool, Refusal}
+use Rattle.sched_core.proofs.Common.{◌≡◌, ℕ, false, List, [], ◌∷◌, Option, Some, None, Ok, refl, arith, IsSome, not, FrameId, frame_at, root_of, IsTree, aborted-leaf, Live, Cancelled as CancelledJob, NotSpent, Finish, Spend, Cancel, Functions, Tenant, has_child, job_at, ended, spent, finished, finish_tests, is_spendable, on_tenant, without_under, named, job_of, CoreState, tenant_in, step_result, shared_refusal, AreShaped, shaped-in, live-root, root-above, frames_in_core, words_under, F, Bool, Refusal}
 use Rattle.sched_rules.specs.declared.step.DidOf.TheVariants.{Cancelled}
 use Rattle.sched_core.proofs.TakenStep.{IsWith, IsGoing, going, with_change-there}
+use Rattle.sched_laws.proofs.FitSteps.{root-found}
 
 -- the tenant and the frame of a name
 pub record IsNamed (shared : CoreState) (name : FrameId) : Type 0 where
@@ -44,10 +45,6 @@ module _ (before now : CoreState) (number : ℕ) (tenant : Tenant) where
   pub aborted-childless : (serial : ℕ) → IsTree tenant.frames → IsWith before number (without_under serial tenant) now →
       has_child (frames_in_core now number) serial ≡ false
   aborted-childless serial tree is = grind (arith, aborted-leaf)
-
--- a root whose path is known is there
-pub root-found : (frames : List F) (serial : ℕ) → path_in frames serial ≡ serial ∷ [] → (frame : F) × (frame_at frames serial ≡ Some frame)
-root-found frames serial is = there-found frames serial (path-there frames serial is)
 
 -- Cancel: the live job
 pub record IsLive {I A : Type 0} (functions : Functions I A) (shared : CoreState) (number job root : ℕ) : Type 0 where

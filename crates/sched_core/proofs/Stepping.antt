@@ -1,5 +1,5 @@
 -- What one step does, from how it is judged; and a list of steps.
-use Rattle.sched_core.proofs.Common.{◌≡◌, ℕ, inl, inr, true, List, [], ◌∷◌, ◌++◌, None, Result, Ok, Err, refl, sym, ◌∙◌, append_assoc, append-nil, length, take, ◌≤◌, arith, true≢false, common_steps, Refusal, OutOfMemory, StepOf, DidOf, Functions, Outcome, answer_of, CoreState, step_result, shared_after, shared_refusal, is_admission, IsAnswerTo, IsOneStep, after_answer, after_answers, AreAnswersTo, IsHeadline, AreNumbersGiven, right-answer, step-taken, shared-after-taken, headline, Fitting, Rooting, only, taken_steps, OnErr, is_ok, CoreFits, RootFits, RootsFit, origins_of, origins_after, IsLawful, answer-keeps, run-fits, shaped_answer, reserved-answer, IsKeptCore, FollowsResult, IsAdmitted}
+use Rattle.sched_core.proofs.Common.{◌≡◌, ℕ, inl, inr, true, List, [], ◌∷◌, ◌++◌, None, Result, Ok, Err, refl, sym, ◌∙◌, append_assoc, append-nil, arith, true≢false, Refusal, OutOfMemory, StepOf, DidOf, Functions, Outcome, answer_of, CoreState, step_result, shared_after, shared_refusal, is_admission, IsAnswerTo, IsOneStep, after_answer, after_answers, AreAnswersTo, IsHeadline, AreNumbersGiven, right-answer, step-taken, shared-after-taken, headline, Fitting, Rooting, only, taken_steps, OnErr, is_ok, CoreFits, RootFits, RootsFit, origins_of, origins_after, IsLawful, answer-keeps, run-fits, shaped_answer, reserved-answer, IsKeptCore, FollowsResult, IsAdmitted}
 
 -- the core after a step that was judged
 module _ {I A : Type 0} (functions : Functions I A) (before : CoreState) (step : StepOf A) (answer : Result (DidOf I) Refusal) where
@@ -90,9 +90,6 @@ module _ {I A : Type 0} (functions : Functions I A) (before : CoreState) (steps 
   pub runs-out : AreNumbersGiven before → IsRunning functions before steps earlier items now →
       (answered : List (Result (DidOf I) Refusal)) × (items ≡ earlier ++ answered) × IsHeadline functions before steps answered now
   runs-out known runs = (runs.answered, runs.appended, rw runs.left (headline functions before steps runs.answered known runs.right))
-
-pub take-all : {X : Type 0} (xs : List X) (n : ℕ) → length xs ≤ n → take n xs ≡ xs
-take-all xs n le = grind (arith, common_steps)
 
 -- a lawful procedure's frames go on fitting
 module _ {I A : Type 0} {functions : Functions I A} {fits : Fitting} {rooted : Rooting} (before : CoreState) (lawful : IsLawful functions fits rooted) where

@@ -54,6 +54,7 @@ pub root-counted : (jobs : List Job) (xs : Tree) (s : ℕ) (f : F) → AreRootsL
 root-counted jobs [] s f roots at root = absurd cc
 root-counted jobs (x ∷ xs) s f roots at root = grind (arith, root-counted jobs xs s f)
 
+-- the job of a root frame lives
 module _ (tenant : Tenant) (s : ℕ) (f : F) (shape : IsShaped tenant) (at : frame_at tenant.frames s ≡ Some f) where
   pub root-live : is_root f.path ≡ true → job_at tenant.jobs (job_under s tenant.jobs) ≡ Some (Live s)
   root-live root = (let one = root-counted tenant.jobs tenant.frames s f shape.roots at root in job-found s tenant.jobs (omega (arith, one)))
@@ -136,6 +137,7 @@ more-taken {A = A} functions before number quota outcome is =
 pub own-shaped : (n : ℕ) (es : Entries) → AreShaped es → LeftShaped (tenant_in es n)
 own-shaped n es all = grind (arith, shaped-in)
 
+-- a step that is taken leaves its tenant shaped
 module _ {I A : Type 0} (functions : Functions I A) (before : CoreState) (outcome : Outcome I) (all : AreShaped before.tenants) where
   among-shaped : (step : StepOf A) → step_among functions before step ≡ Ok outcome → LeftShaped outcome.0
   among-shaped step is =
@@ -147,6 +149,7 @@ module _ {I A : Type 0} (functions : Functions I A) (before : CoreState) (outcom
   step_result-shaped (AdmitMore number quota) is = grind (arith, lone-shaped, more-taken, own-shaped)
   step_result-shaped step is = among-shaped step is
 
+-- all tenants stay shaped, whatever a step is answered, and over a list of answers
 module _ {I A : Type 0} (functions : Functions I A) where
   after-shaped : (before : CoreState) (step : StepOf A) (came_to : Result (Outcome I) Refusal) → step_result functions before step ≡ came_to →
       AreShaped before.tenants → AreShaped (shared_after before step came_to).tenants

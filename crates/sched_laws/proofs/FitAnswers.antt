@@ -1,4 +1,4 @@
--- Every answer leaves a core fitting, and so does every list of them.
+-- Every answer leaves a core fitting, and so does every list of them; lists of steps in parts, and how many jobs there are.
 use Rattle.sched_laws.proofs.Common.{◌≡◌, ◌≢◌, ℕ, ◌<◌, ◌≤◌, inl, inr, true, false, eqb, List, [], ◌∷◌, ◌++◌, Option, Some, None, Result, Ok, Err, refl, ap, sym, ◌∙◌, arith, append_assoc, append-nil, suc, ◌+◌, length, is_ok, ◌==◌, cases_Bool, cases_eq, eq-eqb, ne_eqb, Quota, root_of, Refusal, Continuation, StepOf, Admit, AdmitMore, Submit, DidOf, Admitted, Submitted, Functions, Tenant, admitted_with, Tree, Fitting, Rooting, ParentFits, NewChildFits, Outcome, lone, lone_step, submit_tests, submitted, tenant_of, only, state_after, alone_from, answers_from, CoreState, shared_by_nobody, tenant_in, with_outcome, meets_busy, step_result, newest_after, shared_with, is_admission, IsAnswerTo, AreAnswersTo, after_answer, after_answers, taken_steps, AreNumbersGiven, tenant_in-with_outcome, tenant_in-other-with_outcome, known-number, step-taken, there, more-there, above, step_result-step, shared-after-taken, found, IsShaped, AreShaped, TenantFits, CoreFits, submits, origins_of, RootFits, RootsFit, origins_after, StaysFitting, JobsFit, filter-append, Job, Spent as SpentJob, Cancelled as CancelledJob}
 use Rattle.sched_laws.proofs.Shaped.{unless-passed, came, by-effects}
 use Rattle.sched_laws.proofs.Consequences.{root-above, live-root, shaped-in, not-busy, more-taken, shaped_answer}
@@ -34,7 +34,7 @@ module _ {I A : Type 0} (functions : Functions I A) (before : CoreState) (step :
   known-answer (Err refusal) known right = known
   known-answer (Ok did) known right = let t = step-taken functions before step did known right in rw (shared-after-taken functions before step did t) t.known
 
--- the origins after a list of steps
+-- the same origins by another name
 same-core : (fits : Fitting) (rooted : Rooting) (a b : ℕ → Lists) (shared : CoreState) → ((number : ℕ) → a number ≡ b number) →
     CoreFits fits rooted a shared → CoreFits fits rooted b shared
 same-core fits rooted a b shared same core = record {
@@ -42,6 +42,7 @@ same-core fits rooted a b shared same core = record {
   unused = λ number low. sym (same number) ∙ core.unused number low;
 }
 
+-- the origins after a list of steps, by its first
 origins-on : {I A : Type 0} (origins : ℕ → Lists) (step : StepOf A) (did : DidOf I) (rest : List (StepOf A)) (number : ℕ) →
     origins_after origins step (Ok did) number ++ origins_of (only number rest) ≡ origins number ++ origins_of (only number (step ∷ rest))
 origins-on origins step did rest number = elim (cases_Bool (eqb (tenant_of step) number)) [
@@ -132,7 +133,7 @@ module _ {I A : Type 0} {functions : Functions I A} {fits : Fitting} {rooted : R
           let numbers = numbers-after functions before step outcome known is in
           other number (λ e. omega (arith, e, low, numbers.0)) ∙ core.unused number (omega (arith, low, numbers.1))
 
--- a procedure, and what it keeps of its frames and roots
+-- a core that fits does so after one answer (answer-keeps), at each of a list (stays-fitting) and after all (run-fits)
 module _ {I A : Type 0} (functions : Functions I A) (fits : Fitting) (rooted : Rooting) where
   pub answer-keeps : (origins : ℕ → Lists) (before : CoreState) (step : StepOf A) (answer : Result (DidOf I) Refusal) →
       IsLawful functions fits rooted → AreNumbersGiven before → AreShaped before.tenants → CoreFits fits rooted origins before →
@@ -220,6 +221,7 @@ as-many : (fits : Fitting) (rooted : Rooting) (tree : Tree) (origins : Lists) (j
 as-many fits rooted tree (origin ∷ origins) (job ∷ jobs) all = ap (λ (n : ℕ). suc n) (as-many fits rooted tree origins jobs all.1)
 as-many fits rooted tree origins jobs all = grind arith
 
+-- from nobody on, a tenant has as many jobs as it submitted
 module _ {I A : Type 0} (functions : Functions I A) (number : ℕ) (tenant : Tenant) where
   pub jobs_counted : (totals : Quota) (steps : List (StepOf A)) (answers : List (Result (DidOf I) Refusal)) →
       AreAnswersTo functions (shared_by_nobody totals) steps answers →

@@ -1,4 +1,4 @@
--- What stands above a frame, and a law of a procedure applied there.
+-- What stands above a frame, and a law of a procedure applied there; and what is left after the stores of an act.
 use Rattle.sched_laws.proofs.Common.{◌≡◌, ◌≢◌, ℕ, ◌≤◌, inl, inr, true, List, [], ◌∷◌, ◌++◌, Option, Some, None, refl, ap, sym, ◌∙◌, arith, suc, ◌+◌, ltb, length, map-append, reverse-append, false≢true, eq-eqb, eqb-true, eqb-false, frame_at, path_in, parent_of, children_of, IsTree, with_state, values_of, new_frame, is_that, is_child_of, Each, found-serial, tree-rising, IsUnder, IsTop, placed, children-by-paths, found-there, found-path, frame_at-left, found-each, frame_at-stays, rising-filter, filter-found, Job, Functions, Tree, Tenant, frame_words, words_in, sight, has_child, is_root, with_frame_words, with_ended, is_live_at, Fitting, Rooting, Mark, Neither, mark_of_state, ParentFits, NextKeeps, InletKeeps, AcceptKeeps, EveryFrameFits, AllFit, has_one, IsShaped, AreMarkedChildless, AreLiveRootsThere, live_count, JobFits, JobsFit, TenantFits, filter, padded, State, tree-new_frame, new-frame-next, parent_of-path_under, AllBelow-alike, path_in-alike, tree-with_state, counted, in_state, holding, opened}
 use Rattle.sched_laws.proofs.Parts.{childless-at, no-child, path-there}
 use Rattle.sched_laws.proofs.Consequences.{root-counted}
@@ -54,6 +54,7 @@ KeepsAbove C fits rooted tree f words =
     (origin : List ℕ) (above older younger : Lists) → sight tree f.path ≡ f.value ∷ above → ParentFits fits rooted origin above older f.value younger →
     C × ParentFits fits rooted origin above older words younger
 
+-- where every frame fits, a procedure that keeps such a law keeps what stands above the frame
 module _ (C : Type 0) (fits : Fitting) (rooted : Rooting) (tree : Tree) (s : ℕ) (f : F) (words : List ℕ) (t : IsTree tree) where
   pub kept-above : AreMarkedChildless tree tree → EveryFrameFits fits tree → frame_at tree s ≡ Some f → HasOrigin rooted f →
       KeepsAbove C fits rooted tree f words → C × IsKeptAbove fits rooted tree f words
@@ -144,7 +145,7 @@ module _ (fits : Fitting) (rooted : Rooting) where
       grind (arith, jobs-ended old new root ended origins jobs end kept, job-origin, eqb-false)
   jobs-ended old new root ended origins jobs end kept there all = grind arith
 
--- Every step of a tenant leaves its frames fitting, and its jobs holding what they were asked.
+-- What each kind of change owes, so that a tenant still fits.
 
 -- the words of another frame, and of the frame itself
 module _ (n : ℕ) (words : List ℕ) (tree : Tree) where

@@ -1,14 +1,9 @@
--- A tree with other words in a frame: what is found, whose children, and what is charged.
-use Rattle.sched_laws.proofs.Common.{◌≡◌, ◌≢◌, ℕ, suc, ◌+◌, ◌≤◌, inl, inr, Bool, false, eqb, List, [], ◌∷◌, ◌++◌, Some, length, refl, ap, sym, ◌∙◌, arith, true, not, Option, None, append-nil, filter, length-set, sum_by-append, sum_by-cons, cases_Bool, eqb-true, cases_eq, false≢true, ne_eqb, not-true, not_from_false, charge, Frame, frame_at, has_frame, children_of, values_of, IsTree, parent_of, goes_under, aborted, frames_without, with_state, IsNextFrame, is_child_of, AreSerialsRising, AreAlike, is_that, Each, above-missing, children-by-paths, there-found, found-serial, missing, frame_at-push, frame_at-other-push, tree-rising, placed, under-through, tree-push, has_frame-above, children_under, without_job, found-each, each-found, tree-alike, children_of-push, frame_at-other-with_state, children_of-with_state, values_of-with_state, Tree, charged_for, with_frame_words, stored, State, aborted-itself, rising-filter, frame_at-filter, frame_at-stays, filter-found, tree-aborted, tree-without, frame_at-without, frame_at-other-without, aborted-leaf, Fitting, Mark, mark_of_state, EachFits, EveryFrameFits}
+-- What holds of each frame of a tree holds after each change of it: other words, another state, a frame more, a leaf removed, an abort.
+use Rattle.sched_laws.proofs.Common.{◌≡◌, ◌≢◌, ℕ, suc, ◌+◌, ◌≤◌, inl, inr, Bool, false, eqb, List, [], ◌∷◌, ◌++◌, Some, length, refl, ap, sym, ◌∙◌, arith, true, not, Option, None, append-nil, filter, sum_by-append, sum_by-cons, cases_Bool, eqb-true, cases_eq, false≢true, ne_eqb, not-true, not_from_false, charge, Frame, frame_at, has_frame, children_of, values_of, IsTree, parent_of, goes_under, aborted, frames_without, with_state, IsNextFrame, is_child_of, AreSerialsRising, AreAlike, is_that, Each, above-missing, children-by-paths, there-found, found-serial, missing, frame_at-push, frame_at-other-push, tree-rising, placed, under-through, tree-push, has_frame-above, children_under, without_job, found-each, each-found, tree-alike, children_of-push, frame_at-other-with_state, children_of-with_state, values_of-with_state, Tree, charged_for, with_frame_words, stored, State, aborted-itself, rising-filter, frame_at-filter, frame_at-stays, filter-found, tree-aborted, tree-without, frame_at-without, frame_at-other-without, aborted-leaf, Fitting, Mark, mark_of_state, EachFits, EveryFrameFits}
 
 -- a frame with its words
 abbrev pub F : Type 0
 F = Frame (List ℕ)
-
--- stores keep the number of words
-pub length-stored : (stores : List (ℕ × ℕ)) (words : List ℕ) → length (stored stores words) ≡ length words
-length-stored [] words = refl
-length-stored (store ∷ stores) words = length-stored stores _ ∙ length-set words store.0 store.1
 
 -- the same serials and paths
 module _ (n : ℕ) (words : List ℕ) where
@@ -135,6 +130,7 @@ found-with_state n state (x ∷ xs) f at = elim (cases_Bool (eqb x.serial n)) [
   | inr other ↦ rw other (found-with_state n state xs f (rw (other, other) at at))
 ]
 
+-- where that holds of each frame, Q does after frame n has this state
 module _ (Q : Fact) (n : ℕ) (state : State) (tree : Tree) (t : IsTree tree) where
   pub holds-with_state : Holds (BeforeState Q n state) tree → Holds Q (with_state n state tree)
   holds-with_state all s f at = elim (cases_eq s n) [
@@ -191,6 +187,7 @@ pub record IsAmongKids (tree : Tree) (s n : ℕ) (f : F) : Type 0 where
 pub no-frame : (xs : Tree) (n : ℕ) → frame_at xs n ≡ None → has_frame xs n ≡ false
 no-frame xs n none = grind (arith, there-found)
 
+-- whether frame n is among the children of s
 module _ (tree : Tree) (s n : ℕ) (f : F) (t : IsTree tree) (at : frame_at tree n ≡ Some f) where
   pub among-kids : IsChildOf s f → IsAmongKids tree s n f
   among-kids child =
@@ -244,6 +241,7 @@ module _ (n : ℕ) (f : F) (tree : Tree) (t : IsTree tree) (at_n : frame_at tree
 abbrev pub BeforePush : Fact → F → Fact
 BeforePush Q y s w k m = (is_child_of s y.path ≡ true → Q s w (k ++ y.value ∷ []) m) × (is_child_of s y.path ≡ false → Q s w k m)
 
+-- where that holds of each frame, and Q of the new one, Q holds of all of them
 module _ (Q : Fact) (tree : Tree) (y : F) (t : IsTree tree) (next : IsNextFrame tree y) where
   pub holds-push : Q y.serial y.value [] (mark_of_state y.state) → Holds (BeforePush Q y) tree → Holds Q (tree ++ y ∷ [])
   holds-push new all s f at = elim (cases_eq y.serial s) [
@@ -279,6 +277,7 @@ children-filter keep tree s t left = rw (children-by-paths _ s left, children-by
     swap p q [] = refl
     swap p q (x ∷ xs) = grind (arith, swap p q xs)
 
+-- where that holds of each frame, Q does after the leaf n is removed
 module _ (Q : Fact) (n : ℕ) (f : F) (tree : Tree) (t : IsTree tree) (at_n : frame_at tree n ≡ Some f) where
   pub holds-without : children_of tree n ≡ [] → Holds (BeforeWithout Q n f) tree → Holds Q (frames_without n tree)
   holds-without leaf all s h at = elim (cases_Bool (is_child_of s f.path)) [
@@ -303,6 +302,7 @@ filter-all : (keep : F → Bool) (xs : Tree) → Each (λ x. keep x ≡ true) xs
 filter-all keep [] all = refl
 filter-all keep (x ∷ xs) all = rw all.0 (ap (λ (ys : Tree). x ∷ ys) (filter-all keep xs all.1))
 
+-- where that holds of each frame, Q does after an abort at p
 module _ (p : ℕ) (tree : Tree) (t : IsTree tree) where
   children-stay : (s : ℕ) (h : F) → frame_at tree s ≡ Some h → goes_under p h.path ≡ false → s ≢ p → aborted p (children_of tree s) ≡ children_of tree s
   children-stay s h at stays other =

@@ -60,6 +60,7 @@ newest-answers tenant (x ∷ xs) rising = by (newest_ready_of tenant xs) refl (n
               greatest = λ s f at ready. grind (arith, behind);
             }
 
+-- what newest_ready_of finds among rising frames is the newest ready one; where it finds none, none is ready
 module _ (tenant : ℕ) (frames : Tree) where
   pub newest-found : (name : FrameId) (home : ℕ) → AreSerialsRising frames → newest_ready_of tenant frames ≡ Some (name, home) →
       IsNewestReady tenant frames name home

@@ -1,6 +1,7 @@
 -- Each part of a tenant's shape, under each change of the tree and of the jobs.
-use Rattle.sched_laws.proofs.Common.{◌≡◌, ◌≢◌, ℕ, suc, ◌+◌, ◌≤◌, ◌⊎◌, inl, inr, Bool, true, false, eqb, ltb, List, [], ◌∷◌, ◌++◌, Option, Some, None, length, refl, ap, sym, ◌∙◌, arith, length-append, ◌-◌, ◌*◌, ◌<◌, not, replicate, filter, filter-append, cases_Bool, cases_eq, false≢true, eq-eqb, ne_eqb, eqb-false, ltb-false, not_from_false, State, frame_at, has_frame, path_in, AllBelow, parent_of, with_state, children_of, values_of, IsNextFrame, IsTree, goes_under, aborted, frames_without, new_frame, is_child_of, Each, AreAlike, there-found, found-serial, found-path, frame_at-push, frame_at-other-push, tree-rising, each-found, found-each, children-by-paths, found-there, found-ends, filter-found, frame_at-stays, AllBelow-filter, tree-aborted, tree-without, tree-without_job, tree-push, children_of-push, tree-with_state, frame_at-other-with_state, children_of-with_state, tree-new_frame, new-frame-next, parent_of-path_under, AllBelow-alike, path_in-alike, with_state-alike, values_of-with_state, Job, Live, Tree, has_child, is_live_at, with_frame_words, with_ended, Tenant, charged_for, is_root, Neither, mark_of_state, AreMarkedChildless, live_count, AreRootsLive, IsRootThere, AreLiveRootsThere, HaveWords, IsShaped, length-replicate, charge, padded, EndsIn, AllBelow-append, has_frame-above, path_in-left, path_in-right, counted, in_state, holding, opened, ended, frame_at-other-without}
+use Rattle.sched_laws.proofs.Common.{◌≡◌, ◌≢◌, ℕ, suc, ◌+◌, ◌≤◌, ◌⊎◌, inl, inr, Bool, true, false, eqb, ltb, List, [], ◌∷◌, ◌++◌, Option, Some, None, length, refl, ap, sym, ◌∙◌, arith, length-append, ◌-◌, ◌*◌, ◌<◌, not, filter, filter-append, cases_Bool, cases_eq, false≢true, eq-eqb, ne_eqb, eqb-false, ltb-false, not_from_false, State, frame_at, has_frame, path_in, AllBelow, parent_of, with_state, children_of, values_of, IsNextFrame, IsTree, goes_under, aborted, frames_without, new_frame, is_child_of, Each, AreAlike, there-found, found-serial, found-path, frame_at-push, frame_at-other-push, tree-rising, each-found, found-each, children-by-paths, found-there, found-ends, filter-found, frame_at-stays, AllBelow-filter, tree-aborted, tree-without, tree-without_job, tree-push, children_of-push, tree-with_state, frame_at-other-with_state, children_of-with_state, tree-new_frame, new-frame-next, parent_of-path_under, AllBelow-alike, path_in-alike, with_state-alike, values_of-with_state, Job, Live, Tree, has_child, is_live_at, with_frame_words, with_ended, Tenant, charged_for, is_root, Neither, mark_of_state, AreMarkedChildless, live_count, AreRootsLive, IsRootThere, AreLiveRootsThere, HaveWords, IsShaped, charge, padded, EndsIn, AllBelow-append, has_frame-above, path_in-left, path_in-right, counted, in_state, holding, opened, ended, frame_at-other-without}
 use Rattle.sched_laws.proofs.Holds.{found-same, children_of-with_frame_words, length-with_frame_words, with_frame_words-alike, tree-with_frame_words, charged-one, charged-with_frame_words, charged-append, charged-filter, charged-values, F, found-with_state}
+use Rattle.cactus_stack.proofs.LawFacts.{length-padded}
 
 -- a frame that computes or has returned has no child in this tree
 abbrev pub IsMarkedChildless : Tree → F → Type 0
@@ -14,6 +15,7 @@ pub each-childless : (tree frames : Tree) → Each (IsMarkedChildless tree) fram
 each-childless tree [] each = tt
 each-childless tree (x ∷ xs) each = (each.0, each-childless tree xs each.1)
 
+-- what frame s has of children: none, where it computes or has returned
 module _ (tree : Tree) (s : ℕ) where
   pub childless-at : (f : F) → AreMarkedChildless tree tree → frame_at tree s ≡ Some f → IsMarkedChildless tree f
   childless-at f all at = each-found (IsMarkedChildless tree) tree s f (childless-each tree tree all) at
@@ -38,6 +40,7 @@ length-with_state : (n : ℕ) (state : State) (xs : Tree) → length (with_state
 length-with_state n state [] = refl
 length-with_state n state (x ∷ xs) = ap (λ (k : ℕ). suc k) (length-with_state n state xs)
 
+-- another state changes nobody's children; marked frames stay childless, where that state isn't marked or its frame has no child
 module _ (n : ℕ) (state : State) (tree : Tree) (t : IsTree tree) where
   pub has_child-with_state : (s : ℕ) → has_child (with_state n state tree) s ≡ has_child tree s
   has_child-with_state s = grind (arith, has_child-length, children_of-with_state, length-with_state)
@@ -112,6 +115,7 @@ none-filter : (p q : F → Bool) (xs : Tree) → filter q xs ≡ [] → filter q
 none-filter p q [] none = refl
 none-filter p q (x ∷ xs) none = grind (arith, none-filter p q xs)
 
+-- among the frames that are left, no frame has a child more, and marked ones stay childless
 module _ (keep : F → Bool) (tree : Tree) (t : IsTree tree) (left : IsTree (filter keep tree)) where
   pub no-child-filter : (s : ℕ) → has_child tree s ≡ false → has_child (filter keep tree) s ≡ false
   no-child-filter s none = grind (arith, none-has_child, children-by-paths, none-filter, no-child)
@@ -169,6 +173,7 @@ length-with_ended root job (x ∷ xs) = ap (λ (n : ℕ). suc n) (length-with_en
 live-one : (job : Job) (a b : ℕ) → is_live_at a job ≡ true → is_live_at b job ≡ true → a ≡ b
 live-one job a b h4 h5 = grind arith
 
+-- after the jobs under a root have ended, as many live under each other root as before
 module _ (root : ℕ) (job : Job) (end : IsEnd job) where
   pub live_count-with_ended : (s : ℕ) (jobs : List Job) → s ≢ root → live_count s (with_ended root job jobs) ≡ live_count s jobs
   live_count-with_ended s [] other = refl
@@ -195,6 +200,7 @@ end-there : (tree : Tree) (job : Job) → IsEnd job → IsRootThere tree job
 end-there tree (Live root) end = absurd (false≢true (sym (end root) ∙ eq-eqb root root refl))
 end-there tree _ end = tt
 
+-- after the jobs under a root have ended, those that live have their root frames, where the other roots stayed
 module _ (old new : Tree) (root : ℕ) (job : Job) where
   other-there : ((s : ℕ) → s ≢ root → path_in old s ≡ s ∷ [] → path_in new s ≡ s ∷ []) → is_live_at root job ≡ false → IsRootThere old job → IsRootThere new job
   other-there kept other there = grind (arith, eqb-false)
@@ -341,17 +347,11 @@ module _ (p : ℕ) where
       gone [] = refl
       gone (x ∷ xs) = elim (cases_Bool (eqb x.serial p)) [ inl same ↦ rw same (gone xs) | inr other ↦ rw (other, other) (gone xs) ]
 
--- the words that a frame begins with
-pub length-padded : (words : List ℕ) (size : ℕ) → length words ≤ size → length (padded words size) ≡ size
-length-padded words size le =
-    let whole = length-append words (replicate (size - length words) 0) in
-    let zeros = length-replicate {A = ℕ} (size - length words) 0 in omega (arith, whole, zeros, le)
-
--- what a frame of this size needs: words that are fewer, a node, and segments
+-- what a frame of this size needs: words no longer than it, a node, and segments
 pub record HasRoomFor (words : List ℕ) (size : ℕ) (tenant : Tenant) : Type 0 where
   pub some : 1 ≤ size
   pub few : size ≤ 128
-  pub fewer : length words ≤ size
+  pub fits_in : length words ≤ size
   pub node : tenant.serials < tenant.reserve.nodes
   pub segments : charged_for tenant.frames + charge size ≤ tenant.reserve.segments
 
@@ -362,6 +362,7 @@ below-more bound more (x ∷ xs) le below = (omega (arith, le, below.0), below-m
 given-push : (serial : ℕ) (xs : Tree) (y : F) → y.serial ≡ serial → AllBelow serial xs → AllBelow (serial + 1) (xs ++ y ∷ [])
 given-push serial xs y e below = AllBelow-append (serial + 1) xs (y ∷ []) (below-more serial (serial + 1) xs (omega arith) below) (omega (arith, e), tt)
 
+-- a new frame with this many words: what is charged with it, and that it has 1 to 128
 module _ (y : F) (size : ℕ) (is : length y.value ≡ size) where
   charged-push : (xs : Tree) (segments : ℕ) → charged_for xs + charge size ≤ segments → charged_for (xs ++ y ∷ []) ≤ segments
   charged-push xs segments room = grind (arith, charged-append, charged-one)
@@ -384,7 +385,7 @@ module _ (home : ℕ) (words : List ℕ) (size : ℕ) (tenant : Tenant) where
       let new = new_frame old serial (Some p) home (padded words size) in
       let there = found-there old p f at in
       let next = new-frame-next old serial (Some p) home (padded words size) s.tree s.given there in
-      let long = length-padded words size room.fewer in
+      let long = length-padded words size room.fits_in in
       let ends : EndsIn (path_in old p) p = rw (found-path old p f at) (found-ends old p f s.tree at) in
       let named : parent_of new.path ≡ Some p = parent_of-path_under old (Some p) serial s.tree there in
       record {
@@ -412,7 +413,7 @@ module _ (home : ℕ) (words : List ℕ) (size : ℕ) (tenant : Tenant) where
       let jobs = tenant.jobs ++ Live root ∷ [] in
       let new = new_frame old root None home (padded words size) in
       let next = new-frame-next old root None home (padded words size) s.tree s.given refl in
-      let long = length-padded words size room.fewer in
+      let long = length-padded words size room.fits_in in
       let lacks = has_frame-above old root s.given in
       let none = no-live old root tenant.jobs lacks s.live in
       let one : live_count root jobs ≡ 1 = live_count-append tenant.jobs root (Live root ∷ []) ∙ (rw (none, one-live root) refl) in

@@ -1,7 +1,8 @@
 -- Every step keeps the shape of its tenant, and so every answer that of all tenants.
 use Rattle.sched_laws.proofs.Common.{◌≡◌, ◌≢◌, if◌then◌else◌, ℕ, ◌+◌, ◌-◌, ◌*◌, ◌<◌, ◌≤◌, inl, inr, Bool, true, false, not, ◌||◌, ◌&&◌, eqb, ltb, List, [], ◌∷◌, ◌++◌, Option, Some, None, Result, Ok, Err, length, replicate, refl, ap, sym, ◌∙◌, subst, arith, length-append, length-replicate, false≢true, eqb-false, ltb-false, leb-true, leb-false, not-false, or_parts, and_parts, charge, growth_charge, Quota, State, Ready, Running, Computing, FrameId, frame_at, parent_of, root_of, children_of, is_ready, there-found, found-serial, tree-rising, under-there, under-below, aborted-itself, frame_at-other-without, Act, InletAct, Continuation, StepOf, Left, Grow, Spawn, Go, Wait, Compute, Return, Live, Done, Spent as SpentJob, Cancelled as CancelledJob, Refusal, NotReturned, NotSpent, OldTenant, Lower, Admit, AdmitMore, Submit, Take, Steal, Advance, Answer, Inlet, Finish, Spend, Cancel, Leave, Functions, Tree, Tenant, admitted_with, frame_words, words_in, charged_for, left, stored, is_outside, has_child, job_at, kept_words, Neither, mark_of_state, Outcome, unless, lone_step, is_lower, raised, counted, holding, ended, is_frame_size, submit_tests, submitted, take_tests, steal_tests, taken_by, is_run_by, is_returned, act_by_sight, is_bad_then, is_spawn, segments_for, advance_tests, then_done, advanced, answer_tests, answered, inlet_tests, does_wait, staying, taken_in, inlet_under, finish_tests, finished, is_spendable, spent, at_frame, IsShaped}
-use Rattle.sched_laws.proofs.Holds.{length-stored, frame_at-with_frame_words, charged-with_frame_words, F, found-own}
+use Rattle.sched_laws.proofs.Holds.{frame_at-with_frame_words, charged-with_frame_words, F, found-own}
 use Rattle.sched_laws.proofs.Parts.{childless-at, no-child, has_child-with_frame_words, words-at, shaped-counted, shaped-in_state, shaped-holding, shaped-aborted, shaped-without, shaped-ended, shaped-child, shaped-root}
+use Rattle.sched_rules.proofs.StoreLemmas.{length-stored}
 
 -- what a step leaves, if it leaves a tenant, has its shape
 abbrev pub LeftShaped : Option Tenant → Type 0
@@ -169,7 +170,7 @@ module _ (I : Type 0) {tenant : Tenant} (s : IsShaped tenant) where
       (record {
         some = fits.0;
         few = fits.1;
-        fewer = fits.2;
+        fits_in = fits.2;
         node = node-left tenant passed.1.1.0;
         segments = segments-left tenant (charge size) s.charged passed.1.1.1.0;
       }) s
@@ -207,6 +208,7 @@ grow-room c a b r le = omega arith
 grow-fits : (words more : ℕ) → ((eqb more 0) || ltb 128 (words + more)) ≡ false → words + more ≤ 128
 grow-fits words more is = ltb-false 128 (words + more) (or_parts (eqb more 0) (ltb 128 (words + more)) is).1
 
+-- what comes after the stores leaves a tenant shaped, and so do Advance and Answer
 module _ {I A : Type 0} (functions : Functions I A) where
   then-shaped : (t : Tenant) (worker : ℕ) (name : FrameId) (path words : List ℕ) (after : Continuation) (g : F) →
       frame_at t.frames name.serial ≡ Some g → g.value ≡ words → mark_of_state g.state ≡ Neither →
@@ -224,7 +226,7 @@ module _ {I A : Type 0} (functions : Functions I A) where
       grown c n o r w m long own le = grow-room c (charge n) (charge o) r (rw (long, ← own) le)
   then-shaped t worker name path words (Spawn given size) g at is free good node room s =
       let fits = size-parts given size good in
-      shaped-child worker given size t name.serial g at free (record { some = fits.0; few = fits.1; fewer = fits.2; node = node refl; segments = room }) s
+      shaped-child worker given size t name.serial g at free (record { some = fits.0; few = fits.1; fits_in = fits.2; node = node refl; segments = room }) s
   then-shaped t worker name path words Go g at is free good node room s = s
   then-shaped t worker name path words Wait g at is free good node room s = grind (arith, shaped-in_state)
   then-shaped t worker name path words Compute g at is free good node room s = shaped-in_state s name.serial (Computing worker) (inr good)
@@ -295,6 +297,7 @@ module _ (tenant : Tenant) where
       let long : length words ≡ length g.0.value = length-stored act.stores (words_in frames parent) ∙ ap (λ o. length (frame_words o)) at_g in
       shaped-counted (shaped-stored parent words _ g.0 at_g long (staying-shaped n parent f act.abort at named leaf s)) (step-left tenant passed.1.0)
 
+-- Inlet leaves a tenant shaped
 module _ (I : Type 0) (tenant : Tenant) (worker : ℕ) (f : F) where
   inlet-shaped : (name : FrameId) (parent : ℕ) (act : InletAct) → frame_at tenant.frames name.serial ≡ Some f → parent_of f.path ≡ Some parent →
       AllPass (inlet_tests tenant worker f parent act) → IsShaped tenant → LeftShaped (taken_in {I = I} tenant worker name parent act).0
@@ -309,6 +312,7 @@ module _ (I : Type 0) (tenant : Tenant) (worker : ℕ) (f : F) where
   finish-shaped passed s =
       shaped-counted (shaped-ended f.serial (Done (kept_words f.value)) tenant (λ root. refl) s) (step-left tenant passed.1.0)
 
+-- Spend leaves a tenant shaped
 module _ (I : Type 0) {tenant : Tenant} (s : IsShaped tenant) where
   spend-shaped : (f : F) → LeftShaped (spent {I = I} tenant f).0
   spend-shaped f = shaped-ended (root_of f.path) SpentJob tenant (λ root. refl) s

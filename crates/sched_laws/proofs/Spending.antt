@@ -45,6 +45,7 @@ module _ {I A : Type 0} (functions : Functions I A) (tenant : Tenant) (worker : 
 abbrev InletTests : Bool → Bool → Bool → Bool → List (Bool × Refusal)
 InletTests returned steps outside busy = (returned, NotReturned) ∷ (steps, NoSteps) ∷ (outside, BadAct) ∷ (busy, Busy) ∷ []
 
+-- by its tests an Inlet is a BadAct exactly where the child has returned and a store is outside, once a step is left
 module _ {X : Type 0} (returned outside busy : Bool) (effect : X) where
   bad-inlet : returned ≡ true → outside ≡ true → refusal_in (unless (InletTests (not returned) false outside busy) effect) ≡ Some BadAct
   bad-inlet h5 h6 = grind arith
@@ -52,6 +53,7 @@ module _ {X : Type 0} (returned outside busy : Bool) (effect : X) where
   good-inlet : (steps : Bool) → refusal_in (unless (InletTests (not returned) steps outside busy) effect) ≡ Some BadAct → (returned ≡ true) × (outside ≡ true)
   good-inlet steps is = grind arith
 
+-- the test whether a frame may be spent says what MayBeSpent says
 module _ {I A : Type 0} (functions : Functions I A) (tenant : Tenant) (name : FrameId) (frame : F) (at : frame_at tenant.frames name.serial ≡ Some frame) where
   may-forth : IsSpendable functions tenant frame → MayBeSpent functions tenant name
   may-forth is =

@@ -32,6 +32,7 @@ nodes-total : (es : Entries) → reserved_nodes (accounts_in es) ≡ all_nodes e
 nodes-total [] = refl
 nodes-total (e ∷ es) = rw (← nodes-total es) (sum_by-cons (λ (a : ℕ × Account). a.1.reserve.nodes) (e.0, account_in e.1) (accounts_in es))
 
+-- a sum over all tenants, after tenant n has changed, come or gone
 module _ (m : Tenant → ℕ) (n : ℕ) where
   total-changed : (old t : Tenant) (es : Entries) → tenant_in es n ≡ Some old → total m (with_tenant n t es) + m old ≡ total m es + m t
   total-changed old t [] at = absurd cc
@@ -94,6 +95,7 @@ module _ (before : CoreState) (quota : Quota) where
       all_nodes before.tenants + quota.nodes ≤ before.totals.nodes + own.nodes → is_beyond (reservations_in before) own quota ≡ false
   within-beyond own segments nodes = grind (arith, le-ltb, segments-total, nodes-total)
 
+-- a raised reservation that isn't beyond the totals stays within them
 module _ (before : CoreState) (number : ℕ) (old : Tenant) (quota : Quota) (at : tenant_in before.tenants number ≡ Some old) where
   further-within : is_beyond (reservations_in before) old.reserve quota ≡ false → WithinAfter before number (Some (record old { reserve = quota }))
   further-within enough =
@@ -170,6 +172,7 @@ module _ {I A : Type 0} (functions : Functions I A) (before : CoreState) (within
       let after = with_outcome (tenant_of step) outcome.0 before.tenants in
       record { segments = omega (arith, both.0, segments-total after); nodes = omega (arith, both.1, nodes-total after) }
 
+-- whatever a step is answered, the reservations stay within the totals
 module _ {I A : Type 0} (functions : Functions I A) (before : CoreState) where
   pub reserved-answer : (step : StepOf A) (answer : Result (DidOf I) Refusal) → IsReservedWithin before →
       IsReservedWithin (after_answer functions before step answer)
@@ -187,6 +190,7 @@ charged-reserved : (es : Entries) → AreShaped es → charged_in es ≤ total (
 charged-reserved [] all = omega arith
 charged-reserved (e ∷ es) all = let rest = charged-reserved es all.1 in let own = all.0.charged in omega (arith, rest, own)
 
+-- all that is charged is within the totals, and what is free is the rest of them
 module _ (shared : CoreState) (all : AreShaped shared.tenants) (within : IsReservedWithin shared) where
   pub covered : IsCovered shared
   covered = let a = charged-reserved shared.tenants all in let b = within.segments in let c = segments-total shared.tenants in omega (arith, a, b, c)
@@ -194,6 +198,7 @@ module _ (shared : CoreState) (all : AreShaped shared.tenants) (within : IsReser
   pub free-whole : free_in shared + charged_in shared.tenants ≡ shared.totals.segments
   free-whole = let c : charged_in shared.tenants ≤ shared.totals.segments = covered in omega (arith, c)
 
+-- what a tenant has left and what it has used are together what it reserved
 module _ (tenant : Tenant) (shape : IsShaped tenant) where
   pub left-segments : (left tenant).segments + charged_for tenant.frames ≡ tenant.reserve.segments
   left-segments = let c = shape.charged in omega (arith, c)

@@ -105,7 +105,7 @@ admitted-did : {I : Type 0} (did : DidOf I) (step_result : Result (Outcome I) Re
 admitted-did did step_result outcome is (inl e) = did-Ok did outcome.1 (rw is at e)
 admitted-did did step_result outcome is (inr e) = absurd cc
 
--- an admission of more that was taken, over what it comes to alone and whether the totals allow it
+-- an admission of more that was answered Ok: the totals allow it, and its outcome is what it comes to alone
 more-found : {I : Type 0} (beyond : Bool) (alone : Result (Outcome I) Refusal) (did : DidOf I) →
     ((refusal : Refusal) → refusal_in (unless_beyond beyond alone) ≡ Some refusal → ◌≡◌ {A = Result (DidOf I) Refusal} (Ok did) (Err refusal)) →
     (refusal_in (unless_beyond beyond alone) ≡ None → (◌≡◌ {A = Result (DidOf I) Refusal} (Ok did) (answer_of (unless_beyond beyond alone))) ⊎ (◌≡◌ {A = Result (DidOf I) Refusal} (Ok did) (Err OutOfMemory))) →

@@ -1,2 +1,3 @@
 pub mod Tenants
+pub mod StoreLemmas
 pub mod Isolation

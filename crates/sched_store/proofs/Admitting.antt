@@ -21,6 +21,7 @@ pub newer-missing : (newest number : ℕ) (entries : Entries) → AreAtMost newe
 newer-missing newest number [] most newer = refl
 newer-missing newest number (entry ∷ entries) most newer = grind (arith, newer-missing newest number entries most.1 newer, ne_eqb)
 
+-- there are as many ledgers as accounts
 module _ (parts : Parts) (stored : IsStored parts) where
   pub many-ledgers : length parts.ledgers ≡ length parts.book.accounts
   many-ledgers = sym (length-numbers owner_of_ledger parts.ledgers) ∙ ap length stored.ledgers ∙ length-numbers owner_of_account parts.book.accounts
@@ -83,6 +84,7 @@ tenants-pushed parts after newest number account (entry ∷ entries) most newer 
     let differs : entry.0 ≢ number = λ e. omega (arith, e, low, newer) in
     rw (others entry.0 entry.1 differs, tenants-pushed parts after newest number account entries most.1 newer others) refl
 
+-- after an admission the new account stands behind all others
 module _ (parts : Parts) (trees : Trees) (ledger : JobLedger) (book : Reservations) (number : ℕ) (quota : Quota) (stored : IsStored parts)
     (is : IsAdmitted parts trees ledger book number quota) where
   accounts-after : book.accounts ≡ parts.book.accounts ++ (number, fresh quota) ∷ []
@@ -193,6 +195,7 @@ pub record IsRaised (parts : Parts) (trees : Trees) (book : Reservations) (numbe
 abbrev pub with_more : Parts → Trees → Reservations → Parts
 with_more parts trees book = record parts { trees = trees; book = book }
 
+-- a raise changes no frames, and no account but the tenant's
 module _ (parts : Parts) (trees : Trees) (book : Reservations) (number : ℕ) (quota : Quota) (stored : IsStored parts) where
   raised-frames : IsRaised parts trees book number quota → (other : ℕ) → frames_of trees other ≡ frames_of parts.trees other
   raised-frames is other = elim (cases_eq other number) [

@@ -15,6 +15,7 @@ use Rattle.sched_store.proofs.Lookups.{Frames, Trees}
 abbrev pub closed : (Frame ℕ → Bool) → Frames → List ℕ
 closed keep frames = values_of (filter (λ frame. not (keep frame)) frames)
 
+-- a list with one number more in front has that number, and those that it had
 module _ (m n : ℕ) (numbers : List ℕ) where
   contains-first : m ≡ n → Contains (m ∷ numbers) n
   contains-first same = (0, omega arith, same)
@@ -48,6 +49,7 @@ pub record Goes (keep : Frame ℕ → Bool) (frames : Frames) (node : ℕ) : Typ
 abbrev pub GoesWith : (Frame ℕ → Bool) → (Frame ℕ → Type 0) → ℕ → Type 0
 GoesWith keep P node = (f : Frame ℕ) × P f × (keep f ≡ false) × (f.value ≡ node)
 
+-- a node that is closed is that of a frame that isn't kept; what holds of each frame holds of that one
 module _ (keep : Frame ℕ → Bool) where
   first-or-later : (P : Frame ℕ → Type 0) (x : Frame ℕ) (numbers : List ℕ) (node i : ℕ) → P x → keep x ≡ false →
       ((k : ℕ) → k < length numbers → get_or numbers k node ≡ node → GoesWith keep P node) →
@@ -129,6 +131,7 @@ module _ (trees after : Trees) (number : ℕ) (keep : Frame ℕ → Bool) (is : 
         | inr other ↦ grind (arith, true≢false, eq-eqb)
       ]
 
+-- after a cut: each frame that is there was there, and its node stays open
 module _ (nodes : Nodes) (trees after : Trees) (number : ℕ) (keep : Frame ℕ → Bool) (belong : AreFramesNodes nodes trees) (is : IsCut trees after number keep) where
   pub stays-after : (owner serial : ℕ) (frame : Frame ℕ) → frame_in_trees after owner serial ≡ Some frame → Stays nodes trees number keep owner serial frame
   stays-after owner serial frame at =
@@ -233,6 +236,7 @@ later-ones : (P : Frame ℕ → Type 0) (low : ℕ) (xs : Frames) → AllAboveSe
 later-ones P low [] above each = tt
 later-ones P low (x ∷ xs) above each = ((each.0, above.0), later-ones P low xs above.1 each.1)
 
+-- no node is closed twice
 module _ (nodes : Nodes) (trees : Trees) (number : ℕ) (keep : Frame ℕ → Bool) where
   apart : (x : Frame ℕ) (xs : Frames) → AreFramesNodes nodes trees → IsFound trees number x →
       Each (λ f. IsFound trees number f × (x.serial < f.serial)) xs → All (◌≢◌ x.value) (closed keep xs)

@@ -88,6 +88,7 @@ ended-from first (suc at) root ended (job ∷ jobs) once some is =
       | inr other ↦ rw other (ap (λ (rest : Jobs). job ∷ rest) (ended-from (first + 1) at root ended jobs once.1 (omega arith) (let found : number_from (first + 1) root jobs ≡ first + suc at = rw other at is in found ∙ omega arith)))
     ]
 
+-- ending the jobs under a root ends the one job of this number; where the number is 0, nothing changes
 module _ (root number : ℕ) (ended : Job) (jobs : Jobs) where
   pub ended-one : AreLiveOnce jobs → 0 < number → number ≡ job_under root jobs → with_ended root ended jobs ≡ set jobs (number - 1) ended
   ended-one once some is = ended-from 1 (number - 1) root ended jobs once (omega arith) (sym is ∙ omega arith)
@@ -148,7 +149,6 @@ pub rising-with_jobs : (n : ℕ) (change : List Job → List Job) (ledgers : All
 rising-with_jobs n change ledgers rising = rising-with owner_of_ledger n (λ (l : JobLedger). (l.0, change l.1)) ledgers (λ l own. own) rising
 
 -- the jobs of the ledger that is looked for
-
 module _ (n : ℕ) (ledgers : All) (found : Option (Bor JobLedger)) (is : option_copied found ≡ find_by_number owner_of_ledger n ledgers) where
   pub found-jobs : IfSome found (λ ledger. jobs_of ledgers n ≡ ledger.now.1)
   found-jobs = found-said owner_of_ledger (λ (l : JobLedger). l.1) [] n ledgers found is

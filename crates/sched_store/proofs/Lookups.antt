@@ -75,6 +75,7 @@ each-entry P (entry ∷ entries) rising all =
 
 -- The numbers of things in a list that changes, and lists whose things have the same numbers.
 
+-- as many numbers as things, and the numbers after one thing has changed, gone or come
 module _ {X : Type 0} (number_of : X → ℕ) where
   pub length-numbers : (xs : List X) → length (numbers_by number_of xs) ≡ length xs
   length-numbers [] = refl
@@ -97,7 +98,6 @@ module _ {X : Type 0} (number_of : X → ℕ) where
   has-numbers n (x ∷ xs) = ap (λ (b : Bool). eqb (number_of x) n || b) (has-numbers n xs)
 
 -- a tenant has a ledger exactly where it has an account
-
 module _ (n : ℕ) (ledgers : List JobLedger) (entries : List (ℕ × Account)) where
   there-same : numbers_of ledgers ≡ numbers_in entries → is_there n ledgers ≡ has_by_number owner_of_account n entries
   there-same same = has-numbers owner_of_ledger n ledgers ∙ ap (has_by_number (λ k. k) n) same ∙ sym (has-numbers owner_of_account n entries)
@@ -160,6 +160,7 @@ module _ (parts : Parts) (stored : IsStored parts) where
 abbrev ChargesFrames : Parts → ℕ → Account → Type 0
 ChargesFrames parts number account = account_in (tenant_from parts number account) ≡ account
 
+-- the accounts that the core shows are the book's
 module _ (parts : Parts) where
   all-charged : IsStored parts → AllEntries (λ entry. ChargesFrames parts entry.0 entry.1) parts.book.accounts
   all-charged stored = each-entry (ChargesFrames parts) parts.book.accounts stored.book.rising (λ number account is. account-found parts stored number account is)
@@ -186,7 +187,6 @@ pub free-found : (parts : Parts) → IsStored parts → (free taken : ℕ) → f
 free-found parts stored free taken counted is = grind (arith, charged-found)
 
 -- the tenants' numbers were taken, and rise
-
 module _ (parts : Parts) where
   taken-tenants_from : (newest : ℕ) (entries : Entries) → AreAtMost newest entries → AreNumbersTaken newest (tenants_from parts entries)
   taken-tenants_from newest [] all = tt
@@ -221,6 +221,7 @@ module _ (parts : Parts) where
 
 -- Whether a reservation has room, from what isn't reserved yet.
 
+-- a reservation for which tenants, segments or nodes are wanting finds the book full
 module _ (book : Reservations) (rest : Rest) (quota : Quota) where
   pub full-tenants : rest ≡ unreserved_of book → rest.tenants ≡ 0 → true ≡ is_full book quota
   full-tenants is none = grind (arith, le-leb, or_left)
@@ -238,6 +239,7 @@ beyond-less total all own asked within short = omega arith
 beyond-enough : (total all own asked : ℕ) → all ≤ total → asked ≤ total - all + own → all + asked ≤ total + own
 beyond-enough total all own asked within enough = omega arith
 
+-- and a raise for which segments or nodes are wanting is beyond the totals
 module _ (book : Reservations) (rest : Rest) (own quota : Quota) (sound : IsSoundBook book) (is : rest ≡ unreserved_of book) where
   pub beyond-segments : rest.segments + own.segments < quota.segments → true ≡ is_beyond book own quota
   beyond-segments short = grind (arith, beyond-less, or_left, lt-ltb)
@@ -263,6 +265,7 @@ pub record HasFound (parts : Parts) (name : FrameId) (entry : Entry ℕ) : Type 
   pub named : named (shared_of parts) name ≡ Some (map_value (node_words parts.nodes) frame)
   pub is : entry ≡ record { parent = name_of name.tenant (parent_of frame.path); state = frame.state; value = frame.value }
 
+-- the core has the frame of an entry
 module _ (parts : Parts) (stored : IsStored parts) (name : FrameId) (entry : Entry ℕ)
     (is : Some entry ≡ entry_in parts name) where
   pub found : HasFound parts name entry
@@ -274,6 +277,7 @@ module _ (parts : Parts) (stored : IsStored parts) (name : FrameId) (entry : Ent
       ap (λ (e : Entry ℕ). Some (e.parent, e.state)) f.is
       ∙ sym (ap (λ (o : Option (Frame (List ℕ))). option_map (λ (frame : Frame (List ℕ)). (name_of name.tenant (parent_of frame.path), frame.state)) o) f.named)
 
+-- where there is no entry, the core has no such frame
 module _ (parts : Parts) (stored : IsStored parts) (name : FrameId)
     (is : None ≡ entry_in parts name) where
   pub nothing-found : named (shared_of parts) name ≡ None
@@ -286,6 +290,7 @@ newest-with_words_of_nodes : (nodes : Nodes) (tenant : ℕ) (frames : Frames) �
 newest-with_words_of_nodes nodes tenant [] = refl
 newest-with_words_of_nodes nodes tenant (frame ∷ frames) = ap (λ (o : Option (FrameId × ℕ)). first_of_two o (ready_name tenant frame.serial frame.state)) (newest-with_words_of_nodes nodes tenant frames)
 
+-- a tenant's frames, seen in the core: a tree, with the same newest ready frame
 module _ (parts : Parts) (stored : IsStored parts) where
   pub tree-found : (number : ℕ) → IsTree (frames_in_core (shared_of parts) number)
   tree-found number = rw (frames-found parts stored number) (tree-map_values (node_words parts.nodes) (frames_of parts.trees number) (stored.forest number))
@@ -321,6 +326,7 @@ words-at parts number serial frame at = grind (arith, frame_at-map_values)
 abbrev Sees : Parts → ℕ → Frame ℕ → Type 0
 Sees parts number frame = (serial : ℕ) → frame_in_trees parts.trees number serial ≡ Some frame → IsSight parts.nodes (Some frame.value) (sight (tree_in parts number) frame.path)
 
+-- what a frame sees through its node is what it sees in the core
 module _ (parts : Parts) (stored : IsStored parts) (number : ℕ) where
   top-sees : (frame : Frame ℕ) → IsTop frame → Sees parts number frame
   top-sees frame top serial at =

@@ -1,8 +1,8 @@
 -- A frame is opened.
-use Rattle.std.proofs.Common.{◌≡◌, ◌≢◌, ℕ, ◌<◌, ◌≤◌, ◌+◌, ◌-◌, true, List, [], ◌∷◌, ◌++◌, length, replicate, Option, Some, None, refl, ap, sym, subst, ◌∙◌, arith, inl, inr, ◌⊎◌, get_or-set_other, get_or-set_same, IfSome}
+use Rattle.std.proofs.Common.{◌≡◌, ◌≢◌, ℕ, ◌<◌, ◌≤◌, ◌+◌, ◌-◌, true, List, [], ◌∷◌, ◌++◌, length, Option, Some, None, refl, ap, sym, subst, ◌∙◌, arith, inl, inr, ◌⊎◌, get_or-set_other, get_or-set_same, IfSome}
 use Rattle.sched_store.proofs.Common.{Ready, Account, FrameId, CoreState, map_value, Each, Tree, charged_for, Parts, with_words_of_nodes}
 use Rattle.sched_store.proofs.Common.{shared_of, cases_eq, false≢true, and_parts, leb-true, frames_in_core, serials_in, TenantHasLeft, length-set}
-use Rattle.sched_store.proofs.Common.{length-append, length-replicate, charged_by, charged_segments, left_in, Reservations, ChangesOnly}
+use Rattle.sched_store.proofs.Common.{charged_by, charged_segments, left_in, Reservations, ChangesOnly}
 use Rattle.sched_store.proofs.Common.{IsSoundBook, opened_of, frames_of, KeepsOtherFrames, places_of, IsParentIn, serial_of, IsStored, AreFramesNodes}
 use Rattle.sched_store.proofs.Common.{frame_in_trees, node_of, node_above, Frame, frame_at, has_parent, parent_of, path_under, AllBelow, IsTree}
 use Rattle.sched_store.proofs.Common.{new_frame, name_of, found-there, below-found, frame_at-push, frame_at-other-push, frame_at-left}
@@ -15,6 +15,7 @@ use Rattle.sched_store.proofs.Words.{with_words_of_nodes-same}
 use Rattle.sched_store.proofs.States.{charged-cons}
 use Rattle.sched_store.proofs.Steps.{TenantStep, other-tenants, Stepped, stepped, left-account}
 use Rattle.sched_store.proofs.Lookups.{Frames, Trees, each-frame, tree_in, Owns, none-or-some, frames-found, tenant-found}
+use Rattle.cactus_stack.proofs.LawFacts.{length-padded}
 
 -- what is opened: the tenant's next serial, under a parent, with these words
 pub record OpensFrame (old : Parts) (nodes : Nodes) (trees : Trees) (book : Reservations) (number : ℕ) (parent : Option ℕ) (above : Option ℕ) (words : List ℕ) (size home node : ℕ) (account : Account) : Type 0 where
@@ -30,11 +31,7 @@ pub record OpensFrame (old : Parts) (nodes : Nodes) (trees : Trees) (book : Rese
   pub changes : ChangesOnly old.book book number (charged_by (charge size) 1)
   pub sum : charged_segments book.accounts ≡ charged_segments old.book.accounts + charge size
 
-padded-length : (words : List ℕ) (size : ℕ) → length words ≤ size → length (padded words size) ≡ size
-padded-length words size room = omega (arith, length-append words (replicate (size - length words) 0), length-replicate {A = ℕ} (size - length words) 0)
-
 -- the nodes after one was opened
-
 module _ (nodes : Nodes) (n : ℕ) where
   opened-here : (entry : Node) → n < length nodes → node_at (with_node nodes n (Some entry)) n ≡ Some entry
   opened-here entry within = get_or-set_same nodes n (Some entry) None within
@@ -50,7 +47,6 @@ module _ (nodes : Nodes) (n : ℕ) where
   still-open m entry unused is = rw (opened-other m entry (open-not-unused m unused is)) is
 
 -- the frames after one was added: either it is the new one, or it was there
-
 module _ (old new : Trees) (added : Frame ℕ) (number : ℕ) (frames : frames_of new number ≡ frames_of old number ++ added ∷ []) where
   added-cases : KeepsOtherFrames old new number → AllBelow added.serial (frames_of old number) → (m s : ℕ) →
       ((m ≡ number) × (s ≡ added.serial)) ⊎ (frame_in_trees new m s ≡ frame_in_trees old m s)
@@ -104,6 +100,7 @@ added_to old number parent home node account = new_frame (frames_of old.trees nu
 abbrev pub Opened : Parts → Nodes → Trees → Reservations → ℕ → Option ℕ → List ℕ → ℕ → ℕ → Type 0
 Opened old nodes trees book number parent words size home = Stepped old (record old { nodes = nodes; trees = trees; book = book }) number (opened parent words size home)
 
+-- what a store keeps true is true after a frame was opened
 module _ (old : Parts) (nodes : Nodes) (trees : Trees) (book : Reservations) (number : ℕ) (parent above : Option ℕ) (words : List ℕ)
     (size home node : ℕ) (account : Account) (stored : IsStored old)
     (opens : OpensFrame old nodes trees book number parent above words size home node account) where
@@ -176,7 +173,7 @@ module _ (old : Parts) (nodes : Nodes) (trees : Trees) (book : Reservations) (nu
       let added = added_to old number parent home node account in
       let entry : Node = record { parent = above; words = padded words size } in
       let account_is = stored.accounts number account opens.there in
-      let len = padded-length words size opens.room in
+      let len = length-padded words size opens.room in
       let total : total_charge nodes + charge_of (node_at old.nodes node) ≡ total_charge old.nodes + charge (length (padded words size)) = rw opens.nodes_is (sum_by-set charge_of old.nodes node (Some entry) None opens.unused.0) in
       let none : charge_of (node_at old.nodes node) ≡ 0 = ap charge_of opens.unused.1 in
       let size_is : charge (length (padded words size)) ≡ charge size = ap charge len in

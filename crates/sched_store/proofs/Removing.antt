@@ -6,7 +6,7 @@ use Rattle.sched_store.proofs.Common.{KeepsOtherAccounts, HasChargedAtLeast, Acc
 use Rattle.sched_store.proofs.Common.{frames_without, HasValue, goes_under, aborted, frames_under, values_of, IsTree, path_in}
 use Rattle.sched_store.proofs.Common.{name_of, frames_of, KeepsOtherFrames, AllBelow-filter, tree-without, frame_at-stays, tree-aborted, child-further-under}
 use Rattle.sched_store.proofs.Common.{Tenant, charged_for, has_child, is_root, frame_words, Parts, with_words_of_nodes, shared_of}
-use Rattle.sched_store.proofs.Common.{IsStored, IsAccountFor, frame_in_trees, node_of, node_above, eq-eqb, eqb-true, ne_eqb, ltb-false, true≢false}
+use Rattle.sched_store.proofs.Common.{IsStored, IsAccountFor, frame_in_trees, node_of, node_above, eq-eqb, eqb-true, ne_eqb, ltb-false}
 use Rattle.sched_store.proofs.Common.{false≢true, lt-ltb, le-ltb, FrameId, map_values, is_child_of, AllAboveSerial, AreSerialsRising, tree-rising}
 use Rattle.sched_store.proofs.Common.{children-by-paths, found-path, placed, IsPlaced, frames_in_core, path_of, words_under, jobs_of, ltb, Entry}
 use Rattle.sched_store.proofs.Closing.{IsCut, closing, cut-belongs, cut-places, cut-words, cut-trees, cut-frees, closed, parent-open, above-found, TakesChildren, closing-open, closing-once, closing-children}
@@ -18,6 +18,7 @@ use Rattle.sched_store.proofs.Lookups.{Frames, Trees, family, there-frame, frame
 use Rattle.cactus_stack.proofs.LawFacts.{charge-without}
 use Rattle.sched_rules.specs.Views.{named, words_of_frame}
 use Rattle.std.specs.Option.{is_none}
+use Rattle.std.proofs.lemmas.Bool.{not-false}
 
 pub length-without : (nodes : Nodes) (numbers : List ℕ) → length (without nodes numbers) ≡ length nodes
 length-without nodes [] = refl
@@ -66,6 +67,7 @@ module _ (parts : Parts) (number freed : ℕ) (keep : Frame ℕ → Bool) (store
   can-give-back =
       rw there (omega (arith, charge-left))
 
+-- what a removal leaves of the tenant's account
 module _ (parts : Parts) (trees : Trees) (book : Reservations) (number freed : ℕ) (keep : Frame ℕ → Bool) where
   removed-own : IsStored parts → (is : IsRemoval parts trees book number freed keep) →
       IsAccountFor (without parts.nodes (closing parts.trees number keep)) trees number (credited_by freed is.account)
@@ -179,6 +181,7 @@ pub record IsThere (parts : Parts) (name : FrameId) : Type 0 where
   pub account : Account
   pub there : Owns parts name.tenant account
 
+-- a frame that the core names is there, and its tenant has an account
 module _ (parts : Parts) (stored : IsStored parts) (name : FrameId) (some : IsSome (named (shared_of parts) name)) where
   pub is-there : IsThere parts name
   is-there = grind (arith, there-frame, frame-account)
@@ -236,6 +239,7 @@ with_parts parts nodes trees book = record parts { nodes = nodes; trees = trees;
 abbrev with_frames : (List (Frame (List ℕ)) → List (Frame (List ℕ))) → Tenant → Tenant
 with_frames change tenant = record tenant { frames = change tenant.frames }
 
+-- after frames have gone, the core is the one before with the tenant's frames changed so
 module _ (parts : Parts) (nodes : Nodes) (trees : Trees) (book : Reservations) (name : FrameId) (stay : Frame ℕ → Bool) (before later : ℕ) where
   pub gone-step : (change : List (Frame (List ℕ)) → List (Frame (List ℕ))) → IsStored parts → AreGone parts nodes trees book name stay before later →
       with_words_of_nodes parts.nodes (filter stay (family parts name)) ≡ change (tree_in parts name.tenant) →
@@ -258,12 +262,8 @@ pub closing-under : (serial : ℕ) (frames : Frames) → closed (stays serial) f
 closing-under serial [] = refl
 closing-under serial (x ∷ xs) = grind (arith, closing-under serial xs)
 
-not-stays : (b : Bool) → not b ≡ false → b ≡ true
-not-stays true is = refl
-not-stays false is = absurd (true≢false is)
-
 pub takes-under : (serial : ℕ) (frames : Frames) → IsTree frames → TakesChildren frames (stays serial)
-takes-under p frames tree serial parent frame above at up at_above out = grind (arith, not-stays, eq-eqb, child-further-under)
+takes-under p frames tree serial parent frame above at up at_above out = grind (arith, not-false, eq-eqb, child-further-under)
 
 -- the nodes that an abort closes: open, once, with their children
 pub record AreClosable (nodes : Nodes) (numbers : List ℕ) : Type 0 where
@@ -309,6 +309,7 @@ module _ (parts : Parts) (stored : IsStored parts) (name : FrameId) where
 
 -- What a frame's words are, seen through its node.
 
+-- the words of an entry are those that the core shows
 module _ (parts : Parts) (stored : IsStored parts) (name : FrameId) (entry : Entry ℕ) (words : List ℕ)
     (is : Some entry ≡ entry_in parts name) (own : words ≡ node_words parts.nodes entry.value) where
   pub words-shown : Some words ≡ words_of_frame (shared_of parts) name
@@ -324,6 +325,7 @@ module _ (parts : Parts) (stored : IsStored parts) (name : FrameId) (entry : Ent
       let value : entry.value ≡ f.frame.value = ap (λ (e : Entry ℕ). e.value) f.is in
       own ∙ ap (node_words parts.nodes) value ∙ sym (ap frame_words f.named)
 
+-- where there is no entry, the core shows no words
 module _ (parts : Parts) (stored : IsStored parts) (name : FrameId) where
   pub no-words-shown : None ≡ entry_in parts name → None ≡ words_of_frame (shared_of parts) name
   no-words-shown is = sym (ap (λ (o : Option (Frame (List ℕ))). option_map (λ (frame : Frame (List ℕ)). frame.value) o) (nothing-found parts stored name is))
@@ -349,6 +351,7 @@ root-by-length frames frame tree (inr under) =
     let differs : length frame.path ≢ 1 = λ e. omega (arith, e, above, long) in
     rw (under.named, ne_eqb (length frame.path) 1 differs) refl
 
+-- an entry has no parent exactly where the core's frame is a root
 module _ (parts : Parts) (stored : IsStored parts) (name : FrameId) (entry : Entry ℕ)
     (is : Some entry ≡ entry_in parts name) where
   pub root-shown : is_none entry.parent ≡ is_root (path_of (named (shared_of parts) name))

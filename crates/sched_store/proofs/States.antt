@@ -63,6 +63,7 @@ pub record HoldsSome (parts : Parts) (worker : ℕ) : Type 0 where
   pub there : frame_in_trees parts.trees number serial ≡ Some frame
   pub held : is_held_by worker frame.state ≡ true
 
+-- a worker that is busy in the core holds some frame
 module _ (parts : Parts) (stored : IsStored parts) where
   busy-entries : (entries : List (ℕ × Account)) (worker : ℕ) → is_busy_among worker (tenants_from parts entries) ≡ true → HoldsSome parts worker
   busy-entries [] worker busy = absurd (false≢true busy)
@@ -84,6 +85,7 @@ pub record HeldThere (parts : Parts) (worker : ℕ) (name : FrameId) : Type 0 wh
   pub there : framed parts name ≡ Some frame
   pub held : is_held_by worker frame.state ≡ true
 
+-- what a worker holds in the core is a frame that is there, held by it
 module _ (parts : Parts) (stored : IsStored parts) (worker : ℕ) where
   pub holds-there : (name : FrameId) → holds worker (named (shared_of parts) name) ≡ true → HeldThere parts worker name
   holds-there name held = elim (none-or-some (framed parts name)) [
@@ -124,7 +126,6 @@ module _ (parts : Parts) (stored : IsStored parts) (worker : ℕ) where
       (cc (first, second), cc (first, second))
 
 -- what the table tells of a frame, and whether a worker holds it
-
 module _ (parts : Parts) (stored : IsStored parts) (worker : ℕ) (name : FrameId) where
   pub entry-holds : (entry : Entry ℕ) → Some entry ≡ entry_in parts name → is_held_by worker entry.state ≡ holds worker (named (shared_of parts) name)
   entry-holds entry is =
@@ -176,6 +177,7 @@ pub state-cases : (old new : Trees) (name : FrameId) (state : State) → SetsSta
     ((number ≡ name.tenant) × (serial ≡ name.serial)) ⊎ (frame_in_trees new number serial ≡ frame_in_trees old number serial)
 state-cases old new name state sets number serial = grind (arith, frame_at-other-with_state)
 
+-- after a state was set, the frame has it, and all frames stand as before
 module _ (old new : Trees) (name : FrameId) (state : State) (frame : Frame ℕ) (sets : SetsState old new name state)
     (there : frame_in_trees old name.tenant name.serial ≡ Some frame) where
   state-here : frame_in_trees new name.tenant name.serial ≡ Some (record frame { state = state })
@@ -208,6 +210,7 @@ named-once worker other state names held = grind (arith, eqb-true)
 abbrev pub StateSet : Parts → Trees → List (Option FrameId) → FrameId → State → Type 0
 StateSet old trees places name state = Stepped old (record old { trees = trees; places = places }) name.tenant (in_state name.serial state)
 
+-- what a store keeps true is true after a state was set, where the workers' places agree with it
 module _ (old : Parts) (trees : Trees) (name : FrameId) (state : State) (frame : Frame ℕ) (stored : IsStored old)
     (sets : SetsState old.trees trees name state) (there : framed old name ≡ Some frame) where
   state-step : (places : List (Option FrameId)) (account : Account) → Owns old name.tenant account → length places ≡ 33 → ArePlaces trees places → TenantStep old (record old { trees = trees; places = places }) name.tenant (λ a. a) account

@@ -61,6 +61,7 @@ pub record TenantStep (old new : Parts) (number : ℕ) (f : Account → Account)
   pub places : ArePlaces new.trees new.places
   pub newest : new.newest ≡ old.newest
 
+-- the accounts after such a change of one tenant
 module _ (old new : Parts) (number : ℕ) where
   account-after : (f : Account → Account) (account : Account) → TenantStep old new number f account → account_of number new.book.accounts ≡ Some (f account)
   account-after f account step = grind (arith, account-changed)
@@ -108,7 +109,6 @@ module _ (old new : Parts) (number : ℕ) where
       }
 
 -- the tenants after such a change
-
 module _ (old new : Parts) (number : ℕ) where
   others-same : (entries : Entries) → SameOthers old new number → AllEntries (λ later. number < later.0) entries → tenants_from new entries ≡ tenants_from old entries
   others-same [] others all = refl
@@ -157,7 +157,6 @@ stepped change stored step own = record { stored = step-stored _ _ _ _ _ stored 
 -- Steps that are counted, and jobs that begin and end: no frame changes.
 
 -- the account of a tenant that is there
-
 module _ (parts : Parts) (number : ℕ) where
   pub there-account : IsSome (tenant_in (shared_of parts).tenants number) → (a : Account) × (Owns parts number a)
   there-account is = some-of (account_of number parts.book.accounts) (sym (tenant-there parts number) ∙ is)
@@ -184,7 +183,6 @@ steady-step : (old : Parts) (book : Reservations) (ledgers : List JobLedger) (nu
 steady-step old book ledgers number change account stored there sound is sum own numbers jobs = grind arith
 
 -- a step is counted
-
 module _ (old : Parts) (book : Reservations) (number : ℕ) (account : Account) (stored : IsStored old) (there : Owns old number account) (sound : IsSoundBook book) (changes : ChangesOnly old.book book number ticked) (sum : charged_segments book.accounts ≡ charged_segments old.book.accounts) where
   ticked-step : TenantStep old (record old { book = book }) number ticked account
   ticked-step = grind (arith, steady-step)
@@ -205,6 +203,7 @@ jobs-other-with_jobs n m change ledgers differs = said-with-other owner_of_ledge
 abbrev pub jobs_changed : (List Job → List Job) → Tenant → Tenant
 jobs_changed change tenant = record tenant { jobs = change tenant.jobs }
 
+-- a tenant's jobs change, and nothing else
 module _ (old : Parts) (number : ℕ) (account : Account) (change : List Job → List Job) (stored : IsStored old) (there : Owns old number account) where
   jobs-step : TenantStep old (record old { ledgers = with_jobs number change old.ledgers }) number (λ a. a) account
   jobs-step =
@@ -274,6 +273,7 @@ pub length-with_words_of_nodes : (nodes : Nodes) (xs : Frames) → length (with_
 length-with_words_of_nodes nodes [] = refl
 length-with_words_of_nodes nodes (x ∷ xs) = ap suc (length-with_words_of_nodes nodes xs)
 
+-- how many words a tenant has alive, by the names of its frames
 module _ (parts : Parts) (stored : IsStored parts) (tenant : ℕ) where
   words-at : (serial : ℕ) (frame : Frame ℕ) → frame_in_trees parts.trees tenant serial ≡ Some frame → words_under (shared_of parts) (record { tenant = tenant; serial = frame.serial }) ≡ node_words parts.nodes frame.value
   words-at serial frame at =

@@ -15,6 +15,7 @@ use Rattle.std.proofs.lemmas.List.{set-set}
 use Rattle.std.proofs.lemmas.List.Sums.{sum_by-set}
 use Rattle.sched_rules.specs.Views.{named}
 use Rattle.sched_store.proofs.Lookups.{Frames, Trees, family, framed, tree_in, with_words, Owns, each-frame, named-found, there-frame}
+use Rattle.sched_rules.proofs.StoreLemmas.{length-stored}
 
 -- the charge of an entry is that of its words
 pub charge-words : (entry : Option Node) → charge (length (words_of_node entry)) ≡ charge_of entry
@@ -26,7 +27,6 @@ abbrev charge_at : Nodes → ℕ → ℕ
 charge_at nodes n = charge (length (node_words nodes n))
 
 -- other words in a node
-
 module _ (nodes : Nodes) (n : ℕ) where
   pub words-other : (m : ℕ) (words : List ℕ) → m ≢ n → node_at (with_node_words nodes n words) m ≡ node_at nodes m
   words-other m words differs = get_or-set_other nodes n m (Some (record { parent = node_parent nodes n; words = words })) None differs
@@ -120,6 +120,7 @@ pub record ChargesWords (old : Parts) (book : Reservations) (name : FrameId) (f 
 abbrev pub WordsSet : Parts → Nodes → Reservations → FrameId → List ℕ → Type 0
 WordsSet old nodes book name words = Stepped old (record old { nodes = nodes; book = book }) name.tenant (holding name.serial words)
 
+-- what a store keeps true is true after a frame got other words
 module _ (old : Parts) (nodes : Nodes) (name : FrameId) (frame : Frame ℕ) (words : List ℕ) (stored : IsStored old) (there : framed old name ≡ Some frame)
     (is : nodes ≡ with_node_words old.nodes frame.value words) where
   here : IsOpen old.nodes frame.value
@@ -238,10 +239,7 @@ pub record HasNode (parts : Parts) (name : FrameId) (node : ℕ) : Type 0 where
   pub is_open : IsOpen parts.nodes node
   pub words : words_under (shared_of parts) name ≡ node_words parts.nodes node
 
-stored-length : (stores : List (ℕ × ℕ)) (words : List ℕ) → length (stored stores words) ≡ length words
-stored-length [] words = refl
-stored-length (store ∷ stores) words = stored-length stores (set words store.0 store.1) ∙ length-set words store.0 store.1
-
+-- the node of a frame that the core names; and what changes no charge changes no account
 module _ (parts : Parts) (stored : IsStored parts) (name : FrameId) where
   pub has-node : (node : ℕ) → IsSome (named (shared_of parts) name) → HasValue (framed parts name) node → HasNode parts name node
   has-node node is value =
@@ -262,6 +260,7 @@ charged-changes : (parts : Parts) (book : Reservations) (name : FrameId) (accoun
     charged_segments book.accounts ≡ charged_segments parts.book.accounts + added → before + added ≡ after → ChargesWords parts book name (charged_by added 0) account before after
 charged-changes parts book name account before after added own sound changes sum grown = grind arith
 
+-- the tenant of a frame with a node has an account
 module _ {parts : Parts} {name : FrameId} {node : ℕ} (is_stored : IsStored parts) (has : HasNode parts name node) where
   own : (a : Account) × Owns parts name.tenant a
   own = frame-account parts is_stored name.tenant name.serial has.frame has.there
@@ -276,7 +275,7 @@ module _ {parts : Parts} {name : FrameId} {node : ℕ} (is_stored : IsStored par
   pub stores-set : (nodes : Nodes) (stores : Stores) → nodes ≡ stored_in parts.nodes node stores → WordsSet parts nodes parts.book name (stored stores (words_under (shared_of parts) name))
   stores-set nodes stores is =
       let words = node_words parts.nodes node in
-      let len = stored-length stores words in
+      let len = length-stored stores words in
       let charges = same-charges parts is_stored name own.0 (charge_at parts.nodes node) (charge (length (stored stores words))) own.1 (ap charge (sym len)) in
       rw has.words (set-node nodes parts.book (stored stores words) (λ a. a) is charges)
 
@@ -309,7 +308,6 @@ nothing-stored parts name is_stored is =
     (stores-set is_stored has parts.nodes [] (sym (words-stay parts.nodes f.0.value has.is_open))).shared
 
 -- a segment that a tenant has left is free
-
 module _ (parts : Parts) (stored : IsStored parts) where
   pub has-free : (number segments nodes : ℕ) → TenantHasLeft (shared_of parts) number segments nodes → segments ≤ free_segments parts.nodes
   has-free number segments nodes has =

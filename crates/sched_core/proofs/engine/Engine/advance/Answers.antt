@@ -2,7 +2,7 @@ use Rattle.sched_core.proofs.Common.{refl, err_from_is_err_and}
 use Rattle.sched_core.proofs.Deciding.{root-is, advance-told}
 use Rattle.sched_core.proofs.TakenStep.{step_result-refused}
 use Rattle.sched_core.proofs.Acting.{IsSetOut, sets-out}
-use Rattle.sched_core.proofs.Advancing.{set-left, counted-there, counted-inside, goes-on, step_result-advance}
+use Rattle.sched_core.proofs.Advancing.{has-step-left, counted-there, counted-inside, goes-on, step_result-advance}
 use Rattle.sched_core.proofs.Fitting.{seen-fits}
 use Rattle.sched_core.proofs.engine.Engine.advance.Given.{Over}
 use Rattle.sched_core.proofs.engine.Engine.advance.Goals.{In_ok-may_do}
@@ -32,7 +32,7 @@ returns-in_err-may_do-clause-step_result g c =
     (c.in_err-may_do.ensures s.0 s.1 _ s.2.seen_so refl c.in_ok-seen.ensures.words) s.2) refl
 
 pub count_step-requires : goal.count_step-requires
-count_step-requires g c = set-left (set g (goal.at.count_step-requires g c).In_ok-may_do)
+count_step-requires g c = has-step-left (set g (goal.at.count_step-requires g c).In_ok-may_do)
 
 pub store_all-requires-clause-there : goal.store_all-requires-clause-there
 store_all-requires-clause-there g c = counted-there (set g (goal.at.store_all-requires-clause-there g c).In_ok-may_do) c.count_step.ensures

@@ -1,6 +1,7 @@
 use Rattle.sched_core.proofs.Common.{◌∙◌, refl, arith, take_more}
-use Rattle.sched_core.proofs.Stepping.{runs-begin, runs-on, runs-out, fits-on, take-all}
+use Rattle.sched_core.proofs.Stepping.{runs-begin, runs-on, runs-out, fits-on}
 use Rattle.sched_core.proofs.scheduler.Core.run.Goals as goal
+use Rattle.std.proofs.lemmas.List.{take_all}
 
 pub loop-step-init : goal.loop-step-init
 loop-step-init g c = let r = c.in_ok-reserve.ensures in record { procedure = refl; room = omega (arith, r.ok); runs = runs-begin _ _ _ }
@@ -22,14 +23,14 @@ loop-step-preserved g c =
 
 pub returns-clause-headline : goal.returns-clause-headline
 returns-clause-headline g c =
-    let runs = rw (take-all c.args.steps.now c.loop-step.step-index c.loop-step-test.false, c.in_ok-reserve.ensures.items) at c.loop-step.invariant.runs in
+    let runs = rw (take_all c.loop-step.step-index c.args.steps.now c.loop-step-test.false, c.in_ok-reserve.ensures.items) at c.loop-step.invariant.runs in
     runs-out (g.P.Procedure.functions c.args.self.now.procedure) c.args.self.now.shared c.args.steps.now c.args.answers.now.items c.loop-step.answers.items
     c.loop-step.self.shared
     (rw (← c.self.view_is) c.self.invariant.kept.known) runs
 
 pub returns-clause-fitting : goal.returns-clause-fitting
 returns-clause-fitting g c =
-    let runs = rw (take-all c.args.steps.now c.loop-step.step-index c.loop-step-test.false, c.in_ok-reserve.ensures.items) at c.loop-step.invariant.runs in
+    let runs = rw (take_all c.loop-step.step-index c.args.steps.now c.loop-step-test.false, c.in_ok-reserve.ensures.items) at c.loop-step.invariant.runs in
     let procedure = c.args.self.now.procedure in
     let own = g.met.P.Procedure in
     fits-on {functions = g.P.Procedure.functions procedure} {fits = g.P.Procedure.fits procedure} {rooted = g.P.Procedure.rooted procedure}
