@@ -37,11 +37,10 @@ pub record CanBeAdmitted (parts : Parts) (number : ℕ) (quota : Quota) : Type 0
   pub no_places : places_of parts.trees number ≡ 0
   pub few_trees : tenant_count parts.trees < 64
   pub few_ledgers : length parts.ledgers < 64
-  pub no_ledger : is_there number parts.ledgers ≡ false
   pub room : HasRoom parts.book quota
 
 pub can-be-admitted : (parts : Parts) (number : ℕ) (quota : Quota) {core : CoreState} → IsStored parts → shared_of parts ≡ core → core.newest < number → is_full (reservations_in core) quota ≡ false → CanBeAdmitted parts number quota
-can-be-admitted parts number quota stored is above not_full = grind (arith, room-found, newer-missing, many-ledgers, no-ledger)
+can-be-admitted parts number quota stored is above not_full = grind (arith, room-found, newer-missing, many-ledgers)
 
 -- what an admission was told by the table and the book
 pub record IsAdmitted (parts : Parts) (trees : Trees) (ledger : JobLedger) (book : Reservations) (number : ℕ) (quota : Quota) : Type 0 where

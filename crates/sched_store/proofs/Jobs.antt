@@ -2,11 +2,11 @@
 use Rattle.sched_store.proofs.Common.{◌≡◌, ◌≢◌, ℕ, zero, suc, ◌<◌, ◌≤◌, ◌+◌, ◌-◌, true, false, List, [], ◌∷◌, ◌++◌, length, get_or, drop, Some, None, refl, ap}
 use Rattle.sched_store.proofs.Common.{sym, ◌∙◌, arith, inl, inr, set, cases_Bool, false≢true, true≢false, ne_eqb, or_parts, or_from, Job, Live}
 use Rattle.sched_store.proofs.Common.{is_live_at, job_at, number_from, job_under, with_ended, is_live, is_live_in, AreLiveOnce, JobLedger}
-use Rattle.sched_store.proofs.Common.{owner_of_ledger, jobs_of, with_jobs, find_by_number, change_by_number, AreRising}
+use Rattle.sched_store.proofs.Common.{owner_of_ledger, jobs_of, with_jobs, find_by_number, change_by_number}
 use Rattle.std.proofs.Math.Bool.{or-true}
 use Rattle.std.specs.Prelude.{Option, IfSome, IfNone, option_copied}
 use Rattle.std.specs.Borrow.{Bor}
-use Rattle.number_index.proofs.Edits.{said-found, put-changed, found-said, found-none, rising-with, rising-inserted, rising-without}
+use Rattle.number_index.proofs.Edits.{said-found, put-changed, found-said, found-none}
 use Rattle.sched_store.proofs.Common.{drop_all}
 
 abbrev pub Jobs : Type 0
@@ -144,10 +144,6 @@ module _ (n : ℕ) (ledgers : All) (ledger : JobLedger) where
   pub jobs-found : find_by_number owner_of_ledger n ledgers ≡ Some ledger → jobs_of ledgers n ≡ ledger.1
   jobs-found is = said-found owner_of_ledger (λ (l : JobLedger). l.1) [] n ledgers ledger is
 
--- ledgers still rise
-pub rising-with_jobs : (n : ℕ) (change : List Job → List Job) (ledgers : All) → AreRising owner_of_ledger ledgers → AreRising owner_of_ledger (with_jobs n change ledgers)
-rising-with_jobs n change ledgers rising = rising-with owner_of_ledger n (λ (l : JobLedger). (l.0, change l.1)) ledgers (λ l own. own) rising
-
 -- the jobs of the ledger that is looked for
 module _ (n : ℕ) (ledgers : All) (found : Option (Bor JobLedger)) (is : option_copied found ≡ find_by_number owner_of_ledger n ledgers) where
   pub found-jobs : IfSome found (λ ledger. jobs_of ledgers n ≡ ledger.now.1)
@@ -161,7 +157,3 @@ pub ruleset job_laws = (job_at-zero, job-read, job-past)
 pub ruleset under_laws = (number_from-there, none-from, number_from-none, drop_all)
 
 pub ruleset begun_laws = (once-begun)
-
-pub ruleset ledger_orders = (rising-inserted, rising-without)
-
-pub ruleset ledger_reads = (found-jobs, none-found)

@@ -5,11 +5,12 @@ use Rattle.sched_store.proofs.Common.{owner_of_account, account_of, AllEntries, 
 use Rattle.sched_store.proofs.Common.{remove_by_number, inserted, JobLedger, owner_of_ledger, numbers_by, numbers_of, is_there, jobs_of, numbers_in, IsStored}
 use Rattle.sched_store.proofs.Common.{frame_in_trees, AreAtMost, node_above, sum_by-cons, node_words, total_charge, Nodes, IsOpen, IsSight, node_parent, Left}
 use Rattle.sched_store.proofs.Common.{left_in_book, Reservations, IsSoundBook, unreserved_of, FrameId, frame_at, Frame, has_frame, parent_of, name_of}
-use Rattle.sched_store.proofs.Common.{entry_of_frame, ready_name, first_of_two, newest_ready_of, IsTree, map_value, frames_of, Job, Tenant, Tree, TenantTree, charged_for}
+use Rattle.sched_store.proofs.Common.{entry_of_frame, ready_name, first_of_two, newest_ready_of, IsTree, map_value, frames_of, Tenant, Tree, TenantTree, charged_for}
 use Rattle.sched_store.proofs.Common.{account_in, job_at, sight, words_in, tenant_in, accounts_in, charged_in, reservations_in, is_full, is_beyond, Parts}
 use Rattle.sched_store.proofs.Common.{with_words_of_nodes, tenant_from, tenants_from, shared_of, tree_of, jobs_kept, frames_in_core, jobs_in, AreAfter}
-use Rattle.sched_store.proofs.Common.{AreTenantsRising, path_of, sight_of, Quota, Entry, found-there, IsTop, IsUnder, tree-induction, found-serial}
+use Rattle.sched_store.proofs.Common.{AreTenantsRising, CoreState, AreRising, path_of, sight_of, Quota, Entry, found-there, IsTop, IsUnder, tree-induction, found-serial}
 use Rattle.sched_store.proofs.Common.{AllEntries-of, IsWithinReserve, reverse-append, map-append, Each, found-each, tree-rising}
+use Rattle.number_index.specs.Places.{AreAbove}
 use Rattle.number_index.proofs.Edits.{said-lacks, has-above, has-found, lacks-said}
 use Rattle.tenant_quota.proofs.Places.{entry-of}
 use Rattle.frame_tree.proofs.TreeValues.{frame_at-map_values, tree-map_values}
@@ -107,6 +108,27 @@ module _ (n : ℕ) (ledgers : List JobLedger) (entries : List (ℕ × Account)) 
 
   pub no-ledger : numbers_of ledgers ≡ numbers_in entries → account_of n entries ≡ None → is_there n ledgers ≡ false
   no-ledger same none = there-same same ∙ lacks-said owner_of_account (λ e. Some e.1) None n entries (λ e is. cc) none
+
+-- the ledgers rise as the accounts do
+
+above-same : (n : ℕ) (ledgers : List JobLedger) (entries : Entries) → numbers_of ledgers ≡ numbers_in entries → AllEntries (λ later. n < later.0) entries → AreAbove owner_of_ledger n ledgers
+above-same n [] entries same above = tt
+above-same n (ledger ∷ ledgers) [] same above = absurd cc
+above-same n (ledger ∷ ledgers) (entry ∷ entries) same above =
+    let first : ledger.0 ≡ entry.0 = cc in
+    let rest : numbers_of ledgers ≡ numbers_in entries = cc in
+    (rw first above.0, above-same n ledgers entries rest above.1)
+
+rise-same : (ledgers : List JobLedger) (entries : Entries) → numbers_of ledgers ≡ numbers_in entries → IsRising entries → AreRising owner_of_ledger ledgers
+rise-same [] entries same rising = tt
+rise-same (ledger ∷ ledgers) [] same rising = absurd cc
+rise-same (ledger ∷ ledgers) (entry ∷ entries) same rising =
+    let first : ledger.0 ≡ entry.0 = cc in
+    let rest : numbers_of ledgers ≡ numbers_in entries = cc in
+    (above-same ledger.0 ledgers entries rest (rw first rising.0), rise-same ledgers entries rest rising.1)
+
+pub ledgers-rise : (parts : Parts) → IsStored parts → AreRising owner_of_ledger parts.ledgers
+ledgers-rise parts stored = rise-same parts.ledgers parts.book.accounts stored.ledgers stored.book.rising
 
 -- What is found in the core that a store stands for.
 
@@ -211,13 +233,15 @@ module _ (parts : Parts) where
   left-free stored None there = tt
   left-free stored (Some left) there = rw (charged-found parts stored) (omega (arith, there))
 
-  -- a job is that of the ledger
-  pub job-found : IsStored parts → (number job : ℕ) → job_of (shared_of parts) number job ≡ job_at (jobs_of parts.ledgers number) job
-  job-found stored number job = by (tenant_in (shared_of parts).tenants number) ∙ ap (λ (jobs : List Job). job_at jobs job) (jobs-found parts stored number)
-    where
-      by : (tenant : Option Tenant) → option_and_then (λ (t : Tenant). job_at t.jobs job) tenant ≡ job_at (jobs_kept tenant) job
-      by None = refl
-      by (Some tenant) = refl
+-- a job is one of its tenant's
+pub job-kept : (core : CoreState) (number job : ℕ) → job_of core number job ≡ job_at (jobs_in core number) job
+job-kept core number job = by (tenant_in core.tenants number)
+  where
+    by : (tenant : Option Tenant) → option_and_then (λ (t : Tenant). job_at t.jobs job) tenant ≡ job_at (jobs_kept tenant) job
+    by None = refl
+    by (Some tenant) = refl
+
+pub ruleset job_reads = (job-kept)
 
 -- Whether a reservation has room, from what isn't reserved yet.
 

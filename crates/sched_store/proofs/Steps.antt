@@ -10,6 +10,8 @@ use Rattle.sched_store.proofs.Common.{AreFramesNodes, ArePlaces, numbers_in, fra
 use Rattle.sched_store.proofs.Common.{charged_segments, AllEntries, IsRising, ticked, left_in}
 use Rattle.number_index.proofs.Edits.{with-same, said-with-own, said-with-other, length-with, all-with}
 use Rattle.sched_store.proofs.Lookups.{within-reserve, Frames, Trees, tree_in, with_words, Owns, Entries, none-or-some, numbers-with, ledger-there, tenant-there, left-found, named-found, tenant-found}
+use Rattle.sched_store.proofs.Common.{find_by_number, change_by_number}
+use Rattle.sched_store.proofs.Jobs.{found-changed}
 use Rattle.sched_rules.specs.Lone.{counted}
 use Rattle.tenant_quota.proofs.Standing.{some-of}
 use Rattle.frame_tree.proofs.Finds.{none-of-length}
@@ -165,6 +167,12 @@ module _ (parts : Parts) (number : ℕ) where
   pub there-account-in : {core : CoreState} → shared_of parts ≡ core → IsSome (tenant_in core.tenants number) → (a : Account) × (Owns parts number a)
   there-account-in is there = there-account (subst (λ (s : CoreState). IsSome (tenant_in s.tenants number)) (sym is) there)
 
+-- and so is its ledger
+pub has-ledger : (parts : Parts) (number : ℕ) {core : CoreState} → IsStored parts → shared_of parts ≡ core → IsSome (tenant_in core.tenants number) → is_there number parts.ledgers ≡ true
+has-ledger parts number stored is there =
+    let own = there-account-in parts number is there in
+    ledger-there number parts.ledgers parts.book.accounts own.0 stored.ledgers own.1
+
 module _ (parts : Parts) (stored : IsStored parts) (number : ℕ) (P : Left → Type 0) (is : IsSomeAnd (left_in_core (shared_of parts) number) P) where
   -- what the book says it has left
   pub book-left : IsSomeAnd (left_in_book number parts.book) P
@@ -203,6 +211,10 @@ jobs-other-with_jobs n m change ledgers differs = said-with-other owner_of_ledge
 abbrev pub jobs_changed : (List Job → List Job) → Tenant → Tenant
 jobs_changed change tenant = record tenant { jobs = change tenant.jobs }
 
+-- the tenant's ledger is this now, which is that of the tenant with its jobs changed so
+abbrev pub JobsPut : Parts → ℕ → JobLedger → (List Job → List Job) → Type 0
+JobsPut old number changed change = Stepped old (record old { ledgers = change_by_number owner_of_ledger number (λ was. changed) old.ledgers }) number (jobs_changed change)
+
 -- a tenant's jobs change, and nothing else
 module _ (old : Parts) (number : ℕ) (account : Account) (change : List Job → List Job) (stored : IsStored old) (there : Owns old number account) where
   jobs-step : TenantStep old (record old { ledgers = with_jobs number change old.ledgers }) number (λ a. a) account
@@ -210,10 +222,11 @@ module _ (old : Parts) (number : ℕ) (account : Account) (change : List Job →
       steady-step old old.book (with_jobs number change old.ledgers) number (λ a. a) account stored there stored.book (changed-nothing old.book number) refl
       (stored.accounts number account there) (numbers-with owner_of_ledger number (with_second change) old.ledgers (λ l. refl)) (λ other differs. jobs-other-with_jobs number other change old.ledgers differs)
 
-  pub jobs-change : (ledgers : List JobLedger) → ledgers ≡ with_jobs number change old.ledgers → Stepped old (record old { ledgers = ledgers }) number (jobs_changed change)
-  jobs-change ledgers is =
+  -- where the ledger that was found was put back with its jobs changed
+  pub jobs-put : (ledger changed : JobLedger) → find_by_number owner_of_ledger number old.ledgers ≡ Some ledger → changed ≡ (ledger.0, change ledger.1) → JobsPut old number changed change
+  jobs-put ledger changed found is =
       let jobs = jobs-with_jobs number change old.ledgers (ledger-there number old.ledgers old.book.accounts account stored.ledgers there) in
-      rw is (stepped (jobs_changed change) stored (jobs-step) (rw jobs refl))
+      rw (found-changed number old.ledgers ledger changed change found is) (stepped (jobs_changed change) stored (jobs-step) (rw jobs refl))
 
 -- What is counted over a tenant's frames and over all tenants: words, and frames that are ready.
 

@@ -34,7 +34,6 @@
 #![tactic(auto)]
 
 mod ledger;
-mod ledgers;
 mod store;
 
 pub use store::Store;

@@ -10,9 +10,10 @@ mod removing;
 mod tenants;
 mod writing;
 
-use crate::ledgers::Ledgers;
+use crate::ledger::Ledger;
 use cactus_stack::{NodeNo, Stack};
 use frame_tree::{FrameId, FrameTable};
+use number_index::NumberedList;
 use sched_rules::Config;
 use std::alloc::{AllocError, Allocator, Global};
 use std::marker::Model;
@@ -21,14 +22,15 @@ use tenant_quota::Book;
 /// How many workers there are, and one place more: workers are numbered from 1.
 const PLACES: usize = 33;
 
-/// The tenants of a core, with their frames, jobs and what they have left. `places` has, by a worker's number,
-/// the frame that the worker held last; `newest` is the greatest number of a tenant so far.
+/// The tenants of a core, with their frames, jobs and what they have left. `ledgers` has the jobs of each tenant
+/// of the book, by rising number; `places` has, by a worker's number, the frame that the worker held last;
+/// `newest` is the greatest number of a tenant so far.
 pub struct Store<A: Allocator = Global> {
     alloc: A,
     stack: Stack<A>,
     book: Book<A>,
     table: FrameTable<NodeNo, A>,
-    ledgers: Ledgers<A>,
+    ledgers: NumberedList<Ledger<A>, A>,
     places: [Option<FrameId>; PLACES],
     newest: u64,
 }
@@ -75,7 +77,7 @@ impl<A: Allocator> Store<A> {
         let stack = Stack::new(alloc.clone()?, segments as usize)?;
         let book = Book::new(alloc.clone()?, segments, config.nodes())?;
         let table = FrameTable::new(alloc.clone()?)?;
-        let ledgers = Ledgers::new(alloc.clone()?)?;
+        let ledgers = NumberedList::new(alloc.clone()?)?;
         Ok(Store {
             alloc,
             stack,

@@ -1,6 +1,6 @@
 //! The calls that only read: the tests by which steps are decided, and what a core shows. They may be called at any
 //! time, except those for a frame that must be there. None takes memory.
-ghost use Rattle.std.specs.Prelude.{◌≡◌, ◌↔◌, ◌+◌, ◌≤◌, ◌^◌, ℕ, [], length, not, is_some, IfSome, IsSome, IsNone, Some, option_copied, option_map};
+ghost use Rattle.std.specs.Prelude.{◌≡◌, ◌↔◌, ◌+◌, ◌≤◌, ◌^◌, ℕ, [], length, not, is_some, IfSome, IfNone, IsSome, IsNone, Some, option_copied, option_map};
 ghost use Rattle.frame_tree.specs.declared.names.State.TheVariants.{Ready};
 ghost use Rattle.frame_tree.specs.Frames.{root_of, IsTree};
 ghost use Rattle.sched_rules.specs.Trees.{is_held_by, has_child as has_child_in, is_root as is_root_path, job_under as number_under};
@@ -9,6 +9,7 @@ ghost use Rattle.sched_rules.specs.Headline.{AreNumbersGiven};
 ghost use Rattle.sched_rules.specs.Views.{left_in_core, job_of, named, frame_in_core, words_of_frame, live_of, newest_ready_in, ready_count, free_in};
 ghost use Rattle.sched_store.specs.Reads.{frames_in_core, jobs_in, serials_in, path_of, words_under, sight_of, is_busy_among, holds, AreTenantsRising, IsReadyIn};
 
+use crate::ledger::Ledger;
 use crate::store::Store;
 use cactus_stack::{Sight, Words};
 use frame_tree::{FrameId, State};
@@ -183,10 +184,14 @@ impl<A: Allocator> Store<A> {
     }
 
     /// A tenant's job by its number, from 1 on; `None` where there is none.
+    #[tactic(auto, using(crate::proofs::Lookups::job_reads))]
     pub fn job(&self, tenant: u64, number: u64) -> Option<&Job>
         ensures { option_copied result ≡ job_of self.now tenant number }
     {
-        self.ledgers.job(tenant, number)
+        match self.ledger(tenant) {
+            Some(ledger) => ledger.job(number),
+            None => None,
+        }
     }
 
     /// How many jobs a tenant has had, at most 256; 0 where it isn't there.
@@ -194,14 +199,20 @@ impl<A: Allocator> Store<A> {
         ensures count { result ≡ length (jobs_in self.now tenant) }
         ensures few { result ≤ 256 }
     {
-        self.ledgers.job_count(tenant)
+        match self.ledger(tenant) {
+            Some(ledger) => ledger.len(),
+            None => 0,
+        }
     }
 
     /// The number of a tenant's job that lives under this root; 0 where there is none.
     pub fn job_under(&self, tenant: u64, root: u64) -> usize
         ensures { result ≡ number_under root (jobs_in self.now tenant) }
     {
-        self.ledgers.job_under(tenant, root)
+        match self.ledger(tenant) {
+            Some(ledger) => ledger.under(root),
+            None => 0,
+        }
     }
 
     /// How many frames a tenant has, and how many words they have; `None` where it isn't there. It looks at
@@ -239,6 +250,14 @@ impl<A: Allocator> Store<A> {
         ensures { result ≡ free_in self.now }
     {
         self.stack.free_count()
+    }
+
+    /// A tenant's jobs; None where it isn't there.
+    fn ledger(&self, tenant: u64) -> Option<&Ledger<A>>
+        ensures found { IfSome result (λ ledger. jobs_in self.now tenant ≡ ledger.now.1) }
+        ensures none { IfNone result (jobs_in self.now tenant ≡ []) }
+    {
+        self.ledgers.get(tenant)
     }
 
     /// Whether this frame is there, and this worker runs or computes it.

@@ -28,7 +28,7 @@ impl<A: Allocator> Store<A> {
     {
         let ledger = Ledger::new(self.alloc.clone()?, number)?;
         self.table.reserve(number, reserve.segments() as usize)?;
-        self.ledgers.add(ledger);
+        self.ledgers.insert(ledger);
         self.newest = number;
         self.book.reserve(number, reserve).unwrap();
         Ok(())
@@ -78,7 +78,8 @@ impl<A: Allocator> Store<A> {
         requires fresh { number_under root (jobs_in self.old tenant) ≡ 0 }
         ensures { self.new ≡ on_tenant tenant (with_job (Job.Live root)) self.old }
     {
-        self.ledgers.begin(tenant, root);
+        let ledger = self.ledgers.get_mut(tenant);
+        ledger.begin(root);
     }
 
     /// Replaces the tenant's live job with this root, if there is one, by `ended`, which says how it ended. The
@@ -88,6 +89,7 @@ impl<A: Allocator> Store<A> {
         requires ended { is_live ended ≡ false }
         ensures { self.new ≡ on_tenant tenant (ending_job root ended) self.old }
     {
-        self.ledgers.end(tenant, root, ended);
+        let ledger = self.ledgers.get_mut(tenant);
+        ledger.end(root, ended);
     }
 }

@@ -1,4 +1,5 @@
 use Rattle.sched_store.proofs.Common.{List, ap, ◌∙◌, arith, with_admitted, parts_of, JobLedger, shared_of}
+use Rattle.sched_store.proofs.Lookups.{ledgers-rise}
 use Rattle.sched_store.proofs.Admitting.{CanBeAdmitted, can-be-admitted, IsAdmitted, admit-stored, admit-shared}
 use Rattle.sched_store.proofs.store.Store.admit.Goals.{After-segments, After-unwrap}
 use Rattle.sched_store.proofs.store.Store.admit.Goals as goal
@@ -31,10 +32,11 @@ reserve-requires-clause-more g c = let none = (can g (goal.at.reserve-requires-c
 pub reserve-requires-clause-free : goal.reserve-requires-clause-free
 reserve-requires-clause-free g c = λ none. (can g (goal.at.reserve-requires-clause-free g c).After-segments).few_trees
 
-pub add-requires : goal.add-requires
-add-requires g c =
-    let able = can g (goal.at.add-requires g c).After-segments in
-    record { room = able.few_ledgers; fresh = rw c.in_ok-ledger.ensures able.no_ledger }
+pub insert-requires : goal.insert-requires
+insert-requires g c = record {
+  rising = ledgers-rise (parts_of c.self.inside) c.self.invariant;
+  room = (can g (goal.at.insert-requires g c).After-segments).few_ledgers;
+}
 
 pub reserve-requires-2 : goal.reserve-requires-2
 reserve-requires-2 g c = (can g (goal.at.reserve-requires-2 g c).After-segments).nobody
@@ -43,10 +45,10 @@ pub unwrap-requires : goal.unwrap-requires
 unwrap-requires g c = c.reserve-2.ensures.ok.1 (can g (goal.at.unwrap-requires g c).After-segments).room
 
 pub invariant_of-self-2 : goal.invariant_of-self-2
-invariant_of-self-2 g c = rw c.add.ensures (admit-stored _ _ _ _ _ _ c.self.invariant (told g (goal.at.invariant_of-self-2 g c).After-unwrap))
+invariant_of-self-2 g c = rw c.insert.ensures (admit-stored _ _ _ _ _ _ c.self.invariant (told g (goal.at.invariant_of-self-2 g c).After-unwrap))
 
 pub returns-clause-ok : goal.returns-clause-ok
 returns-clause-ok g c =
-    ap (λ (ls : List JobLedger). shared_of (record (parts_of c.self.inside) { book = c.reserve-2.new.self; trees = c.reserve.new.self; ledgers = ls; newest = c.args.number })) c.add.ensures
+    ap (λ (ls : List JobLedger). shared_of (record (parts_of c.self.inside) { book = c.reserve-2.new.self; trees = c.reserve.new.self; ledgers = ls; newest = c.args.number })) c.insert.ensures
     ∙ admit-shared _ _ _ _ _ _ c.self.invariant (told g (goal.at.returns-clause-ok g c).After-unwrap)
     ∙ ap (with_admitted c.args.number c.args.reserve) c.self.view_is

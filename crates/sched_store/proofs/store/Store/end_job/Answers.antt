@@ -1,19 +1,23 @@
 use Rattle.sched_store.proofs.Common.{with_ended, parts_of}
-use Rattle.sched_store.proofs.Steps.{there-account-in, jobs-change}
-use Rattle.sched_store.proofs.Lookups.{ledger-there}
+use Rattle.sched_store.proofs.Lookups.{ledgers-rise}
+use Rattle.sched_store.proofs.Steps.{JobsPut, there-account-in, has-ledger, jobs-put}
+use Rattle.sched_store.proofs.store.Store.end_job.Goals.{After-end}
 use Rattle.sched_store.proofs.store.Store.end_job.Goals as goal
 
-pub end-requires-clause-there : goal.end-requires-clause-there
-end-requires-clause-there g c =
+-- the ledger that was found has the jobs
+put : (g : _) (c : After-end g) → JobsPut (parts_of c.self.inside) c.args.tenant c.end.new.self (with_ended c.args.root c.args.ended)
+put g c =
     let own = there-account-in (parts_of c.self.inside) c.args.tenant c.self.view_is c.requires.there in
-    ledger-there c.args.tenant c.self.inside.ledgers c.self.inside.book.accounts own.0 c.self.invariant.ledgers own.1
+    jobs-put (parts_of c.self.inside) c.args.tenant own.0 (with_ended c.args.root c.args.ended) c.self.invariant own.1 c.get_mut-ledger.result.now c.end.new.self c.get_mut-ledger.ensures.value c.end.ensures
+
+pub get_mut-ledger-requires : goal.get_mut-ledger-requires
+get_mut-ledger-requires g c = record {
+  rising = ledgers-rise (parts_of c.self.inside) c.self.invariant;
+  there = has-ledger (parts_of c.self.inside) c.args.tenant c.self.invariant c.self.view_is c.requires.there;
+}
 
 pub invariant_of-self : goal.invariant_of-self
-invariant_of-self g c =
-    let own = there-account-in (parts_of c.self.inside) c.args.tenant c.self.view_is c.requires.there in
-    (jobs-change (parts_of c.self.inside) c.args.tenant own.0 (with_ended c.args.root c.args.ended) c.self.invariant own.1 _ c.end.ensures).stored
+invariant_of-self g c = (put g (goal.at.invariant_of-self g c).After-end).stored
 
 pub returns : goal.returns
-returns g c =
-    let own = there-account-in (parts_of c.self.inside) c.args.tenant c.self.view_is c.requires.there in
-    rw (← c.self.view_is) (jobs-change (parts_of c.self.inside) c.args.tenant own.0 (with_ended c.args.root c.args.ended) c.self.invariant own.1 _ c.end.ensures).shared
+returns g c = rw (← c.self.view_is) (put g (goal.at.returns g c).After-end).shared

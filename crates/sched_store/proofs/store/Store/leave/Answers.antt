@@ -1,6 +1,6 @@
 use Rattle.sched_store.proofs.Common.{IfSome, Option, refl, ap, ◌∙◌, subst, Releases, Account, with_departed, parts_of}
-use Rattle.sched_store.proofs.Steps.{there-account-in}
-use Rattle.sched_store.proofs.Lookups.{ledger-there}
+use Rattle.sched_store.proofs.Steps.{there-account-in, has-ledger}
+use Rattle.sched_store.proofs.Lookups.{ledgers-rise}
 use Rattle.sched_store.proofs.LeaveTenant.{has-places, leave-closes, IsDeparture, leave-stored, leave-shared}
 use Rattle.sched_store.proofs.store.Store.leave.Goals.{After-release-2}
 use Rattle.sched_store.proofs.store.Store.leave.Goals as goal
@@ -20,7 +20,7 @@ told g c =
         other_frames = λ other differs. c.release.ensures.kept.frames other differs ∙ emptied.1.frames other differs;
         other_places = λ other differs. c.release.ensures.kept.places other differs ∙ emptied.1.places other;
         count = c.release.ensures.count ∙ emptied.1.count;
-        jobs = c.remove.ensures;
+        jobs = c.remove.ensures.list;
         released = subst (λ (o : Option Account). IfSome o (Releases c.self.inside.book c.release-2.new.self c.args.tenant)) a.1 c.release-2.ensures.releases;
         others = c.release-2.ensures.others;
         sound = c.release-2.ensures.sound;
@@ -43,9 +43,10 @@ release-requires-clause-there g c =
     rw (c.remove_all-nodes.follows.holds-at-none.1.places c.args.tenant) (has-places (parts_of c.self.inside) c.self.invariant c.args.tenant a.0 a.1)
 
 pub remove-requires : goal.remove-requires
-remove-requires g c =
-    let a = there-account-in (parts_of c.self.inside) c.args.tenant c.self.view_is c.requires in
-    ledger-there c.args.tenant c.self.inside.ledgers c.self.inside.book.accounts a.0 c.self.invariant.ledgers a.1
+remove-requires g c = record {
+  rising = ledgers-rise (parts_of c.self.inside) c.self.invariant;
+  there = has-ledger (parts_of c.self.inside) c.args.tenant c.self.invariant c.self.view_is c.requires;
+}
 
 pub release-requires-2 : goal.release-requires-2
 release-requires-2 g c =
