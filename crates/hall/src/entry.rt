@@ -105,14 +105,7 @@ impl LongEntry {
                 LongEntry::Answered(*worker, name.serial as u32, *answer)
             }
             StepOf::Cancel(_, job) => LongEntry::Cancelled(*job),
-            StepOf::Admit(_, _)
-            | StepOf::Take(_, _)
-            | StepOf::Steal(_, _, _)
-            | StepOf::Advance(_, _)
-            | StepOf::Inlet(_, _)
-            | StepOf::Finish(_, _)
-            | StepOf::Spend(_)
-            | StepOf::Leave(_) => unreachable!(),
+            _ => unreachable!(),
         }
     }
 }

@@ -137,16 +137,7 @@ impl<A: Allocator + Clone> Hall<A> {
         match step {
             StepOf::Admit(_, _) | StepOf::AdmitMore(_, _) => self.admit(step),
             StepOf::Leave(number) => self.leave(*number),
-            StepOf::Submit(number, _, _) | StepOf::Cancel(number, _) => {
-                self.go_on(*number, step)
-            }
-            StepOf::Take(_, name)
-            | StepOf::Steal(_, _, name)
-            | StepOf::Advance(_, name)
-            | StepOf::Answer(_, name, _)
-            | StepOf::Inlet(_, name)
-            | StepOf::Finish(_, name)
-            | StepOf::Spend(name) => self.go_on(name.tenant, step),
+            _ => self.go_on(step.tenant(), step),
         }
     }
 

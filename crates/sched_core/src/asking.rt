@@ -15,16 +15,6 @@ pub(crate) fn stays_fitting<P: Procedure>(procedure: &P, fitting: bool, step: &S
         StepOf::Submit(_, words, size) => {
             fitting && procedure.is_fitting_root(words.as_slice(), *size)
         }
-        StepOf::Admit(_, _)
-        | StepOf::AdmitMore(_, _)
-        | StepOf::Take(_, _)
-        | StepOf::Steal(_, _, _)
-        | StepOf::Advance(_, _)
-        | StepOf::Answer(_, _, _)
-        | StepOf::Inlet(_, _)
-        | StepOf::Finish(_, _)
-        | StepOf::Spend(_)
-        | StepOf::Cancel(_, _)
-        | StepOf::Leave(_) => fitting,
+        _ => fitting,
     }
 }

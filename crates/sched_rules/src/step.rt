@@ -1,4 +1,7 @@
 //! The steps of the core, and what they did.
+ghost use Rattle.std.specs.Prelude.{◌≡◌};
+ghost use Rattle.sched_rules.specs.Runs.{tenant_of};
+
 use crate::act::GivenWords;
 use crate::procedure::Procedure;
 use crate::worker::Worker;
@@ -33,6 +36,29 @@ pub enum StepOf<A> {
     Cancel(u64, u64),
     /// The tenant leaves, with its jobs and frames.
     Leave(u64),
+}
+
+impl<A> StepOf<A> {
+    /// The number of the tenant whose step it is.
+    #[inline(always)]
+    pub fn tenant(&self) -> u64
+        ensures { result ≡ tenant_of self.now }
+    {
+        match self {
+            StepOf::Take(_, name)
+            | StepOf::Steal(_, _, name)
+            | StepOf::Advance(_, name)
+            | StepOf::Answer(_, name, _)
+            | StepOf::Inlet(_, name)
+            | StepOf::Finish(_, name)
+            | StepOf::Spend(name) => name.tenant,
+            StepOf::Admit(number, _)
+            | StepOf::AdmitMore(number, _)
+            | StepOf::Submit(number, _, _)
+            | StepOf::Cancel(number, _)
+            | StepOf::Leave(number) => *number,
+        }
+    }
 }
 
 /// What a taken step did, for a procedure whose inputs are of type I.

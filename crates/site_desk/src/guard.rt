@@ -11,7 +11,7 @@ use crate::bells::{Bells, bell_of};
 use crate::locked_site::LockedSite;
 use desk_rules::{Backoff, Change};
 use fair_pool::HeldHall;
-use hall::{DidOf, Jamboree, Step, StepAnswer, StepOf};
+use hall::{DidOf, Jamboree, Step, StepAnswer};
 use std::alloc::{Allocator, Global};
 use std::marker::Model;
 use std::sync::{Condvar, MutexGuard};
@@ -66,7 +66,7 @@ impl<'d, A: Allocator + Clone> SiteGuard<'d, A> {
                 self.wakes = self.wakes.saturating_add(1);
             }
             Change::InReady | Change::Nothing => {}
-            Change::Job => self.rung |= bell_of(tenant_of(step)),
+            Change::Job => self.rung |= bell_of(step.tenant()),
         }
         answer
     }
@@ -104,23 +104,5 @@ impl<'d, A: Allocator + Clone> HeldHall for SiteGuard<'d, A> {
 
     fn charge(&mut self, tenant: u64, amount: u64) {
         self.kept.charge(tenant, amount);
-    }
-}
-
-/// Whose a step is.
-fn tenant_of(step: &Step<Jamboree>) -> u64 {
-    match step {
-        StepOf::Take(_, frame)
-        | StepOf::Steal(_, _, frame)
-        | StepOf::Advance(_, frame)
-        | StepOf::Answer(_, frame, _)
-        | StepOf::Inlet(_, frame)
-        | StepOf::Finish(_, frame)
-        | StepOf::Spend(frame) => frame.tenant,
-        StepOf::Admit(tenant, _)
-        | StepOf::AdmitMore(tenant, _)
-        | StepOf::Submit(tenant, _, _)
-        | StepOf::Cancel(tenant, _)
-        | StepOf::Leave(tenant) => *tenant,
     }
 }

@@ -22,7 +22,6 @@ use crate::answered::draw_answer;
 use crate::looks::draw_tenant;
 use crate::plain_core::{Counting, made, run};
 use crate::reader::Reader;
-use crate::reading::tenant_of;
 use crate::scenes::{Row, Scene};
 use crate::stage::{Played, play_row, tell};
 use crate::values::{DrawnInput, FromWords};
@@ -162,7 +161,7 @@ fn agree(row: Row<'_>, how: &str, due: &str, came: &str, agreement: &mut Agreeme
 fn tenants<A: Drop>(alloc: Global, played: &Played<'_, A>) -> Result<Vec<u64>, AllocError> {
     let mut tenants = Vec::new(alloc);
     for step in played.steps.iter() {
-        let tenant = tenant_of(step);
+        let tenant = step.tenant();
         if !tenants.as_slice().contains(&tenant) {
             tenants.push(tenant)?;
         }
@@ -174,7 +173,7 @@ fn tenants<A: Drop>(alloc: Global, played: &Played<'_, A>) -> Result<Vec<u64>, A
 fn steps_of<A: Drop>(played: &Played<'_, A>, tenant: u64) -> u64 {
     let mut count = 0u64;
     for step in played.steps.iter() {
-        if tenant_of(step) == tenant {
+        if step.tenant() == tenant {
             count = count.saturating_add(1);
         }
     }
@@ -215,7 +214,7 @@ fn play_alone<P: Procedure<Answer: FromWords, Input: DrawnInput> + Copy>(
         .zip(played.told.iter())
         .zip(played.rows.iter())
     {
-        if tenant_of(step) == tenant && !told.as_str().starts_with("Err ") {
+        if step.tenant() == tenant && !told.as_str().starts_with("Err ") {
             let answer = tell(setting.alloc, &counted, &mut core, step)?;
             agree(*row, "alone", told.as_str(), answer.as_str(), agreement)?;
         }

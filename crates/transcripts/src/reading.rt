@@ -82,24 +82,6 @@ pub fn read_frame(words: &mut LineWords<'_>) -> Option<FrameId> {
     Some(FrameId { tenant, serial })
 }
 
-/// Whose step it is.
-pub fn tenant_of<A>(step: &StepOf<A>) -> u64 {
-    match step {
-        StepOf::Admit(tenant, _) => *tenant,
-        StepOf::AdmitMore(tenant, _) => *tenant,
-        StepOf::Submit(tenant, _, _) => *tenant,
-        StepOf::Take(_, name) => name.tenant,
-        StepOf::Steal(_, _, name) => name.tenant,
-        StepOf::Advance(_, name) => name.tenant,
-        StepOf::Answer(_, name, _) => name.tenant,
-        StepOf::Inlet(_, name) => name.tenant,
-        StepOf::Finish(_, name) => name.tenant,
-        StepOf::Spend(name) => name.tenant,
-        StepOf::Cancel(tenant, _) => *tenant,
-        StepOf::Leave(tenant) => *tenant,
-    }
-}
-
 /// Whether a step may call the allocator: an admission takes memory, and a Leave gives it back.
 pub fn may_call_allocator<A>(step: &StepOf<A>) -> bool {
     matches!(
