@@ -1,5 +1,5 @@
 -- A seat's steps are all the seat steps of its tenant.
-use Rattle.desk.proofs.Common.{◌≡◌, ℕ, ◌<◌, ◌≤◌, ◌==◌, ◌&&◌, List, [], ◌∷◌, ◌++◌, Bool, true, false, refl, sym, ap, ◌∙◌, subst, arith, if◌then◌else◌, Result, Ok, Err, nat_tests, Quota, Refusal, StepOf, Admit, tenant_of, only, LeafAnswer, own as own_by, steps_of, is_seat_step, seat_steps, with_taken, Owned, HasOwners, AllOwn, AreStepsOfSeat, AreStepsUpTo}
+use Rattle.desk.proofs.Common.{◌≡◌, ℕ, ◌<◌, ◌≤◌, ◌==◌, List, [], ◌∷◌, ◌++◌, true, refl, sym, ap, ◌∙◌, subst, arith, if◌then◌else◌, Result, Ok, Err, nat_tests, Quota, Refusal, StepOf, Admit, tenant_of, only, LeafAnswer, own as own_by, steps_of, is_seat_step, seat_steps, with_taken, Owned, HasOwners, AllOwn, AreStepsOfSeat, AreStepsUpTo}
 
 abbrev pub Step : Type 0
 Step = StepOf LeafAnswer
@@ -10,14 +10,6 @@ Entries = List (ℕ × Step)
 pub steps_of-more : (log : Entries) (m : ℕ) (step : Step) → steps_of (log ++ (m, step) ∷ []) ≡ steps_of log ++ step ∷ []
 steps_of-more [] m step = refl
 steps_of-more (e ∷ es) m step = ap (λ l. e.1 ∷ l) (steps_of-more es m step)
-
-both : (b c : Bool) → b ≡ true → c ≡ true → (b && c) ≡ true
-both b c p q = ap (λ x. x && c) p ∙ q
-
-not-both : (b c : Bool) → (b ≡ true → c ≡ true → ⊥) → (b && c) ≡ false
-not-both true true f = absurd (f refl refl)
-not-both true false f = refl
-not-both false c f = refl
 
 -- a step of a seat is one of a seat whose steps so far are these
 abbrev pub IsOfSeat : List Step → Step → Type 0

@@ -5,11 +5,11 @@ pub use Rattle.std.proofs.lemmas.Bool.{cases_Bool, eq-eqb, eqb-false, eqb-true, 
 pub use Rattle.std.proofs.lemmas.Bool.Decides.{nat_tests}
 pub use Rattle.std.specs.List.{remove}
 pub use Rattle.std.specs.Prelude.{OnOk, if◌then◌else◌, is_err, is_ok, nat_le, nat_lt, ◌==◌}
-pub use Rattle.frame_tree.specs.Frames.{AllBelow, Frame, frame_at, path_in, root_of}
+pub use Rattle.frame_tree.specs.Frames.{Frame, frame_at, path_in, root_of}
 pub use Rattle.jamboree_core.proofs.Answering.{answer_count, journal-answers, one_if_answer}
 pub use Rattle.jamboree_core.proofs.JournalLemmas.{journal-begins, journal-goes-on, journal-searches, others-stay}
 pub use Rattle.jamboree_core.proofs.Possible.{IsOfSearches, tenant-none-bad}
-pub use Rattle.jamboree_core.proofs.sched_core_Stepping.{one-admission, one-step}
+pub use Rattle.jamboree_core.proofs.sched_core_Stepping.{one-step}
 pub use Rattle.jamboree_core.proofs.sched_laws_Consequences.{live-root, root-above, step-ended}
 pub use Rattle.jamboree_core.proofs.sched_laws_Parts.{length-with_ended}
 pub use Rattle.jamboree_core.proofs.sched_laws_Shaped.{admitted-shaped, by-kinds, came, frame-found, step-shaped, unless-passed}
@@ -31,7 +31,7 @@ pub use Rattle.sched_rules.proofs.Isolation.{IsTaken, more-there, shared-after-t
 pub use Rattle.sched_rules.proofs.Tenants.{tenant_in-with_outcome}
 pub use Rattle.sched_rules.specs.Cores.{CoreState, newest_after, shared_by_nobody, shared_refusal, shared_with, step_result, tenant_in, unless_beyond}
 pub use Rattle.sched_rules.specs.Functions.{Functions}
-pub use Rattle.sched_rules.specs.Headline.{AreNumbersGiven, IsAnswerTo, IsOneStep, is_admission}
+pub use Rattle.sched_rules.specs.Headline.{AreNumbersGiven, IsAnswerTo, IsOneStep}
 pub use Rattle.sched_rules.specs.Lone.{Outcome, at_frame, counted, ended, is_lower, lone, lone_step, refusal_in, unless}
 pub use Rattle.sched_rules.specs.Runs.{alone_from, state_after, tenant_of}
 pub use Rattle.sched_rules.specs.Trees.{Tenant, Tree, admitted_with, job_at, with_ended}
@@ -39,7 +39,7 @@ pub use Rattle.sched_rules.specs.Views.{job_of}
 pub use Rattle.sched_rules.specs.declared.job.Job.{Job}
 pub use Rattle.sched_rules.specs.declared.job.Job.TheVariants.{Cancelled, Done, Live, Spent}
 pub use Rattle.sched_rules.specs.declared.refusal.Refusal.{Refusal}
-pub use Rattle.sched_rules.specs.declared.refusal.Refusal.TheVariants.{BadAct, Full, Lower, NoTenant, OldTenant, OutOfMemory}
+pub use Rattle.sched_rules.specs.declared.refusal.Refusal.TheVariants.{BadAct, Full, Lower, NoTenant, OldTenant}
 pub use Rattle.sched_rules.specs.declared.step.DidOf.{DidOf}
 pub use Rattle.sched_rules.specs.declared.step.DidOf.TheVariants.{Left}
 pub use Rattle.sched_rules.specs.declared.step.StepOf.{StepOf}

@@ -1,5 +1,5 @@
 -- What a hall keeps, over an admission, a Leave, and any other step that was taken.
-use Rattle.hall.proofs.Common.{◌≡◌, ◌≢◌, ℕ, ◌+◌, ◌*◌, ◌^◌, ◌<◌, ◌≤◌, Bool, true, false, ◌||◌, eqb, List, [], ◌∷◌, ◌++◌, length, Option, Some, None, Result, Ok, Err, refl, ap, sym, ◌∙◌, subst, arith, inl, inr, length-append, ◌==◌, nat_le, nat_lt, OnOk, cases_Bool, eqb-true, eqb-false, eq-eqb, true≢false, nat_tests, Quota, IsWithinLimits, Refusal, NoTenant, OldTenant, BadAct, Full, OutOfMemory, Lower, StepOf, Admit, AdmitMore, Leave, DidOf, Left, Functions, Job, Tenant, admitted_with, job_at, step-ended, IsOfSearches, tenant-none-bad, Outcome, unless, refusal_in, lone, lone_step, is_lower, tenant_of, CoreState, tenant_in, step_result, unless_beyond, shared_by_nobody, shared_refusal, newest_after, IsOneStep, AreNumbersGiven, IsAnswerTo, is_admission, step-taken, shared-after-taken, there, more-there, tenant_in-with_outcome, one-step, one-admission, Leaf, LeafAnswer, jamboree, IsSearch, AreSearches, job_of, origins_of, submits, TenantSearches, ServesSearches, origin_at, IsOutcomeIn, AnswersTo, IsJournalOf, journal-searches, journal-goes-on, journal-begins, others-stay, serial_in, is_long_step, long_steps, AreRising, all-push, all-with, all-without, said-lacks, said-with-other, said-without-own, said-without-other, rising-with, rising-without, length-with, length-without, JournalOf, journal_in, places_in, longs_in, owner_of_journal, has_journal, with_step, without_journal, total_length, places_for, places_with, longs_for, longs_with, raise_in, raise_count, reserved_in, admitted_journal, journals_after, gone_by, is_appended, longer, AreUpTo, IsBegun, AreBegun, HallOf, empty_hall, hall_after, Explains, IsExplained, IsHall, lets_go, KeepsEndedJobs}
+use Rattle.hall.proofs.Common.{◌≡◌, ◌≢◌, ℕ, ◌+◌, ◌*◌, ◌^◌, ◌<◌, ◌≤◌, Bool, true, false, ◌||◌, eqb, List, [], ◌∷◌, ◌++◌, length, Option, Some, None, Result, Ok, Err, refl, ap, sym, ◌∙◌, subst, arith, inl, inr, length-append, ◌==◌, nat_le, nat_lt, OnOk, cases_Bool, eqb-true, eqb-false, eq-eqb, true≢false, nat_tests, Quota, IsWithinLimits, Refusal, NoTenant, OldTenant, BadAct, Full, Lower, StepOf, Admit, AdmitMore, Leave, DidOf, Left, Functions, Job, Tenant, admitted_with, job_at, step-ended, IsOfSearches, tenant-none-bad, Outcome, unless, refusal_in, lone, lone_step, is_lower, tenant_of, CoreState, tenant_in, step_result, unless_beyond, shared_by_nobody, shared_refusal, newest_after, IsOneStep, AreNumbersGiven, IsAnswerTo, step-taken, shared-after-taken, there, more-there, tenant_in-with_outcome, one-step, Leaf, LeafAnswer, jamboree, IsSearch, AreSearches, job_of, origins_of, submits, TenantSearches, ServesSearches, origin_at, IsOutcomeIn, AnswersTo, IsJournalOf, journal-searches, journal-goes-on, journal-begins, others-stay, serial_in, is_long_step, long_steps, AreRising, all-push, all-with, all-without, said-lacks, said-with-other, said-without-own, said-without-other, rising-with, rising-without, length-with, length-without, JournalOf, journal_in, places_in, longs_in, owner_of_journal, has_journal, with_step, without_journal, total_length, places_for, places_with, longs_for, longs_with, raise_in, raise_count, reserved_in, admitted_journal, journals_after, gone_by, is_appended, longer, AreUpTo, IsBegun, AreBegun, HallOf, empty_hall, hall_after, Explains, IsExplained, IsHall, lets_go, KeepsEndedJobs}
 use Rattle.jamboree_core.specs.declared.outcomes.Outcome.{Outcome as Outcomes}
 use Rattle.hall.proofs.Lists.{IsAllowed, Brings, steps_of, longer-places, longer-longs, step-own, step-total, step-begun, without-total, push-own, push-other, push-total, push-rising, push-upto, total-within, IsAt, found-at}
 use Rattle.hall.proofs.Using.{IsToldBy, step-used, step-brings, serial-given, told-by}
@@ -18,7 +18,7 @@ pub has-one : (grain : ℕ) (tenant : Tenant) (journals : List JournalOf) (numbe
 has-one grain tenant journals number is = grind (arith, said-lacks, steps_of)
 
 -- a step more keeps a list one of searches
-searches-push : (steps : List Step) (step : Step) → AreSearches steps → IsSearch step → AreSearches (steps ++ step ∷ [])
+pub searches-push : (steps : List Step) (step : Step) → AreSearches steps → IsSearch step → AreSearches (steps ++ step ∷ [])
 searches-push [] step are is = (is, tt)
 searches-push (first ∷ steps) step are is = (are.0, searches-push steps step are.1 is)
 
@@ -130,7 +130,8 @@ module _ (hall : HallOf) (explained : IsExplained hall) (step : Step) where
       let t = step-taken (jamboree hall.grain) hall.shared step did explained.known one.answered in
       ap (λ (s : CoreState). s.newest) (one.left ∙ shared-after-taken (jamboree hall.grain) hall.shared step did t)
 
--- a hall after a taken step: the step's tenant is explained, and each other one's journal is as it was
+-- a hall after a taken step: the step's tenant is explained, and each other one's journal is as it was; total:
+-- one step more was taken, counting those of tenants that are gone
 record IsChanged (hall : HallOf) (latest : ℕ) (step : Step) (after : CoreState) (journals : List JournalOf) (gone : ℕ) : Type 0 where
   own : Explains (jamboree hall.grain) (tenant_in after.tenants (tenant_of step)) (journal_in journals (tenant_of step))
   searches : AreSearches (journal_in journals (tenant_of step))
@@ -170,10 +171,6 @@ module _ {I A : Type 0} (functions : Functions I A) (before : CoreState) (step :
   refused refusal some =
       let is = refused-by refusal (step_result functions before step) some in
       one-step functions before step (Err refusal) before (record { told = rw is refl; left = rw is refl })
-
-  -- an admission for which memory is wanting
-  pub wanting : is_admission step ≡ true → shared_refusal functions before step ≡ None → IsOneStep functions before step (Err OutOfMemory) before
-  wanting admits none = one-admission functions before step (Err OutOfMemory) before admits (inr (none, refl, refl))
 
 -- after a Leave nobody is there
 module _ (hall : HallOf) (after : CoreState) (n : ℕ) where

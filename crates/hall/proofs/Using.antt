@@ -1,6 +1,7 @@
 -- Each taken step of a tenant uses one of what it may do, so a journal stays within its places.
-use Rattle.hall.proofs.Common.{◌≡◌, ℕ, ◌+◌, ◌*◌, ◌<◌, ◌≤◌, inl, inr, Bool, false, true, eqb, List, [], ◌∷◌, ◌++◌, length, Option, Some, None, Result, Ok, Err, refl, ap, sym, ◌∙◌, arith, length-append, cases_Bool, eqb-true, nat_tests, Quota, AllBelow, Frame, frame_at, root_of, path_in, Job, Live, Done, Spent as SpentJob, Cancelled as CancelledJob, Refusal, StepOf, Admit, AdmitMore, Take, Steal, Advance, Answer, Inlet, Finish, Spend, Functions, DidOf, Tree, Tenant, admitted_with, with_ended, Outcome, at_frame, lone_step, is_lower, counted, ended, state_after, alone_from, HasEnded, IsShaped, AreRootsLive, live_count, unless-passed, frame-found, by-kinds, step-shaped, admitted-shaped, length-with_ended, live-root, root-above, StaysTaken, AreTakenFrom, IsJournalOf, serial_in, is_appended, raise_in, reserve_in, newer, reserved_after, reserved_in, one_for, raise_count, ended_count, uses}
+use Rattle.hall.proofs.Common.{◌≡◌, ℕ, ◌+◌, ◌*◌, ◌≤◌, inl, inr, Bool, false, true, eqb, List, [], ◌∷◌, ◌++◌, length, Option, Some, None, Result, Ok, Err, refl, ap, sym, ◌∙◌, arith, length-append, cases_Bool, eqb-true, nat_tests, Quota, Frame, frame_at, root_of, path_in, Job, Live, Done, Spent as SpentJob, Cancelled as CancelledJob, Refusal, StepOf, Admit, AdmitMore, Take, Steal, Advance, Answer, Inlet, Finish, Spend, Functions, DidOf, Tree, Tenant, admitted_with, with_ended, Outcome, at_frame, lone_step, is_lower, counted, ended, state_after, alone_from, HasEnded, IsShaped, AreRootsLive, live_count, unless-passed, frame-found, by-kinds, step-shaped, admitted-shaped, length-with_ended, live-root, root-above, StaysTaken, AreTakenFrom, IsJournalOf, serial_in, is_appended, raise_in, reserve_in, newer, reserved_after, reserved_in, one_for, raise_count, ended_count, uses}
 use Rattle.hall.proofs.Lists.{Brings}
+use Rattle.frame_tree.proofs.TreeLaws.{below-found, found-there}
 
 -- one more is used by each step but a raise
 abbrev UsedBy : Option Quota → ℕ → ℕ → Type 0
@@ -56,17 +57,9 @@ submit-used tenant root =
 finish-used : (tenant : Tenant) (root : ℕ) (words : List ℕ) → uses tenant + 1 ≤ uses (counted (ended root (Done words) tenant))
 finish-used tenant root words = grind (arith, ended-more, length-with_ended)
 
--- a frame's serial is below what all are below
-serial-below : (n : ℕ) (frames : Tree) (s : ℕ) (f : Frame (List ℕ)) → AllBelow n frames → frame_at frames s ≡ Some f → s < n
-serial-below n [] s f below at = absurd cc
-serial-below n (x ∷ xs) s f below at = elim (cases_Bool (eqb x.serial s)) [
-  | inl same ↦ (let first : x.serial < n = below.0 in let is = eqb-true x.serial s same in omega (arith, first, is))
-  | inr other ↦ serial-below n xs s f below.1 (rw other at at)
-]
-
 -- a step at a frame that was found is at a serial that was given
 frame-given : {X : Type 0} (tenant : Tenant) (s : ℕ) (step : Frame (List ℕ) → Result X Refusal) (outcome : X) → at_frame (frame_at tenant.frames s) step ≡ Ok outcome → IsShaped tenant → s ≤ tenant.serials
-frame-given tenant s step outcome is shape = grind (arith, frame-found, serial-below)
+frame-given tenant s step outcome is shape = grind (arith, frame-found, below-found, found-there)
 
 -- a raise that was taken brings a segment or a node
 not-lower : (now quota : Quota) → is_lower now quota ≡ false → now.segments + now.nodes + 1 ≤ quota.segments + quota.nodes

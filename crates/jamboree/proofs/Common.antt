@@ -15,7 +15,7 @@ pub use Rattle.std.specs.Prelude.{nat_le, nat_lt, neg_ℤ, negsuc, pos, refl, sl
 pub use Rattle.std.specs.Prelude.{◌++◌, ◌+ℤ◌, ◌+◌, ◌-ℤ◌, ◌-◌, ◌<ℤ◌, ◌<◌, ◌==◌, ◌^◌, ◌∷◌, ◌≡◌, ◌≢◌, ◌≤ℤ◌, ◌≤◌}
 pub use Rattle.cactus_stack.specs.Nodes.{padded}
 pub use Rattle.jamboree_rules.proofs.EvalLemmas.MinimaxLemmas.{best_choice-deeper, best_choice-leaf}
-pub use Rattle.jamboree_rules.proofs.Forms.{IsFormed, IsFrame, child-told, few-choices, formed-told, frame-told}
+pub use Rattle.jamboree_rules.proofs.Forms.{IsFormed, IsFrame, child-told, formed-told, frame-told}
 pub use Rattle.jamboree_rules.proofs.LeafLemmas.{leaf-is, opp-is, own-is}
 pub use Rattle.jamboree_rules.proofs.Rooted.{entered-few, root_value, root-whole}
 pub use Rattle.jamboree_rules.specs.Acts.{act_by, act_of, changes_by, changes_of, first_open, first_search, inlet_act, inlet_of, kind_by, kind_of, next_act}
@@ -37,7 +37,7 @@ pub use Rattle.jamboree_rules.specs.sched_rules.declared.act.Continuation.{Conti
 pub use Rattle.jamboree_rules.specs.sched_rules.declared.act.InletAct.{InletAct}
 pub use Rattle.othello_board.specs.Words.{cells, cells_of}
 pub use Rattle.othello_board.specs.declared.cells.Cell.{Cell}
-pub use Rattle.othello_moves.proofs.AllowedLemmas.{choices_allowed}
+pub use Rattle.othello_moves.proofs.AllowedLemmas.{choices_allowed, choices_fit}
 pub use Rattle.othello_moves.specs.Choices.{IsAllowed, after, choices, plies}
 pub use Rattle.othello_moves.specs.declared.choices.Choice.{Choice}
 pub use Rattle.othello_moves.specs.declared.choices.Choice.TheVariants.{Pass, Square}

@@ -1,5 +1,5 @@
 -- A frame of a search takes at most one Answer: each answers a frame that was opened, and makes it one that is never computed again.
-use Rattle.jamboree_core.proofs.Common.{◌≡◌, ◌≢◌, ℕ, ◌+◌, ◌<◌, ◌≤◌, inl, inr, Bool, true, false, ◌||◌, not, eqb, List, [], ◌∷◌, ◌++◌, Option, Some, None, Result, Ok, Err, length, replicate, refl, ap, sym, ◌∙◌, subst, arith, ◌==◌, ◌&&◌, nat_le, nat_lt, int_le, int_lt, neg_ℤ, drop, slice_index, slice_set, if◌then◌else◌, filter, cases_Bool, eqb-true, and_parts, false≢true, not-false, nat_tests, get_or-set_other, get_or-set_same, length-set, State, Ready, Running, Computing, Waiting, Returned, FrameId, Frame, frame_at, values_of, parent_of, root_of, goes_under, with_state, aborted, new_frame, IsTree, AreSerialsRising, above-missing, tree-rising, found-serial, there-found, under-there, rising-filter, values_of-with_state, padded, Act, Continuation, Grow, Spawn, Go, Wait, Compute, Return, Job, Done, Spent as SpentJob, Cancelled as CancelledJob, Refusal, StepOf, Admit, Answer, Functions, Tree, Tenant, admitted_with, words_in, with_frame_words, stored, has_child, kept_words, Outcome, unless, lone_step, act_by_sight, counted, holding, ended, then_done, advanced, answer_tests, answered, is_computed_by, does_wait, staying, taken_in, state_after, alone_from, Mark, Computes, mark_of_state, grown, IsShaped, TenantFits, submits, with_frame_words-missing, kids, fits-holds, frame-found, unless-passed, came, by-effects, staying-parent, step-shaped, admitted-shaped, words-found, sight-head, with_frame_words-twice, step-fits, Leaf, AreFitting, IsRoot, jamboree, LeafAnswer, phase_new, phase_computing, phase_first, phase_tests, phase_done, role_test, status_runs, status_failed, status_runs_again, rest_at, floor, is_frame, may_be_child, Change, OwnBits, OppBits, Phase, Best, Chosen, Count, Spawned, Status, pair_of, pairs_of, word_of, entry_of, frame_of, are_entries, is_formed, is_placed, first_search, first_open, tests, opening_under, act_by, parent_in, next_act, seen, changes_by, changes_of, inlet_act, changes_of_answer, accepts, AreSearches, StaysTaken, AreTakenFrom, IsJournalOf}
+use Rattle.jamboree_core.proofs.Common.{◌≡◌, ◌≢◌, ℕ, ◌+◌, ◌<◌, ◌≤◌, inl, inr, Bool, true, false, ◌||◌, not, eqb, List, [], ◌∷◌, ◌++◌, Option, Some, None, Result, Ok, Err, length, replicate, refl, ap, sym, ◌∙◌, subst, arith, ◌==◌, ◌&&◌, nat_le, nat_lt, int_le, int_lt, neg_ℤ, drop, slice_index, slice_set, if◌then◌else◌, filter, cases_Bool, eqb-true, and_parts, not-false, nat_tests, get_or-set_other, get_or-set_same, length-set, State, Ready, Running, Computing, Waiting, Returned, FrameId, Frame, frame_at, values_of, parent_of, root_of, goes_under, with_state, aborted, new_frame, IsTree, AreSerialsRising, above-missing, tree-rising, found-serial, there-found, under-there, rising-filter, values_of-with_state, padded, Act, Continuation, Grow, Spawn, Go, Wait, Compute, Return, Job, Done, Spent as SpentJob, Cancelled as CancelledJob, Refusal, StepOf, Admit, Answer, Functions, Tree, Tenant, admitted_with, words_in, with_frame_words, stored, has_child, kept_words, Outcome, unless, lone_step, act_by_sight, counted, holding, ended, then_done, advanced, answer_tests, answered, is_computed_by, does_wait, staying, taken_in, state_after, alone_from, Mark, grown, IsShaped, TenantFits, submits, with_frame_words-missing, kids, fits-holds, frame-found, unless-passed, came, by-effects, staying-parent, step-shaped, admitted-shaped, words-found, sight-head, with_frame_words-twice, step-fits, Leaf, AreFitting, IsRoot, jamboree, LeafAnswer, phase_new, phase_computing, phase_first, phase_tests, phase_done, role_test, status_runs, status_failed, status_runs_again, rest_at, floor, is_frame, may_be_child, Change, OwnBits, OppBits, Phase, Best, Chosen, Count, Spawned, Status, pair_of, pairs_of, word_of, entry_of, frame_of, are_entries, is_formed, is_placed, first_search, first_open, tests, opening_under, act_by, parent_in, next_act, seen, changes_by, changes_of, inlet_act, changes_of_answer, accepts, AreSearches, StaysTaken, AreTakenFrom, IsJournalOf, computes-marked}
 use Rattle.jamboree_rules.specs.Frames.{Frame as JamboreeFrame}
 use Rattle.jamboree_core.proofs.Replying.{search-fits, lawful}
 
@@ -261,11 +261,6 @@ module _ (grain : ℕ) {tenant : Tenant} (shape : IsShaped tenant) where
     at_leave = λ number leaves. tt;
   })
 
--- a frame that is computed
-computes : (worker : ℕ) (state : State) → is_computed_by worker state ≡ true → mark_of_state state ≡ Computes
-computes worker (Computing holder) is = refl
-computes worker _ is = absurd (false≢true is)
-
 -- an Answer closes one frame
 pub answer-closes-one : (grain : ℕ) (origins : List (List ℕ)) (tenant : Tenant) (worker : ℕ) (name : FrameId) (answer : LeafAnswer) (outcome : Outcome Leaf) → lone_step (jamboree grain) tenant (Answer worker name answer) ≡ Ok outcome → IsShaped tenant →
     TenantFits AreFitting IsRoot origins tenant → ClosesBy 1 tenant outcome.0
@@ -273,7 +268,7 @@ answer-closes-one grain origins tenant worker name answer outcome is shape fitti
     let found = frame-found tenant.frames name.serial (λ frame. unless (answer_tests (jamboree grain) tenant worker frame answer) (answered (jamboree grain) tenant worker frame answer)) outcome is in
     let f = found.0 in
     let passed = unless-passed (answer_tests (jamboree grain) tenant worker f answer) (answered {I = Leaf} (jamboree grain) tenant worker f answer) outcome found.2 in
-    let computing = computes worker f.state (not-false (is_computed_by worker f.state) passed.0.0) in
+    let computing = computes-marked worker f.state (not-false (is_computed_by worker f.state) passed.0.0) in
     let M : Mark → Type 0 = λ m. AreFitting f.value (kids tenant.frames name.serial) m in
     let fits = subst M computing (fits-holds AreFitting tenant.frames fitting.frames name.serial f found.1) in
     let closes = answer-closes f.value answer fits.formed fits.frame.marked in

@@ -1,10 +1,9 @@
 -- The names that the proofs take of the library, of the crates below and of this crate's definitions, from one place.
 pub use Rattle.std.proofs.Common.{ap, arith, eqb, inl, inr, min, of_z, subst, sym, to_z, w32, ⊎_elim, ◌∙◌}
-pub use Rattle.std.proofs.Math.ListN.{length-set}
 pub use Rattle.std.proofs.Math.Logic.{∥∥₁_elim}
 pub use Rattle.std.proofs.Math.Seq.{drop-append_seam}
 pub use Rattle.std.proofs.Props.{props}
-pub use Rattle.std.proofs.lemmas.Bool.{and_from, and_parts, and_right, cases_eq, cases_lt, eq-eqb, eqb-true, le-leb, leb-true, lt-leb, ltb-true, ne_eqb, or_from}
+pub use Rattle.std.proofs.lemmas.Bool.{and_from, and_parts, and_right, cases_eq, cases_lt, eq-eqb, eqb-true, le-leb, leb-true, lt-leb, ltb-true, or_from}
 pub use Rattle.std.proofs.lemmas.Bool.Decides.{nat_tests}
 pub use Rattle.std.proofs.lemmas.Grind.{common_steps}
 pub use Rattle.std.proofs.lemmas.Int.{by_lt_z, clamps, ints}
@@ -16,7 +15,6 @@ pub use Rattle.std.proofs.lemmas.List.Recursion.{and_set}
 pub use Rattle.std.proofs.lemmas.Nat.{div-mul-add, mod-mul-add}
 pub use Rattle.std.proofs.lemmas.Nat.Bits.{bit_at-lt, bit_at-zero, bit_at_above, bit_at_and, same_from_bits}
 pub use Rattle.std.specs.Int.{bit_at, int_max}
-pub use Rattle.std.specs.List.{range_with_len}
 pub use Rattle.std.specs.Ordering.{int_eq}
 pub use Rattle.std.specs.Prelude.{All, Bool, Contains, IfSome, List, None, Option, Some, [], bit_and, cond, drop, false, filter, find, if◌then◌else◌, int_le}
 pub use Rattle.std.specs.Prelude.{int_lt, length, map, nat_le, nat_lt, neg_ℤ, negsuc, not, pos, refl, replicate, slice_index, slice_index_or, slice_set, suc}
@@ -29,19 +27,21 @@ pub use Rattle.leaf_search.specs.othello_eval.Values.{IsWithin, final_value}
 pub use Rattle.leaf_search.specs.othello_eval.declared.bound.Bound.{Bound}
 pub use Rattle.leaf_search.specs.othello_eval.declared.bound.BoundKind.{BoundKind}
 pub use Rattle.leaf_search.specs.othello_eval.declared.bound.BoundKind.TheVariants.{Exact}
-pub use Rattle.othello_board.proofs.CellLemmas.{apart, bit_at-bits_of, bit-cases, cell_at-cells_of, map-squares-same}
+pub use Rattle.othello_board.proofs.CellLemmas.{apart, bit_at-bits_of, bit-cases, cell_at-cells_of, length-cells_of, map-squares-same}
 pub use Rattle.othello_board.specs.Rules.{cell_at, exchanged, is_among, is_legal, is_nil, is_opp_cell, is_own_cell}
 unfoldable pub use Rattle.othello_board.specs.Rules.{squares}
 pub use Rattle.othello_board.specs.Words.{bits_of, cell_of, cells_of}
 pub use Rattle.othello_board.specs.declared.cells.Cell.{Cell}
 pub use Rattle.othello_board.specs.declared.cells.Cell.TheVariants.{Empty, Opp, Own}
-pub use Rattle.othello_moves.proofs.AllowedLemmas.{choices_allowed, choices_fit, contained-allowed, length-after}
+pub use Rattle.othello_moves.proofs.AllowedLemmas.{choices_allowed, choices_fit, contained-allowed, length-after, squares-length}
 pub use Rattle.othello_moves.proofs.BitLemmas.{is_among-filter, is-square}
+pub use Rattle.othello_moves.proofs.LeadLemmas.{no-square}
 pub use Rattle.othello_moves.specs.Choices.{IsAllowed, after, choices, choices_without_move, legal_squares, plies}
 unfoldable pub use Rattle.othello_moves.specs.Choices.{in_order}
 pub use Rattle.othello_moves.specs.declared.choices.Choice.{Choice}
 pub use Rattle.othello_moves.specs.declared.choices.Choice.TheVariants.{Pass, Square}
 pub use Rattle.othello_moves.specs.declared.choices.TheConstants.{DEEPEST}
+pub use Rattle.sched_rules.proofs.StoreLemmas.{length-stored}
 pub use Rattle.sched_rules.specs.Functions.{Functions}
 pub use Rattle.sched_rules.specs.Laws.{AcceptKeeps, ActFits, Computes, HasReturned, InletKeeps, Mark, Neither, NewChildFits, NextKeeps, ParentFits}
 pub use Rattle.sched_rules.specs.Laws.{children_after, children_left, grown, has_one, mark_after}

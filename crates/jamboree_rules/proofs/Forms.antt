@@ -1,5 +1,5 @@
--- What is packed into an entry is read again.
-use Rattle.jamboree_rules.proofs.Common.{◌≡◌, ◌≢◌, ℕ, zero, suc, ◌+◌, ◌<◌, ◌≤◌, ◌==◌, true, ℤ, ◌≤ℤ◌, if◌then◌else◌, List, [], ◌∷◌, map, refl, slice_index, ◌++◌, drop, replicate, length, slice_set, ◌⊎◌, ◌&&◌, nat_le, nat_lt, Bool, Option, Some, None, IfSome, Contains, ◌∙◌, ap, arith, sym, subst, and_parts, le-leb, and_from, eqb-true, eq-eqb, leb-true, nat_tests, ints, BoundKind, least, greatest, is_score, Frame, board, unscored, is_leaf, is_searching, counts_choices, is_frame, may_be_child, code_of, code_at, coded, score_of, word_of, status_of, entry_rest, entry_of, kind_number, kind_in, score_in, rest_with, is_rest, is_entry, are_entries, frame_of, Change, Best, Status, pair_of, pairs_of, changed, is_formed, common_steps, get_or-set_other, get_or-set_same, map-set, drop-set-lt, drop-set-add, get_or_past, and_set, length-set, drop-append_seam, stored, int_eq, choices, IsAllowed, IsLeaf, leaf-told, All-get_or, Cell, Choice, choices_allowed, contained-allowed, choices_fit}
+-- What is packed into an entry is read again; stores, the form of a frame, and the codes of choices.
+use Rattle.jamboree_rules.proofs.Common.{◌≡◌, ◌≢◌, ℕ, zero, suc, ◌+◌, ◌<◌, ◌≤◌, ◌==◌, true, ℤ, ◌≤ℤ◌, if◌then◌else◌, List, [], ◌∷◌, map, refl, slice_index, ◌++◌, drop, replicate, length, slice_set, ◌⊎◌, ◌&&◌, nat_le, nat_lt, Bool, Option, Some, None, IfSome, Contains, ◌∙◌, ap, arith, sym, subst, and_parts, le-leb, and_from, eqb-true, eq-eqb, leb-true, nat_tests, ints, BoundKind, least, greatest, is_score, Frame, board, unscored, is_leaf, is_searching, counts_choices, is_frame, may_be_child, code_of, code_at, coded, score_of, word_of, status_of, entry_rest, entry_of, kind_number, kind_in, score_in, rest_with, is_rest, is_entry, are_entries, frame_of, Change, Best, Status, pair_of, pairs_of, changed, is_formed, common_steps, get_or-set_other, get_or-set_same, map-set, drop-set-lt, drop-set-add, get_or_past, and_set, drop-append_seam, stored, int_eq, choices, IsAllowed, IsLeaf, leaf-told, All-get_or, Cell, Choice, choices_allowed, contained-allowed, length-stored}
 
 -- the word of a score holds it
 pub held : (s : ℤ) → least ≤ℤ s → score_of (word_of s) ≡ s
@@ -115,10 +115,6 @@ written changes words = stored (pairs_of changes) words
 abbrev pub changed_by : List Change → Frame → Frame
 changed_by [] f = f
 changed_by (change ∷ changes) f = changed_by changes (changed change f)
-
-pub length-stored : (stores : List (ℕ × ℕ)) (words : List ℕ) → length (stored stores words) ≡ length words
-length-stored [] words = refl
-length-stored (store ∷ stores) words = length-stored stores (slice_set words store.0 store.1) ∙ length-set words store.0 store.1
 
 -- the frame in the words after changes, read off the frame before
 pub frame-stored : (changes : List Change) (w : List ℕ) → AreSafe changes → 12 ≤ length w → frame_of (written changes w) ≡ changed_by changes (frame_of w)
@@ -272,7 +268,7 @@ child-told f c h = (grind (arith, nat_tests), grind (arith, nat_tests), grind (a
 pub child-passes : (f c : Frame) → 0 < c.role → c.number < f.count → c.number < length (choices (board f)) → may_be_child f c ≡ true
 child-passes f c a b d = grind (arith, nat_tests)
 
--- Codes of choices, and how many there are.
+-- Codes of choices.
 
 -- an allowed choice has a code of at most 64
 allowed-code : (b : List Cell) (c : Choice) → IsAllowed b c → code_of c ≤ 64
@@ -285,6 +281,3 @@ code-small f i = grind (arith, allowed-code, All-get_or, choices_allowed, get_or
 pub coded-small : (b : List Cell) (c : Option Choice) → IfSome c (Contains (choices b)) → coded c ≤ 65
 coded-small b None h = omega arith
 coded-small b (Some c) h = let small : code_of c ≤ 64 = allowed-code b c (contained-allowed b c h) in omega arith
-
-pub few-choices : (b : List Cell) → length (choices b) ≤ 64
-few-choices b = choices_fit b

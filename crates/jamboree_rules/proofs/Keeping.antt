@@ -1,10 +1,10 @@
 -- What an inlet leaves of a frame that fits, and what an answer leaves.
-use Rattle.jamboree_rules.proofs.Common.{◌||◌, ◌≡◌, ◌≢◌, ℕ, ◌<◌, ◌≤◌, ◌⊎◌, ◌==◌, Bool, true, false, ℤ, neg_ℤ, ◌<ℤ◌, ◌≤ℤ◌, int_le, int_lt, List, [], ◌∷◌, ◌++◌, refl, zero, suc, ◌&&◌, nat_lt, nat_le, bit_and, length, slice_index, if◌then◌else◌, sym, subst, arith, ⊎_elim, ints, clamps, stored, is_outside, Neither, HasReturned, ParentFits, NextKeeps, InletKeeps, grown, has_one, children_left, Frame, code_at, value_at, value, floor, least, greatest, board, choice_at, own_word, opp_word, may_be_child, frame_of, Change, is_formed, is_placed, seen, found_rest, changes_by, changes_of, returns, is_computed, opening_on, opening_under, first_open, act_by, act_of, parent_in, next_act, inlet_of, inlet_act, Exact, IsBound, IsOfKind, IsTrueRest, IsFirst, IsTest, IsAgain, IsInRole, IsChildOf, IsSearchingFrame, Fits, AreFitting, IsRoot, and_from, eq-eqb, nat_tests, Cell, cells_of, choices, after, entered, Act, InletAct, is_bad_act, length-after, eqb-true, map-append, ActFits, Functions, ap, ◌∙◌}
+use Rattle.jamboree_rules.proofs.Common.{◌||◌, ◌≡◌, ◌≢◌, ℕ, ◌<◌, ◌≤◌, ◌⊎◌, ◌==◌, Bool, true, false, ℤ, neg_ℤ, ◌<ℤ◌, ◌≤ℤ◌, int_le, int_lt, List, [], ◌∷◌, ◌++◌, refl, zero, suc, ◌&&◌, nat_lt, nat_le, bit_and, length, slice_index, if◌then◌else◌, sym, subst, arith, ⊎_elim, ints, clamps, stored, is_outside, Neither, HasReturned, ParentFits, NextKeeps, InletKeeps, grown, has_one, children_left, Frame, code_at, value_at, value, floor, least, greatest, board, choice_at, own_word, opp_word, may_be_child, frame_of, Change, is_formed, is_placed, seen, found_rest, changes_by, changes_of, returns, is_computed, opening_on, opening_under, first_open, act_by, act_of, parent_in, next_act, inlet_of, inlet_act, Exact, IsBound, IsOfKind, IsTrueRest, IsFirst, IsTest, IsAgain, IsInRole, IsChildOf, IsSearchingFrame, Fits, AreFitting, IsRoot, and_from, eq-eqb, nat_tests, Cell, cells_of, choices, after, entered, Act, InletAct, is_bad_act, length-after, eqb-true, map-append, ActFits, Functions, ap, ◌∙◌, length-cells_of}
 use Rattle.jamboree_rules.proofs.Searching.{IsSearching-low, IsSearching-higher, le-told, not-le-told, found-true, found-exact, found-passes, entered-none}
 use Rattle.jamboree_rules.proofs.Kinship.{taken_in, child-of, in-search, unsettled, scored, inlet-failed, inlet-low, inlet-higher, inlet-first, inlet-cut, first-low, first-exact, again-low, again-exact, test-low, over-beta, parent-kept, HasSameGoal, best_with, has-begun}
 use Rattle.jamboree_rules.proofs.Forms.{code-small, IsFrame, IsFormed, formed-told, formed-passes, child-passes, IsInSearch, written}
 use Rattle.jamboree_rules.proofs.Steps.{IsAtTests, searching-late, status-count, IsGoodAct, first-good, tests-good, done-good, opening-good, AreTaken, IsGoodHere, IsGoodStore, Lists, frames, good-store, taken}
-use Rattle.jamboree_rules.proofs.LeafLemmas.{words-apart, length-cells-of, words-hold}
+use Rattle.jamboree_rules.proofs.LeafLemmas.{words-apart, words-hold}
 
 -- the frame after each of the five cases of an inlet
 abbrev pub frame_by : (cuts test low higher : Bool) → Frame → Frame → Frame
@@ -274,7 +274,7 @@ module _ (own : List ℕ) (children : Lists) (phase : (frame_of own).phase ≡ 0
       let kin : IsChildOf q new = kin-of parent own older younger fit in
       let there = role-there q new kin.in_role in
       opening-goes grain (parent ∷ above) (own_word b) (opp_word b) (words-apart b) (λ _ (root : new.role ≡ 0). absurd (omega arith))
-      (words-hold b (length-after (board q) (choice_at q new.number) (length-cells-of q.own q.opp)))
+      (words-hold b (length-after (board q) (choice_at q new.number) (length-cells_of q.own q.opp)))
 
 chosen-act : (formed placed : Bool) (act other : Act) → formed ≡ true → placed ≡ true → act ≡ (if formed && placed then act else other)
 chosen-act formed placed act other ef ep = rw (ef, ep) refl

@@ -1,10 +1,6 @@
--- The two words of a list of cells.
-use Rattle.jamboree_rules.proofs.Common.{◌≡◌, ℕ, ◌+◌, ◌<◌, ◌≤◌, ◌^◌, ◌==◌, zero, suc, Bool, true, false, cond, if◌then◌else◌, bit_and, List, map, filter, length, refl, ℤ, ◌<ℤ◌, bit_at, range_with_len, sym, ◌∙◌, ap, arith, inl, inr, min, eqb, cases_lt, ne_eqb, ext_get_or, length-map, get_or-map-range_with_len, bit_at_and, bit_at-zero, bit_at-lt, bit_at_above, same_from_bits, Cell, Empty, Own, Opp, squares, cell_at, is_among, is_own_cell, is_opp_cell, cell_of, cells_of, bits_of, apart, cell_at-cells_of, map-squares-same, bit-cases, bit_at-bits_of, is_among-filter, is-square, own_word, opp_word, is_leaf, coded, ints, props, ∥∥₁_elim, minimax, best_choice, IsBound, Leaf, LeafAnswer, IsLeaf, leaf-told, leaf_with, leaf_by, leaf_from, same_leaf}
+-- The two words of a list of cells, and leaves by their numbers.
+use Rattle.jamboree_rules.proofs.Common.{◌≡◌, ℕ, ◌<◌, ◌≤◌, ◌^◌, ◌==◌, Bool, true, cond, if◌then◌else◌, bit_and, List, map, filter, length, ℤ, ◌<ℤ◌, bit_at, sym, ◌∙◌, ap, arith, inl, inr, min, eqb, cases_lt, ext_get_or, length-map, get_or-map-range_with_len, bit_at_and, bit_at-zero, bit_at-lt, bit_at_above, same_from_bits, Cell, Empty, Own, Opp, squares, cell_at, is_own_cell, is_opp_cell, cell_of, cells_of, bits_of, apart, cell_at-cells_of, map-squares-same, bit-cases, bit_at-bits_of, is_among-filter, is-square, own_word, opp_word, is_leaf, coded, ints, props, ∥∥₁_elim, minimax, best_choice, IsBound, Leaf, LeafAnswer, IsLeaf, leaf-told, leaf_with, leaf_by, leaf_from, same_leaf, squares-length, no-square}
 use Rattle.jamboree_rules.proofs.Forms.{leaf-passes, coded-small}
-
-squares-length : length squares ≡ 64
-unfolding squares
-squares-length = refl
 
 -- a board of 64 cells is that of its own cells
 by-cells : (b : List Cell) → length b ≡ 64 → map (λ s. cell_at b s) squares ≡ b
@@ -15,14 +11,6 @@ by-cells b len = ext_get_or Empty (map (λ s. cell_at b s) squares) b (length-ma
 -- the bits of the squares that pass a test
 bit-passing : (p : ℕ → Bool) (s : ℕ) → s < 64 → bit_at (bits_of (filter p squares)) s ≡ cond (p s) 1 0
 bit-passing p s below = grind (arith, bit_at-bits_of, is_among-filter, is-square)
-
-among-range : (i a n : ℕ) → a + n ≤ i → is_among i (range_with_len a n) ≡ false
-among-range i a zero past = refl
-among-range i a (suc n) past = rw (ne_eqb a i (λ e. omega arith)) (among-range i (a + 1) n (omega arith))
-
-no-square : (i : ℕ) → 64 ≤ i → is_among i squares ≡ false
-unfolding squares
-no-square i past = among-range i 0 64 past
 
 bit-past : (p : ℕ → Bool) (s : ℕ) → 64 ≤ s → bit_at (bits_of (filter p squares)) s ≡ 0
 bit-past p s past = grind (arith, bit_at-bits_of, is_among-filter, no-square)
@@ -74,9 +62,6 @@ module _ (own opp : ℕ) where
   opp-is disjoint fits = word-same (cells_of own opp) opp is_opp_cell fits (λ s below.
       opp-by (bit_at own s) (bit_at opp s) (bit_at-lt own s) (bit_at-lt opp s) (apart own opp s disjoint)
       ∙ ap (λ (c : Cell). cond (is_opp_cell c) 1 0) (sym (cell_at-cells_of own opp s below)))
-
-  pub length-cells-of : length (cells_of own opp) ≡ 64
-  length-cells-of = length-map squares (cell_of own opp) ∙ squares-length
 
 -- Leaves by their numbers.
 

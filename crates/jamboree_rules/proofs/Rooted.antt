@@ -1,8 +1,9 @@
--- No choice of a board stands twice in their order.
-use Rattle.jamboree_rules.proofs.Common.{◌≡◌, ◌≢◌, ℕ, suc, ◌<◌, ◌&&◌, not, Bool, true, false, List, [], ◌∷◌, map, filter, length, refl, slice_index, slice_index_or, if◌then◌else◌, ◌≤◌, ℤ, negsuc, ◌≤ℤ◌, ◌<ℤ◌, bit_and, Some, All, neg_ℤ, sym, ◌∙◌, ap, arith, subst, and_parts, eq-eqb, Cell, squares, is_among, is_legal, is_nil, exchanged, Choice, Square, Pass, choices, choices_without_move, legal_squares, in_order, is_among-filter, Frame, board, choice_at, code_of, value, coded, least, greatest, rest_at, ints, padded, best_choice, IsWithin, minimax-within, IsBound, stored, is_outside, kept_words, AcceptKeeps, Neither, Computes, HasReturned, Mark, LeafAnswer, frame_of, is_formed, pairs_of, root_words, frame_size, kind_number, kind_in, leaf_in, same_leaf, changes_of_answer, accepts, IsDoneFrame, Fits, AreFitting, IsRoot, IsInRole, First, Test, Again, AreChildren, IsSearchingFrame, take_all, get_or_past, All-cons, Bound, Exact, IsTrueBound, IsExactIfBest, IsTable, entered, kind_numbered, bound_in, bounds_in, bounds_of, IsSettled, HasWindow, HaveGoals, IsSound, by_lt_z, Functions, Leaf, leaf_of_answer, DEEPEST}
-use Rattle.jamboree_rules.proofs.LeafLemmas.{Has, has-from, same-has, moved, named-by, choice-small, length-cells-of}
+-- Choices stand once each; an accepted answer and a new root fit; a returned root holds the minimax value, the best choice and a true
+-- table; a frame that fits is sound.
+use Rattle.jamboree_rules.proofs.Common.{◌≡◌, ◌≢◌, ℕ, suc, ◌<◌, ◌&&◌, not, Bool, true, false, List, [], ◌∷◌, map, filter, length, refl, slice_index, slice_index_or, if◌then◌else◌, ◌≤◌, ℤ, negsuc, ◌≤ℤ◌, ◌<ℤ◌, bit_and, Some, All, neg_ℤ, sym, ◌∙◌, ap, arith, subst, and_parts, eq-eqb, Cell, squares, is_among, is_legal, is_nil, exchanged, Choice, Square, Pass, choices, choices_without_move, legal_squares, in_order, is_among-filter, Frame, board, choice_at, code_of, value, coded, least, greatest, rest_at, ints, padded, best_choice, IsWithin, minimax-within, IsBound, stored, is_outside, kept_words, AcceptKeeps, Neither, Computes, HasReturned, Mark, LeafAnswer, frame_of, is_formed, pairs_of, root_words, frame_size, kind_number, kind_in, leaf_in, same_leaf, changes_of_answer, accepts, IsDoneFrame, Fits, AreFitting, IsRoot, IsInRole, First, Test, Again, AreChildren, IsSearchingFrame, take_all, get_or_past, All-cons, Bound, Exact, IsTrueBound, IsExactIfBest, IsTable, entered, kind_numbered, bound_in, bounds_in, bounds_of, IsSettled, HasWindow, HaveGoals, IsSound, by_lt_z, Functions, Leaf, leaf_of_answer, choices_fit, length-cells_of, length-map, DEEPEST}
+use Rattle.jamboree_rules.proofs.LeafLemmas.{Has, has-from, same-has, moved, named-by, choice-small}
 use Rattle.jamboree_rules.proofs.Steps.{accepted, status-count, new-form, Lists, frames, good-store}
-use Rattle.jamboree_rules.proofs.Forms.{IsFrame, IsFormed, formed-told, formed-passes, few-choices, IsInSearch}
+use Rattle.jamboree_rules.proofs.Forms.{IsFrame, IsFormed, formed-told, formed-passes, IsInSearch}
 use Rattle.jamboree_rules.proofs.Searching.{tabled-none, entered-deep, found-best}
 use Rattle.jamboree_rules.proofs.Keeping.{FitsUnder, store-above, IsStoredHere, StandsUnder}
 use Rattle.jamboree_rules.specs.Sound.{First as WholeWindow, Test as TestWindow, Again as AgainWindow}
@@ -41,16 +42,12 @@ square-at : (xs : List ℕ) (k : ℕ) → k < length xs → code_of (slice_index
 square-at (x ∷ xs) (suc k) below = square-at xs k (omega arith)
 square-at xs k below = grind arith
 
-length-squares : (xs : List ℕ) → length (map Square xs) ≡ length xs
-length-squares [] = refl
-length-squares (x ∷ xs) = ap suc (length-squares xs)
-
 abbrev AreApart : List Choice → Type 0
 AreApart cs = (j k : ℕ) → j < k → k < length cs → slice_index_or cs j Pass ≢ slice_index_or cs k Pass
 
 squares-apart : (xs : List ℕ) → are_distinct xs ≡ true → AreApart (map Square xs)
 squares-apart xs h j k before below e =
-    let inside : k < length xs = omega (arith, length-squares xs, below) in
+    let inside : k < length xs = omega (arith, length-map xs Square, below) in
     apart-at xs j k h before inside (sym (square-at xs j (omega arith)) ∙ ap code_of e ∙ square-at xs k inside)
 
 pass-apart : (over : Bool) → AreApart (if over then [] else Pass ∷ [])
@@ -231,7 +228,7 @@ module _ (f : Frame) (fits : Fits f [] HasReturned) (root : f.role ≡ 0) (insid
   }
 
 pub entered-few : (depth : ℕ) (b : List Cell) → length (entered depth b) ≤ 64
-entered-few depth b = grind (arith, few-choices)
+entered-few depth b = grind (arith, choices_fit)
 
 -- a root that has returned, by its words
 module _ (origin words : List ℕ) (fits : AreFitting words [] HasReturned) (root : IsRoot origin words) where
@@ -240,7 +237,7 @@ module _ (origin words : List ℕ) (fits : AreFitting words [] HasReturned) (roo
 
   -- the value of every board lies between -128,000 and 128,000, so its score lies inside the full window, which is its own
   within : IsWithin 128000 (value this)
-  within = minimax-within this.depth (board this) (length-cells-of this.own this.opp)
+  within = minimax-within this.depth (board this) (length-cells_of this.own this.opp)
 
   bound : IsBound least greatest this.best (value this)
   bound = rw (root.alpha_is, root.beta_is) at (fits.frame.done fits.frame.marked).bound

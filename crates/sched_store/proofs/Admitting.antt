@@ -1,15 +1,15 @@
 -- A tenant is admitted: an account, places and a ledger of its own, after all others, and nothing else.
-use Rattle.std.proofs.Common.{◌≡◌, ◌≢◌, ℕ, ◌+◌, ◌^◌, ◌<◌, ◌≤◌, inl, inr, false, List, [], ◌∷◌, ◌++◌, length, Some, None, refl, ap, sym, ◌∙◌, subst, arith, Option, zero, suc, replicate, sum_by, IsSome}
+use Rattle.std.proofs.Common.{◌≡◌, ◌≢◌, ℕ, ◌+◌, ◌^◌, ◌<◌, ◌≤◌, inl, inr, false, List, [], ◌∷◌, ◌++◌, length, None, refl, ap, sym, ◌∙◌, subst, arith, Option, zero, suc, replicate, sum_by, IsSome}
 use Rattle.sched_store.proofs.Common.{Account, FrameId, ltb, leb, inserted, IsAboveOwn, with_admitted, Quota, IsAbove}
-use Rattle.sched_store.proofs.Common.{length-replicate, with_reserve, Tenant, admitted_with, charged_for, Nodes, node_at, charge_of, total_charge}
-use Rattle.sched_store.proofs.Common.{frame_at, AllBelow, IsTree, frames_of, places_of, tenant_count, KeepsOtherTenants, JobLedger}
+use Rattle.sched_store.proofs.Common.{length-replicate, with_reserve, Tenant, admitted_with, Nodes, node_at, charge_of, total_charge}
+use Rattle.sched_store.proofs.Common.{frame_at, IsTree, frames_of, places_of, tenant_count, KeepsOtherTenants, JobLedger}
 use Rattle.sched_store.proofs.Common.{owner_of_ledger, jobs_of, numbers_of, is_there, Parts, with_words_of_nodes, tenant_from, tenants_from, shared_of}
 use Rattle.sched_store.proofs.Common.{cases_eq, ne_eqb, leb-false, ltb-false, or_parts, lt-ltb, false≢true, CoreState, is_full, reservations_in, tenant_in}
 use Rattle.sched_store.proofs.Common.{reserved_by, is_beyond, owner_of_account, account_of, fresh, with_new, raised_to, IsStored, IsAccountFor}
 use Rattle.sched_store.proofs.Common.{AreFramesNodes, numbers_in, AreAtMost, frame_in_trees, node_of, Reservations, IsSoundBook, HasRoom, Admits}
 use Rattle.sched_store.proofs.Common.{KeepsOtherAccounts, HasRoomFor, CanRaise, Raises, empty_of}
 use Rattle.number_index.proofs.Edits.{said-inserted-own, said-inserted-other}
-use Rattle.sched_store.proofs.Lookups.{within-reserve, Frames, Trees, Owns, none-or-some, Entries, reservations-found, tenant-found, length-numbers, numbers-inserted, no-ledger}
+use Rattle.sched_store.proofs.Lookups.{agrees-still, its-account, nobodys, within-reserve, Frames, Trees, Owns, none-or-some, Entries, reservations-found, tenant-found, length-numbers, numbers-inserted, no-ledger}
 use Rattle.std.proofs.lemmas.Bool.Decides.{nat_tests}
 use Rattle.std.proofs.lemmas.List.Folds.{sum_by-replicate}
 use Rattle.sched_rules.specs.Lone.{is_lower}
@@ -40,7 +40,7 @@ pub record CanBeAdmitted (parts : Parts) (number : ℕ) (quota : Quota) : Type 0
   pub room : HasRoom parts.book quota
 
 pub can-be-admitted : (parts : Parts) (number : ℕ) (quota : Quota) {core : CoreState} → IsStored parts → shared_of parts ≡ core → core.newest < number → is_full (reservations_in core) quota ≡ false → CanBeAdmitted parts number quota
-can-be-admitted parts number quota stored is above not_full = grind (arith, room-found, newer-missing, many-ledgers)
+can-be-admitted parts number quota stored is above not_full = grind (arith, room-found, newer-missing, many-ledgers, nobodys)
 
 -- what an admission was told by the table and the book
 pub record IsAdmitted (parts : Parts) (trees : Trees) (ledger : JobLedger) (book : Reservations) (number : ℕ) (quota : Quota) : Type 0 where
@@ -91,7 +91,10 @@ module _ (parts : Parts) (trees : Trees) (ledger : JobLedger) (book : Reservatio
 
   -- no tenant's frames change
   same-frames : (other : ℕ) → frames_of trees other ≡ frames_of parts.trees other
-  same-frames other = grind (arith, newer-missing)
+  same-frames other = elim (cases_eq other number) [
+    | inl here ↦ rw here (is.frames ∙ sym (nobodys parts stored number (newer-missing parts.newest number parts.book.accounts stored.taken is.newer)).1)
+    | inr differs ↦ is.kept.frames other differs
+  ]
 
   -- what a store keeps true is true after it
   pub admit-stored : IsStored (with_one_more parts trees ledger book number)
@@ -104,18 +107,16 @@ module _ (parts : Parts) (trees : Trees) (ledger : JobLedger) (book : Reservatio
       record {
         book = is.sound;
         frames_nodes = same-belongs parts.nodes parts.trees trees frames stored.frames_nodes;
-        accounts = λ other a found. elim (cases_eq other number) [
-          | inl here ↦ (let mine : account_of number book.accounts ≡ Some a = rw (← here) found in let e : fresh quota ≡ a = cc (is.admits.account, mine) in rw (here, ← e) own)
-          | inr differs ↦ others other a differs found
+        accounts = λ other. elim (cases_eq other number) [
+          | inl here ↦ rw (here, is.admits.account) own
+          | inr differs ↦ rw (is.others.others other differs)
+              (agrees-still parts.nodes parts.nodes parts.trees trees other (account_of other parts.book.accounts) (is.kept.places other differs) (frames other) (ap (with_words_of_nodes parts.nodes) (frames other)) (stored.accounts other))
         ];
-        nobody = λ other none. grind arith;
-        nothing = λ other none. grind arith;
         forest = λ other. rw (frames other) (stored.forest other);
         tenants = omega (arith, tenants, more, longer);
         charges = stored.charges ∙ sym is.admits.charged;
         segments = stored.segments ∙ sym is.others.segments;
         ledgers = numbers-inserted owner_of_ledger ledger parts.ledgers ∙ ap (λ (l : JobLedger). inserted (λ k. k) l.0 (numbers_of parts.ledgers)) is.ledger_is ∙ ap (inserted (λ k. k) number) stored.ledgers ∙ sym (ap (λ (b : Reservations). numbers_in b.accounts) is.admits.whole ∙ numbers-inserted owner_of_account (number, fresh quota) parts.book.accounts);
-        workers = stored.workers;
         places = λ worker owner serial frame at held. stored.places worker owner serial frame (sym (ap (λ (xs : Frames). frame_at xs serial) (frames owner)) ∙ at) held;
         taken = rw accounts (most-pushed parts.newest number parts.book.accounts (fresh quota) stored.taken is.newer);
         newest = is.within;
@@ -123,16 +124,6 @@ module _ (parts : Parts) (trees : Trees) (ledger : JobLedger) (book : Reservatio
     where
       own : IsAccountFor parts.nodes trees number (fresh quota)
       own = grind arith
-
-      others : (other : ℕ) (a : Account) → other ≢ number → account_of other book.accounts ≡ Some a → IsAccountFor parts.nodes trees other a
-      others other a differs found =
-          let was = stored.accounts other a (sym (is.others.others other differs) ∙ found) in
-          let frames = same-frames other in
-          record {
-            charged = was.charged ∙ sym (ap (λ (xs : Frames). charged_for (with_words_of_nodes parts.nodes xs)) frames);
-            places = is.kept.places other differs ∙ was.places;
-            serials = subst (λ (xs : Frames). AllBelow (a.opened + 1) xs) (sym frames) was.serials;
-          }
 
   -- and the core is the one before with that tenant after all others
   pub admit-shared : shared_of (with_one_more parts trees ledger book number) ≡ with_admitted number quota (shared_of parts)
@@ -174,7 +165,7 @@ pub record CanBeRaised (parts : Parts) (number : ℕ) (quota : Quota) : Type 0 w
 
 pub can-be-raised : (parts : Parts) (number : ℕ) (quota : Quota) {core : CoreState} → IsStored parts → shared_of parts ≡ core → IsAboveOwn (tenant_in core.tenants number) quota →
     is_beyond (reservations_in core) (reserved_by (tenant_in core.tenants number)) quota ≡ false → CanBeRaised parts number quota
-can-be-raised parts number quota stored is own_above own_room = grind (arith, none-or-some (account_of number parts.book.accounts), tenant-found, not-lower, not-beyond, reservations-found, within-reserve)
+can-be-raised parts number quota stored is own_above own_room = grind (arith, none-or-some (account_of number parts.book.accounts), tenant-found, its-account, not-lower, not-beyond, reservations-found, within-reserve)
 
 -- so the book allows it
 pub book-raises : (parts : Parts) (number : ℕ) (quota : Quota) → CanBeRaised parts number quota → CanRaise parts.book number quota
@@ -205,7 +196,7 @@ module _ (parts : Parts) (trees : Trees) (book : Reservations) (number : ℕ) (q
   raise-step : (is : IsRaised parts trees book number quota) → TenantStep parts (with_more parts trees book) number (raised_to quota) is.can.account
   raise-step is =
       let account = is.can.account in
-      let own = stored.accounts number account is.can.there in
+      let own = its-account parts stored number account is.can.there in
       let frames = raised-frames is in
       record {
         there = is.can.there;
@@ -221,7 +212,6 @@ module _ (parts : Parts) (trees : Trees) (book : Reservations) (number : ℕ) (q
         words = λ other differs. refl;
         ledgers = refl;
         jobs = λ other differs. refl;
-        workers = stored.workers;
         places = λ worker owner serial frame at held. stored.places worker owner serial frame (sym (ap (λ (xs : Frames). frame_at xs serial) (frames owner)) ∙ at) held;
         newest = refl;
       }
@@ -247,9 +237,9 @@ pub record AreNew (nodes : Nodes) (trees : Trees) (ledgers : List JobLedger) (bo
   pub places : (tenant : ℕ) → places_of trees tenant ≡ 0
   pub jobs : ledgers ≡ []
 
-pub new-stored : (nodes : Nodes) (trees : Trees) (ledgers : List JobLedger) (book : Reservations) (places : List (Option FrameId)) (segments nodes_in_all : ℕ) → AreNew nodes trees ledgers book segments nodes_in_all → length places ≡ 33 →
+pub new-stored : (nodes : Nodes) (trees : Trees) (ledgers : List JobLedger) (book : Reservations) (places : List (Option FrameId)) (segments nodes_in_all : ℕ) → AreNew nodes trees ledgers book segments nodes_in_all →
     IsStored (record { nodes = nodes; book = book; trees = trees; ledgers = ledgers; places = places; newest = 0 })
-new-stored nodes trees ledgers book places segments nodes_in_all is workers =
+new-stored nodes trees ledgers book places segments nodes_in_all is =
     let no_accounts : book.accounts ≡ [] = ap (λ (b : Reservations). b.accounts) is.empty in
     let count = is.count in
     let many = ap length no_accounts in
@@ -260,15 +250,12 @@ new-stored nodes trees ledgers book places segments nodes_in_all is workers =
         once = λ owner serial other_owner other_serial node these those. absurd (let none = ap node_of (missing owner serial) in cc (none, these));
         no_other = λ node open_one. absurd (closed node open_one);
       };
-      accounts = λ number account there. absurd (let none : ◌≡◌ {A = Option Account} None (Some account) = rw no_accounts at there in cc none);
-      nobody = λ number none. is.places number;
-      nothing = λ number none. is.frames number;
+      accounts = λ number. rw no_accounts (is.places number, is.frames number);
       forest = λ number. subst (λ (xs : Frames). IsTree xs) (sym (is.frames number)) tt;
       tenants = omega (arith, count, many);
       charges = ap total_charge is.stack ∙ (sum_by-replicate charge_of segments None ∙ omega arith) ∙ sym (ap (λ (b : Reservations). sum_by (λ (e : ℕ × Account). Account.charged e.1) b.accounts) is.empty);
       segments = ap length is.stack ∙ length-replicate segments None ∙ sym (ap (λ (b : Reservations). b.segments) is.empty);
       ledgers = ap numbers_of is.jobs ∙ sym (ap numbers_in no_accounts);
-      workers = workers;
       places = λ worker owner serial frame at held. absurd (let none = missing owner serial in cc (none, at));
       taken = subst (λ (es : List (ℕ × Account)). AreAtMost 0 es) (sym no_accounts) tt;
       newest = omega arith;

@@ -45,5 +45,5 @@ pub use Rattle.sched_store.specs.Ledgers.{without_ledger}
 pub use Rattle.sched_store.specs.Parts.{Parts, shared_of, tenant_from, tenants_from, with_words_of_nodes}
 pub use Rattle.sched_store.specs.Reads.{AreAfter, AreTenantsRising, IsAboveOwn, IsReadyIn, TenantHasLeft, frames_in_core, holds, is_busy_among, is_held}
 pub use Rattle.sched_store.specs.Reads.{jobs_in, jobs_kept, may_hold, path_of, serials_in, sight_of, tree_of, words_under}
-pub use Rattle.sched_store.specs.Stored.{AreAtMost, AreFramesNodes, ArePlaces, HasFrame, IsAccountFor, IsFrameNode, IsStored, frame_in_trees}
+pub use Rattle.sched_store.specs.Stored.{AgreesWith, AreAtMost, AreFramesNodes, ArePlaces, HasFrame, IsAccountFor, IsFrameNode, IsStored, frame_in_trees}
 pub use Rattle.sched_store.specs.Stored.{node_above, node_of, numbers_in}

@@ -1,14 +1,14 @@
 -- A tenant leaves: its frames go with their nodes, its places, its jobs and its account, and nothing of any other tenant.
-use Rattle.sched_store.proofs.Common.{◌≡◌, ◌≢◌, ℕ, ◌+◌, ◌<◌, ◌≤◌, inl, inr, Bool, false, eqb, List, [], ◌∷◌, length, Some, refl, ap, sym, ◌∙◌, subst, arith}
-use Rattle.sched_store.proofs.Common.{filter, cases_Bool, ne_eqb, eqb-true, eqb-false, Nodes, without, total_charge, Reservations, IsSoundBook, Releases}
-use Rattle.sched_store.proofs.Common.{KeepsOtherAccounts, Account, Frame, values_of, AllBelow, frames_of, places_of, tenant_count}
+use Rattle.sched_store.proofs.Common.{◌≡◌, ◌≢◌, ℕ, ◌+◌, ◌<◌, ◌≤◌, inl, inr, Bool, false, eqb, List, [], ◌∷◌, length, refl, ap, sym, ◌∙◌, subst, arith}
+use Rattle.sched_store.proofs.Common.{filter, cases_Bool, cases_eq, ne_eqb, eqb-true, eqb-false, Nodes, without, total_charge, Reservations, IsSoundBook, Releases}
+use Rattle.sched_store.proofs.Common.{KeepsOtherAccounts, Account, Frame, values_of, frames_of, places_of, tenant_count}
 use Rattle.sched_store.proofs.Common.{Tenant, charged_for, CoreState, without_tenant, with_departed, JobLedger, owner_of_ledger, jobs_of, numbers_of}
 use Rattle.sched_store.proofs.Common.{without_ledger, Parts, with_words_of_nodes, tenants_from, shared_of, IsStored, IsAccountFor, numbers_in}
 use Rattle.sched_store.proofs.Common.{AreAtMost, remove_by_number}
 use Rattle.tenant_quota.specs.Accounts.{owner_of_account, account_of, without as without_account, AllEntries, IsRising, charged_segments}
 use Rattle.number_index.proofs.Edits.{said-without-other, all-without}
 use Rattle.sched_store.proofs.Steps.{SameOthers}
-use Rattle.sched_store.proofs.Lookups.{within-reserve, Frames, Trees, tree_in, Owns, numbers-without}
+use Rattle.sched_store.proofs.Lookups.{agrees-still, its-account, within-reserve, Frames, Trees, tree_in, Owns, numbers-without}
 use Rattle.sched_store.proofs.Closing.{IsCut, closed, closing, cut-belongs, cut-places, cut-words, cut-trees, TakesChildren, closing-open, closing-once, closing-children, cut-frees}
 use Rattle.sched_store.proofs.Removing.{length-without, AreClosable}
 
@@ -28,7 +28,7 @@ closed-whole (x ∷ xs) = ap (λ (ns : List ℕ). x.value ∷ ns) (closed-whole 
 pub has-places : (parts : Parts) → IsStored parts → (number : ℕ) (account : Account) → Owns parts number account → 0 < places_of parts.trees number
 has-places parts stored number account there =
     let within = within-reserve parts stored number account there in
-    omega (arith, within.some_segments, IsAccountFor.places (stored.accounts number account there))
+    omega (arith, within.some_segments, IsAccountFor.places (its-account parts stored number account there))
 
 -- the nodes of all frames of a tenant: open, once, with their children
 pub leave-closes : (parts : Parts) (number : ℕ) (numbers : List ℕ) → IsStored parts → numbers ≡ values_of (frames_of parts.trees number) → AreClosable parts.nodes numbers
@@ -102,7 +102,7 @@ module _ (parts : Parts) (nodes : Nodes) (trees : Trees) (ledgers : List JobLedg
       let frees = cut-frees parts.nodes parts.trees number none_stays stored.frames_nodes (stored.forest number) in
       let none : charged_for (with_words_of_nodes parts.nodes (filter none_stays (frames_of parts.trees number))) ≡ 0 = ap (λ (xs : Frames). charged_for (with_words_of_nodes parts.nodes xs)) (filter-none (frames_of parts.trees number)) in
       let same = ap total_charge (closed-same parts nodes number numbers is.values is.closed_all) in
-      let charged = IsAccountFor.charged (stored.accounts number account is.there) in
+      let charged = IsAccountFor.charged (its-account parts stored number account is.there) in
       omega (arith, frees, none, same, charged, stored.charges, is.released.charged)
 
   -- what a store keeps true is true after it
@@ -116,31 +116,20 @@ module _ (parts : Parts) (nodes : Nodes) (trees : Trees) (ledgers : List JobLedg
       record {
         book = is.sound;
         frames_nodes = rw (← same) (cut-belongs parts.nodes parts.trees trees number none_stays stored.frames_nodes cut);
-        accounts = λ other a found. other-account other a (differs other a found) found;
-        nobody = λ other none. grind arith;
-        nothing = λ other none. grind arith;
+        accounts = λ other. elim (cases_eq other number) [
+          | inl here ↦ rw (here, is.released.account) (is.places, is.frames)
+          | inr differs ↦ rw (is.others.others other differs)
+              (agrees-still parts.nodes nodes parts.trees trees other (account_of other parts.book.accounts) (is.other_places other differs) (is.other_frames other differs) (leave-words other differs) (stored.accounts other))
+        ];
         forest = cut-trees parts.trees trees number none_stays cut;
         tenants = omega (arith, tenants, fewer, left);
         charges = leave-charges;
         segments = ap length (sym same) ∙ length-without parts.nodes (closing parts.trees number none_stays) ∙ stored.segments ∙ sym is.others.segments;
         ledgers = ap numbers_of is.jobs ∙ (numbers-without owner_of_ledger number parts.ledgers ∙ ap (remove_by_number (λ k. k) number) stored.ledgers) ∙ sym (ap (λ (b : Reservations). numbers_in b.accounts) is.released.whole ∙ numbers-without owner_of_account number parts.book.accounts);
-        workers = stored.workers;
         places = cut-places parts.nodes parts.trees trees number none_stays stored.frames_nodes cut parts.places stored.places;
         taken = subst (λ (b : Reservations). AreAtMost parts.newest b.accounts) (sym is.released.whole) (all-without (λ (e : ℕ × Account). e.0 ≤ parts.newest) owner_of_account number parts.book.accounts stored.taken);
         newest = stored.newest;
       }
-    where
-      differs : (other : ℕ) (a : Account) → account_of other book.accounts ≡ Some a → other ≢ number
-      differs other a found e = (let here : account_of number book.accounts ≡ Some a = subst (λ (n : ℕ). account_of n book.accounts ≡ Some a) e found in let gone = is.released.account in absurd cc)
-
-      other-account : (other : ℕ) (a : Account) → other ≢ number → account_of other book.accounts ≡ Some a → IsAccountFor nodes trees other a
-      other-account other a not_it found =
-          let was = stored.accounts other a (sym (is.others.others other not_it) ∙ found) in
-          record {
-            charged = was.charged ∙ sym (ap charged_for (leave-words other not_it));
-            places = is.other_places other not_it ∙ was.places;
-            serials = subst (λ (xs : Frames). AllBelow (a.opened + 1) xs) (sym (is.other_frames other not_it)) was.serials;
-          }
 
   -- and the core is the one before without that tenant
   pub leave-shared : shared_of (departed parts nodes trees ledgers book) ≡ with_departed number (shared_of parts)

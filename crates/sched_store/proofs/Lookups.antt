@@ -8,7 +8,7 @@ use Rattle.sched_store.proofs.Common.{left_in_book, Reservations, IsSoundBook, u
 use Rattle.sched_store.proofs.Common.{entry_of_frame, ready_name, first_of_two, newest_ready_of, IsTree, map_value, frames_of, Tenant, Tree, TenantTree, charged_for}
 use Rattle.sched_store.proofs.Common.{account_in, job_at, sight, words_in, tenant_in, accounts_in, charged_in, reservations_in, is_full, is_beyond, Parts}
 use Rattle.sched_store.proofs.Common.{with_words_of_nodes, tenant_from, tenants_from, shared_of, tree_of, jobs_kept, frames_in_core, jobs_in, AreAfter}
-use Rattle.sched_store.proofs.Common.{AreTenantsRising, CoreState, AreRising, path_of, sight_of, Quota, Entry, found-there, IsTop, IsUnder, tree-induction, found-serial}
+use Rattle.sched_store.proofs.Common.{AreTenantsRising, AgreesWith, IsAccountFor, places_of, CoreState, AreRising, path_of, sight_of, Quota, Entry, found-there, IsTop, IsUnder, tree-induction, found-serial}
 use Rattle.sched_store.proofs.Common.{AllEntries-of, IsWithinReserve, reverse-append, map-append, Each, found-each, tree-rising}
 use Rattle.number_index.specs.Places.{AreAbove}
 use Rattle.number_index.proofs.Edits.{said-lacks, has-above, has-found, lacks-said}
@@ -50,6 +50,20 @@ with_words parts o = option_map (map_value (node_words parts.nodes)) o
 -- the account of a tenant
 abbrev pub Owns : Parts → ℕ → Account → Type 0
 Owns parts number account = account_of number parts.book.accounts ≡ Some account
+
+-- they agree still where the tenant has the same places, frames and words
+pub agrees-still : (nodes after : Nodes) (trees grown : Trees) (number : ℕ) (owner : Option Account) → places_of grown number ≡ places_of trees number → frames_of grown number ≡ frames_of trees number →
+    with_words_of_nodes after (frames_of grown number) ≡ with_words_of_nodes nodes (frames_of trees number) → AgreesWith nodes trees number owner → AgreesWith after grown number owner
+agrees-still nodes after trees grown number None places frames words is = (places ∙ is.0, frames ∙ is.1)
+agrees-still nodes after trees grown number (Some account) places frames words is =
+    record { charged = is.charged ∙ sym (ap charged_for words); places = places ∙ is.places; serials = rw frames is.serials }
+
+module _ (parts : Parts) (stored : IsStored parts) (number : ℕ) where
+  pub its-account : (account : Account) → Owns parts number account → IsAccountFor parts.nodes parts.trees number account
+  its-account account there = rw there at (stored.accounts number)
+
+  pub nobodys : account_of number parts.book.accounts ≡ None → (places_of parts.trees number ≡ 0) × (frames_of parts.trees number ≡ [])
+  nobodys none = rw none at (stored.accounts number)
 
 pub none-or-some : {A : Type 0} (o : Option A) → (o ≡ None) ⊎ ((a : A) × (o ≡ Some a))
 none-or-some None = inl refl
@@ -154,7 +168,7 @@ named-frames parts name = grind arith
 module _ (parts : Parts) (stored : IsStored parts) where
   -- its frames are those of the table, each with the words of its node
   pub frames-found : (number : ℕ) → frames_in_core (shared_of parts) number ≡ tree_in parts number
-  frames-found number = grind (arith, tenant-found)
+  frames-found number = grind (arith, tenant-found, nobodys)
 
   -- a frame is that of the table, with the words of its node
   pub named-found : (name : FrameId) → named (shared_of parts) name ≡ with_words parts (framed parts name)
@@ -171,7 +185,7 @@ module _ (parts : Parts) (stored : IsStored parts) where
   -- its account is the book's
 
   pub account-found : (number : ℕ) (account : Account) → Owns parts number account → account_in (tenant_from parts number account) ≡ account
-  account-found number account is = rw (← (stored.accounts number account is).charged) refl
+  account-found number account is = rw (← (its-account parts stored number account is).charged) refl
 
   pub within-reserve : (number : ℕ) (account : Account) → Owns parts number account → IsWithinReserve account
   within-reserve number account is = AllEntries-of (λ (e : ℕ × Account). IsWithinReserve e.1) number account parts.book.accounts is stored.book.within

@@ -14,7 +14,7 @@ use Rattle.std.proofs.lemmas.List.Sums.{sum_by-set}
 use Rattle.sched_store.proofs.Words.{with_words_of_nodes-same}
 use Rattle.sched_store.proofs.States.{charged-cons}
 use Rattle.sched_store.proofs.Steps.{TenantStep, other-tenants, Stepped, stepped, left-account}
-use Rattle.sched_store.proofs.Lookups.{Frames, Trees, each-frame, tree_in, Owns, none-or-some, frames-found, tenant-found}
+use Rattle.sched_store.proofs.Lookups.{Frames, Trees, each-frame, tree_in, Owns, its-account, none-or-some, frames-found, tenant-found}
 use Rattle.cactus_stack.proofs.LawFacts.{length-padded}
 
 -- what is opened: the tenant's next serial, under a parent, with these words
@@ -109,7 +109,7 @@ module _ (old : Parts) (nodes : Nodes) (trees : Trees) (book : Reservations) (nu
       let frames = frames_of old.trees number in
       let added = added_to old number parent home node account in
       let entry : Node = record { parent = above; words = padded words size } in
-      let below = (stored.accounts number account opens.there).serials in
+      let below = (its-account old stored number account opens.there).serials in
       let here = opened-here old.nodes node entry opens.unused.0 in
       let cases = added-cases old.trees trees added number opens.frames opens.kept below in
       let new_is = added-here old.trees trees added number opens.frames below in
@@ -172,7 +172,7 @@ module _ (old : Parts) (nodes : Nodes) (trees : Trees) (book : Reservations) (nu
       let frames = frames_of old.trees number in
       let added = added_to old number parent home node account in
       let entry : Node = record { parent = above; words = padded words size } in
-      let account_is = stored.accounts number account opens.there in
+      let account_is = its-account old stored number account opens.there in
       let len = length-padded words size opens.room in
       let total : total_charge nodes + charge_of (node_at old.nodes node) ≡ total_charge old.nodes + charge (length (padded words size)) = rw opens.nodes_is (sum_by-set charge_of old.nodes node (Some entry) None opens.unused.0) in
       let none : charge_of (node_at old.nodes node) ≡ 0 = ap charge_of opens.unused.1 in
@@ -197,7 +197,6 @@ module _ (old : Parts) (nodes : Nodes) (trees : Trees) (book : Reservations) (nu
         words = λ other differs. opened-others other;
         ledgers = refl;
         jobs = λ other differs. refl;
-        workers = stored.workers;
         places = λ worker m s frame is held. elim (added-cases old.trees trees added number opens.frames opens.kept account_is.serials m s) [
           | inl (same, at) ↦ absurd (
               let now : frame_in_trees trees number added.serial ≡ Some frame = rw (← same, ← at) is in
@@ -254,7 +253,7 @@ module _ (parts : Parts) (stored : IsStored parts) (number : ℕ) where
 
   pub place-left : (size : ℕ) (account : Account) → ((node : ℕ) → IsOpen parts.nodes node → 1 ≤ length (node_words parts.nodes node)) → Owns parts number account → 1 ≤ size → charge size ≤ (left_in account).segments → length (frames_of parts.trees number) < places_of parts.trees number
   place-left size account sized there some enough =
-      let is = stored.accounts number account there in
+      let is = its-account parts stored number account there in
       let frames = frames_of parts.trees number in
       let few = frames-few parts.nodes frames (each-frame parts stored number (λ x. 1 ≤ length (node_words parts.nodes x.value))
       (λ s x at. sized x.value (stored.frames_nodes.nodes_of_frames number s x at).is_open)) in

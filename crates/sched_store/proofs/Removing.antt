@@ -14,7 +14,7 @@ use Rattle.sched_store.proofs.OpenFrame.{node-frame}
 use Rattle.sched_store.proofs.States.{frame-account}
 use Rattle.sched_store.proofs.Steps.{TenantStep, Stepped, stepped, other-tenants, length-with_words_of_nodes}
 use Rattle.frame_tree.proofs.TreeValues.{frames_without-map_values, children_of-map_values, aborted-map_values, frames_under-map_values}
-use Rattle.sched_store.proofs.Lookups.{Frames, Trees, family, there-frame, framed, tree_in, entry_in, Owns, frames-found, named-found, found, nothing-found}
+use Rattle.sched_store.proofs.Lookups.{Frames, Trees, family, there-frame, framed, tree_in, entry_in, Owns, its-account, frames-found, named-found, found, nothing-found}
 use Rattle.cactus_stack.proofs.LawFacts.{charge-without}
 use Rattle.sched_rules.specs.Views.{named, words_of_frame}
 use Rattle.std.specs.Option.{is_none}
@@ -72,7 +72,7 @@ module _ (parts : Parts) (trees : Trees) (book : Reservations) (number freed : �
   removed-own : IsStored parts → (is : IsRemoval parts trees book number freed keep) →
       IsAccountFor (without parts.nodes (closing parts.trees number keep)) trees number (credited_by freed is.account)
   removed-own stored is =
-      let was = stored.accounts number is.account is.there in
+      let was = its-account parts stored number is.account is.there in
       let words = ap charged_for (own-words parts trees book number freed keep stored is) in
       record {
         charged = omega (arith, charge-left parts number freed keep stored is.account is.there is.frees, words);
@@ -97,7 +97,6 @@ module _ (parts : Parts) (trees : Trees) (book : Reservations) (number freed : �
     words = λ other differs. ap (with_words_of_nodes (without parts.nodes (closing parts.trees number keep))) (sym (is.cut.others other differs)) ∙ other-words parts trees book number freed keep stored is other differs;
     ledgers = refl;
     jobs = λ other differs. refl;
-    workers = stored.workers;
     places = cut-places parts.nodes parts.trees trees number keep stored.frames_nodes is.cut parts.places stored.places;
     newest = refl;
   }

@@ -1,13 +1,13 @@
 -- Workers and the frames that they hold: whether a worker is busy is one look at its place.
 use Rattle.std.proofs.Common.{◌≡◌, ℕ, true, false, eqb, List, [], ◌∷◌, get_or, Option, Some, None, refl, ap, sym, ◌∙◌, arith, inl, inr, ◌≤◌, ◌+◌, length, IsSome, subst, ◌⊎◌, get_or-set_other, get_or-set_same}
-use Rattle.sched_store.proofs.Common.{set, Entry, Account, FrameId, CoreState, account_of, length-set, sum_by-cons, Nodes, node_words}
+use Rattle.sched_store.proofs.Common.{set, Entry, Account, FrameId, CoreState, account_of, sum_by-cons, Nodes, node_words}
 use Rattle.sched_store.proofs.Common.{charge, map_value, AreSerialsRising, frames_of, KeepsOtherFrames, found-there, tree-rising, above-missing, is_busy_among}
 use Rattle.sched_store.proofs.Common.{holds, may_hold, is_held, is_held_by, is_busy_in, Tree, charged_for, Parts}
 use Rattle.sched_store.proofs.Common.{with_words_of_nodes, tenants_from, shared_of, Frame, frame_at, with_state, IsStored}
 use Rattle.sched_store.proofs.Common.{frame_in_trees, AreFramesNodes, ArePlaces, node_of, node_above, cases_Bool, true≢false, false≢true, eq-eqb, eqb-true}
 use Rattle.sched_store.proofs.Common.{or_cases, or_left, or_right, false_from_ne_true, cases_eq}
 use Rattle.sched_rules.specs.Views.{named}
-use Rattle.sched_store.proofs.Lookups.{Frames, Trees, family, framed, tree_in, with_words, entry_in, Owns, none-or-some, named-found, found, nothing-found, there-frame}
+use Rattle.sched_store.proofs.Lookups.{Frames, Trees, family, framed, tree_in, with_words, entry_in, Owns, its-account, nobodys, none-or-some, named-found, found, nothing-found, there-frame}
 use Rattle.frame_tree.specs.declared.names.State.{State}
 use Rattle.frame_tree.proofs.TreeValues.{tree-with_state, with_state-alike, AllBelow-alike, with_state-map_values, frame_at-with_state, frame_at-other-with_state}
 use Rattle.sched_rules.specs.Lone.{in_state}
@@ -27,7 +27,7 @@ module _ (parts : Parts) (stored : IsStored parts) where
   -- a tenant with a frame has an account
   pub frame-account : (number serial : ℕ) (frame : Frame ℕ) → frame_in_trees parts.trees number serial ≡ Some frame → (a : Account) × (Owns parts number a)
   frame-account number serial frame there = elim (none-or-some (account_of number parts.book.accounts)) [
-    | inl none ↦ absurd (let found = rw (stored.nothing number none) at there in cc found)
+    | inl none ↦ absurd (let found = rw (nobodys parts stored number none).1 at there in cc found)
     | inr own ↦ own
   ]
 
@@ -213,8 +213,8 @@ StateSet old trees places name state = Stepped old (record old { trees = trees; 
 -- what a store keeps true is true after a state was set, where the workers' places agree with it
 module _ (old : Parts) (trees : Trees) (name : FrameId) (state : State) (frame : Frame ℕ) (stored : IsStored old)
     (sets : SetsState old.trees trees name state) (there : framed old name ≡ Some frame) where
-  state-step : (places : List (Option FrameId)) (account : Account) → Owns old name.tenant account → length places ≡ 33 → ArePlaces trees places → TenantStep old (record old { trees = trees; places = places }) name.tenant (λ a. a) account
-  state-step places account own workers are =
+  state-step : (places : List (Option FrameId)) (account : Account) → Owns old name.tenant account → ArePlaces trees places → TenantStep old (record old { trees = trees; places = places }) name.tenant (λ a. a) account
+  state-step places account own are =
       record {
         there = own;
         sound = stored.book;
@@ -225,7 +225,7 @@ module _ (old : Parts) (trees : Trees) (name : FrameId) (state : State) (frame :
         frames_nodes = like-nodes old.nodes old.trees trees stored.frames_nodes (state-like old.trees trees name state frame sets there);
         segments = refl;
         charges = stored.charges;
-        own = (let is = stored.accounts name.tenant account own in record {
+        own = (let is = its-account old stored name.tenant account own in record {
           charged = is.charged ∙ sym (rw sets.frames (charged-with_state old.nodes name.serial state (family old name)));
           places = sets.kept.places name.tenant ∙ is.places;
           serials = rw sets.frames (AllBelow-alike (family old name) (with_state name.serial state (family old name)) (account.opened + 1) (with_state-alike name.serial state (family old name)) is.serials);
@@ -233,17 +233,16 @@ module _ (old : Parts) (trees : Trees) (name : FrameId) (state : State) (frame :
         words = λ other differs. refl;
         ledgers = refl;
         jobs = λ other differs. refl;
-        workers = workers;
         places = are;
         newest = refl;
       }
 
-  state-set : (places : List (Option FrameId)) → length places ≡ 33 → ArePlaces trees places → StateSet old trees places name state
-  state-set places workers are =
+  state-set : (places : List (Option FrameId)) → ArePlaces trees places → StateSet old trees places name state
+  state-set places are =
       let own = frame-account old stored name.tenant name.serial frame there in
       let frames : with_words_of_nodes old.nodes (frames_of trees name.tenant) ≡ with_state name.serial state (tree_in old name.tenant) =
       rw sets.frames (sym (with_state-map_values (node_words old.nodes) name.serial state (family old name))) in
-      stepped (in_state name.serial state) stored (state-step places own.0 own.1 workers are) (rw frames refl)
+      stepped (in_state name.serial state) stored (state-step places own.0 own.1 are) (rw frames refl)
 
   -- a worker that holds the frame now is one that the state names
   held-now : (other : ℕ) (f : Frame ℕ) → frame_in_trees trees name.tenant name.serial ≡ Some f → is_held_by other f.state ≡ true → is_held_by other state ≡ true
@@ -258,7 +257,7 @@ module _ (old : Parts) (trees : Trees) (name : FrameId) (state : State) (frame :
 
   pub unheld-set : is_held state ≡ false → StateSet old trees old.places name state
   unheld-set nobody =
-      state-set old.places stored.workers (λ worker number serial f is held.
+      state-set old.places (λ worker number serial f is held.
       elim (state-cases old.trees trees name state sets number serial) [
         | inl (m, s) ↦ absurd (not-here nobody worker f (rw (← m, ← s) is) held)
         | inr same ↦ stored.places worker number serial f (sym same ∙ is) held
@@ -268,7 +267,7 @@ module _ (old : Parts) (trees : Trees) (name : FrameId) (state : State) (frame :
 
   pub let-go-set : (worker : ℕ) → is_held_by worker frame.state ≡ true → is_held state ≡ false → StateSet old trees (set old.places worker None) name state
   let-go-set worker holds nobody =
-      state-set (set old.places worker None) (length-set old.places worker None ∙ stored.workers) (λ other number serial f is held.
+      state-set (set old.places worker None) (λ other number serial f is held.
       elim (state-cases old.trees trees name state sets number serial) [
         | inl (m, s) ↦ absurd (not-here nobody other f (rw (← m, ← s) is) held)
         | inr same ↦
@@ -285,11 +284,11 @@ module _ (old : Parts) (trees : Trees) (name : FrameId) (state : State) (frame :
             ])
       ])
 
-  pub held-set : (worker : ℕ) → 1 ≤ worker → worker ≤ 32 → may_hold (shared_of old) worker name ≡ true → is_held_by worker state ≡ true →
+  pub held-set : (worker : ℕ) → length old.places ≡ 33 → 1 ≤ worker → worker ≤ 32 → may_hold (shared_of old) worker name ≡ true → is_held_by worker state ≡ true →
       StateSet old trees (set old.places worker (Some name)) name state
-  held-set worker some most may names =
-      let place : get_or (set old.places worker (Some name)) worker None ≡ Some name = get_or-set_same old.places worker (Some name) None (omega (arith, stored.workers)) in
-      state-set (set old.places worker (Some name)) (length-set old.places worker (Some name) ∙ stored.workers) (λ other number serial f is held.
+  held-set worker long some most may names =
+      let place : get_or (set old.places worker (Some name)) worker None ≡ Some name = get_or-set_same old.places worker (Some name) None (omega (arith, long)) in
+      state-set (set old.places worker (Some name)) (λ other number serial f is held.
       elim (state-cases old.trees trees name state sets number serial) [
         | inl (m, s) ↦
             (let w : other ≡ worker = named-once worker other state names (held-now other f (rw (← m, ← s) is) held) in
@@ -306,8 +305,8 @@ module _ (old : Parts) (trees : Trees) (name : FrameId) (state : State) (frame :
       ])
 
 -- a worker takes a frame of the core that the parts show
-pub takes-set : (old : Parts) (trees : Trees) (worker : ℕ) (name : FrameId) (state : State) {core : CoreState} → IsStored old → shared_of old ≡ core → SetsState old.trees trees name state → IsSome (named core name) → 1 ≤ worker →
+pub takes-set : (old : Parts) (trees : Trees) (worker : ℕ) (name : FrameId) (state : State) {core : CoreState} → IsStored old → shared_of old ≡ core → SetsState old.trees trees name state → IsSome (named core name) → length old.places ≡ 33 → 1 ≤ worker →
     worker ≤ 32 → may_hold core worker name ≡ true → is_held_by worker state ≡ true → StateSet old trees (set old.places worker (Some name)) name state
-takes-set old trees worker name state stored is sets there some most may names =
+takes-set old trees worker name state stored is sets there long some most may names =
     let own = there-frame old stored name (subst (λ (s : CoreState). IsSome (named s name)) (sym is) there) in
-    held-set old trees name state own.0 stored sets own.1 worker some most (subst (λ (s : CoreState). may_hold s worker name ≡ true) (sym is) may) names
+    held-set old trees name state own.0 stored sets own.1 worker long some most (subst (λ (s : CoreState). may_hold s worker name ≡ true) (sym is) may) names

@@ -9,7 +9,7 @@ use Rattle.sched_store.proofs.Common.{tenants_from, shared_of, jobs_of, numbers_
 use Rattle.sched_store.proofs.Common.{AreFramesNodes, ArePlaces, numbers_in, frame_in_trees, owner_of_account, account_of, with_changed}
 use Rattle.sched_store.proofs.Common.{charged_segments, AllEntries, IsRising, ticked, left_in}
 use Rattle.number_index.proofs.Edits.{with-same, said-with-own, said-with-other, length-with, all-with}
-use Rattle.sched_store.proofs.Lookups.{within-reserve, Frames, Trees, tree_in, with_words, Owns, Entries, none-or-some, numbers-with, ledger-there, tenant-there, left-found, named-found, tenant-found}
+use Rattle.sched_store.proofs.Lookups.{agrees-still, its-account, nobodys, within-reserve, Frames, Trees, tree_in, with_words, Owns, Entries, none-or-some, numbers-with, ledger-there, tenant-there, left-found, named-found, tenant-found}
 use Rattle.sched_store.proofs.Common.{find_by_number, change_by_number}
 use Rattle.sched_store.proofs.Jobs.{found-changed}
 use Rattle.sched_rules.specs.Lone.{counted}
@@ -59,7 +59,6 @@ pub record TenantStep (old new : Parts) (number : ℕ) (f : Account → Account)
   pub words : (other : ℕ) → other ≢ number → with_words_of_nodes new.nodes (frames_of old.trees other) ≡ tree_in old other
   pub ledgers : numbers_of new.ledgers ≡ numbers_of old.ledgers
   pub jobs : (other : ℕ) → other ≢ number → jobs_of new.ledgers other ≡ jobs_of old.ledgers other
-  pub workers : length new.places ≡ 33
   pub places : ArePlaces new.trees new.places
   pub newest : new.newest ≡ old.newest
 
@@ -71,30 +70,17 @@ module _ (old new : Parts) (number : ℕ) where
   other-after : (f : Account → Account) (account : Account) → TenantStep old new number f account → (other : ℕ) → other ≢ number → account_of other new.book.accounts ≡ account_of other old.book.accounts
   other-after f account step other differs = grind (arith, account-changed-other)
 
-  keeps-account : (other : ℕ) (account : Account) → KeepsOtherTenants old.trees new.trees number → other ≢ number →
-      with_words_of_nodes new.nodes (frames_of old.trees other) ≡ tree_in old other →
-      IsAccountFor old.nodes old.trees other account → IsAccountFor new.nodes new.trees other account
-  keeps-account other account kept differs words is = grind arith
-
   -- what a store keeps true is true after such a change
   pub step-stored : (f : Account → Account) (account : Account) → IsStored old → TenantStep old new number f account → IsStored new
   step-stored f account stored step =
       record {
         book = step.sound;
         frames_nodes = step.frames_nodes;
-        accounts = λ other a is. elim (cases_eq other number) [
-          | inl same ↦ (let now : account_of number new.book.accounts ≡ Some a = rw (← same) is in
-              let own : f account ≡ a = cc (account-after f account step, now) in
-              rw (same, ← own) step.own)
-          | inr differs ↦ keeps-account other a step.trees differs (step.words other differs) (stored.accounts other a (sym (other-after f account step other differs) ∙ is))
-        ];
-        nobody = λ other none. elim (cases_eq other number) [
-          | inl same ↦ absurd (let now : account_of number new.book.accounts ≡ None = rw (← same) none in cc (account-after f account step, now))
-          | inr differs ↦ step.trees.places other differs ∙ stored.nobody other (sym (other-after f account step other differs) ∙ none)
-        ];
-        nothing = λ other none. elim (cases_eq other number) [
-          | inl same ↦ absurd (let now : account_of number new.book.accounts ≡ None = rw (← same) none in cc (account-after f account step, now))
-          | inr differs ↦ step.trees.frames other differs ∙ stored.nothing other (sym (other-after f account step other differs) ∙ none)
+        accounts = λ other. elim (cases_eq other number) [
+          | inl same ↦ rw (same, account-after f account step) step.own
+          | inr differs ↦ rw (other-after f account step other differs)
+              (agrees-still old.nodes new.nodes old.trees new.trees other (account_of other old.book.accounts) (step.trees.places other differs) (step.trees.frames other differs)
+              (ap (with_words_of_nodes new.nodes) (step.trees.frames other differs) ∙ step.words other differs) (stored.accounts other))
         ];
         forest = λ other. elim (cases_eq other number) [
           | inl same ↦ rw same step.tree
@@ -104,7 +90,6 @@ module _ (old new : Parts) (number : ℕ) where
         charges = step.charges;
         segments = step.segments ∙ stored.segments ∙ sym (ap (λ (book : Reservations). book.segments) step.book);
         ledgers = step.ledgers ∙ stored.ledgers ∙ sym (ap (λ (book : Reservations). numbers_in book.accounts) step.book ∙ numbers-with owner_of_account number (with_second f) old.book.accounts (λ e. refl));
-        workers = step.workers;
         places = step.places;
         taken = rw (step.newest, step.book) (all-with (λ (e : ℕ × Account). e.0 ≤ old.newest) owner_of_account number (with_second f) old.book.accounts stored.taken (λ e le is. le));
         newest = rw step.newest stored.newest;
@@ -220,7 +205,7 @@ module _ (old : Parts) (number : ℕ) (account : Account) (change : List Job →
   jobs-step : TenantStep old (record old { ledgers = with_jobs number change old.ledgers }) number (λ a. a) account
   jobs-step =
       steady-step old old.book (with_jobs number change old.ledgers) number (λ a. a) account stored there stored.book (changed-nothing old.book number) refl
-      (stored.accounts number account there) (numbers-with owner_of_ledger number (with_second change) old.ledgers (λ l. refl)) (λ other differs. jobs-other-with_jobs number other change old.ledgers differs)
+      (its-account old stored number account there) (numbers-with owner_of_ledger number (with_second change) old.ledgers (λ l. refl)) (λ other differs. jobs-other-with_jobs number other change old.ledgers differs)
 
   -- where the ledger that was found was put back with its jobs changed
   pub jobs-put : (ledger changed : JobLedger) → find_by_number owner_of_ledger number old.ledgers ≡ Some ledger → changed ≡ (ledger.0, change ledger.1) → JobsPut old number changed change
@@ -257,7 +242,7 @@ counted-none parts (entry ∷ entries) none tenant account there = grind (arith,
 -- where none is counted no tenant has one
 pub nobody-ready : (parts : Parts) → IsStored parts → ready_count (tenants_from parts parts.book.accounts) ≡ 0 → (tenant : ℕ) → ready_frames (frames_of parts.trees tenant) ≡ []
 nobody-ready parts stored none tenant = elim (none-or-some (account_of tenant parts.book.accounts)) [
-  | inl missing ↦ ap ready_frames (stored.nothing tenant missing)
+  | inl missing ↦ ap ready_frames (nobodys parts stored tenant missing).1
   | inr own ↦ none-of-length (ready_frames (frames_of parts.trees tenant)) (counted-none parts parts.book.accounts none tenant own.0 own.1)
 ]
 
@@ -300,11 +285,11 @@ module _ (parts : Parts) (stored : IsStored parts) (tenant : ℕ) where
   -- they are few
   pub words-few : sum_by (words_counted parts) (names_of tenant (frames_of parts.trees tenant)) ≤ 65536
   words-few = elim (none-or-some (account_of tenant parts.book.accounts)) [
-    | inl missing ↦ (let none = ap (λ (xs : Frames). sum_by (words_counted parts) (names_of tenant xs)) (stored.nothing tenant missing) in omega (arith, none))
+    | inl missing ↦ (let none = ap (λ (xs : Frames). sum_by (words_counted parts) (names_of tenant xs)) (nobodys parts stored tenant missing).1 in omega (arith, none))
     | inr own ↦
         (let within = within-reserve parts stored tenant own.0 own.1 in
         let most = within.charged_within in
-        let charged = IsAccountFor.charged (stored.accounts tenant own.0 own.1) in
+        let charged = IsAccountFor.charged (its-account parts stored tenant own.0 own.1) in
         let words = words-named in
         omega (arith, most, within.segments_within, charged, words, words-charged (tree_in parts tenant)))
   ]

@@ -14,7 +14,7 @@ use Rattle.cactus_stack.proofs.LawFacts.{lt-of-some}
 use Rattle.std.proofs.lemmas.List.{set-set}
 use Rattle.std.proofs.lemmas.List.Sums.{sum_by-set}
 use Rattle.sched_rules.specs.Views.{named}
-use Rattle.sched_store.proofs.Lookups.{Frames, Trees, family, framed, tree_in, with_words, Owns, each-frame, named-found, there-frame}
+use Rattle.sched_store.proofs.Lookups.{Frames, Trees, family, framed, tree_in, with_words, Owns, its-account, each-frame, named-found, there-frame}
 use Rattle.sched_rules.proofs.StoreLemmas.{length-stored}
 
 -- the charge of an entry is that of its words
@@ -164,7 +164,7 @@ module _ (old : Parts) (nodes : Nodes) (name : FrameId) (frame : Frame ℕ) (wor
   words-step : (book : Reservations) (f : Account → Account) (account : Account) →
       ChargesWords old book name f account (charge_at old.nodes frame.value) (charge (length words)) → TenantStep old (record old { nodes = nodes; book = book }) name.tenant f account
   words-step book f account charges =
-      let account_is = stored.accounts name.tenant account charges.there in
+      let account_is = its-account old stored name.tenant account charges.there in
       let own_words = own-changed in
       let total : total_charge nodes + charge_at old.nodes frame.value ≡ total_charge old.nodes + charge (length words) = rw is (words-charge old.nodes frame.value words here) in
       let rising = tree-rising (family old name) (stored.forest name.tenant) in
@@ -184,7 +184,6 @@ module _ (old : Parts) (nodes : Nodes) (name : FrameId) (frame : Frame ℕ) (wor
             (each-frame old stored other (λ x. node_words nodes x.value ≡ node_words old.nodes x.value) (λ serial x at. other-frame other serial x at (λ both. differs both.0)));
         ledgers = refl;
         jobs = λ other differs. refl;
-        workers = stored.workers;
         places = stored.places;
         newest = refl;
       }

@@ -50,6 +50,11 @@ pub record IsAccountFor (nodes : Nodes) (trees : List (TenantTree ℕ)) (number 
   pub places : places_of trees number ≡ account.reserve.segments
   pub serials : AllBelow (account.opened + 1) (frames_of trees number)
 
+-- a number's account agrees with its frames; a number without an account has no place for a frame, and no frame
+abbrev pub AgreesWith : Nodes → List (TenantTree ℕ) → ℕ → Option Account → Type 0
+AgreesWith nodes trees number None = (places_of trees number ≡ 0) × (frames_of trees number ≡ [])
+AgreesWith nodes trees number (Some account) = IsAccountFor nodes trees number account
+
 -- a worker that holds a frame has that frame's name at its place
 abbrev pub ArePlaces : List (TenantTree ℕ) → List (Option FrameId) → Type 0
 ArePlaces trees places = (worker number serial : ℕ) (frame : Frame ℕ) → frame_in_trees trees number serial ≡ Some frame → is_held_by worker frame.state ≡ true →
@@ -69,12 +74,8 @@ pub record IsStored (parts : Parts) : Type 0 where
   pub book : IsSoundBook parts.book
   -- each frame has one open node, and each open node one frame
   pub frames_nodes : AreFramesNodes parts.nodes parts.trees
-  -- each tenant's account agrees with its frames
-  pub accounts : (number : ℕ) (account : Account) → account_of number parts.book.accounts ≡ Some account → IsAccountFor parts.nodes parts.trees number account
-  -- a number without an account has no places for frames
-  pub nobody : (number : ℕ) → account_of number parts.book.accounts ≡ None → places_of parts.trees number ≡ 0
-  -- a number without an account has no frame
-  pub nothing : (number : ℕ) → account_of number parts.book.accounts ≡ None → frames_of parts.trees number ≡ []
+  -- each tenant's account agrees with its frames, and a number without an account has none
+  pub accounts : (number : ℕ) → AgreesWith parts.nodes parts.trees number (account_of number parts.book.accounts)
   -- each tenant's frames are a tree
   pub forest : (number : ℕ) → IsTree (frames_of parts.trees number)
   -- as many trees of frames as accounts
@@ -85,8 +86,6 @@ pub record IsStored (parts : Parts) : Type 0 where
   pub segments : length parts.nodes ≡ parts.book.segments
   -- a ledger for each account, in the same order
   pub ledgers : numbers_of parts.ledgers ≡ numbers_in parts.book.accounts
-  -- a place for each worker's number, 0 to 32
-  pub workers : length parts.places ≡ 33
   -- a worker that holds a frame has its name at its place
   pub places : ArePlaces parts.trees parts.places
   -- no tenant's number is above the greatest so far

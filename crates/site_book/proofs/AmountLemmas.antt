@@ -1,6 +1,7 @@
 -- Amounts, added and compared.
 use Rattle.site_book.proofs.Common.{◌≡◌, true, arith, nat_tests, Amount, nothing, plus, IsAmountWithin, is_amount_within, is_same}
 
+-- what the tests of amounts tell; a sum is no less than its second part
 module _ (a b : Amount) where
   pub within-test : is_amount_within a b ≡ true → IsAmountWithin a b
   within-test aye = grind arith
@@ -14,6 +15,7 @@ module _ (a b : Amount) where
   pub same-is_same : is_same a b ≡ true → a ≡ b
   same-is_same same = grind arith
 
+-- sums of amounts, in another order, and compared
 module _ (a b d : Amount) where
   pub plus-swap : plus a (plus b d) ≡ plus b (plus a d)
   plus-swap = grind arith

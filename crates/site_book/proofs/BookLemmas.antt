@@ -53,10 +53,12 @@ module _ (part : Group) (gs : List Grant) (i : ℕ) (held : Grant) (u : Amount) 
 abbrev viewed : PlanOf → List Grant → BookOf
 viewed plan gs = record { plan = plan; grants = gs }
 
+-- a book that shows a plan and grants: after a plan that isn't refused, the plan keeps the grants
 module _ (plan : PlanOf) (gs : List Grant) (book : BookOf) (view : viewed plan gs ≡ book) where
   pub replanned : (later : PlanOf) → why_not_replan book later ≡ None → IsKept later gs
   replanned later none = grind (arith, kept-replan)
 
+  -- where it keeps the grants, it keeps them after a session or a raise that isn't refused
   module _ (kept : IsKept plan gs) where
     pub opened : (who : Who) (session : ℕ) (ask : Quota) → why_over book.plan who ask book.grants ≡ None → IsKept plan (gs ++ record { who = who; session = session; ask = ask } ∷ [])
     opened who session ask none = kept-open plan gs who session ask kept (subst (λ (b : BookOf). why_over b.plan who ask b.grants ≡ None) (sym view) none)
@@ -85,6 +87,7 @@ pushed-is r u l more es is pushed = pushed ∙ ap (λ x. if is_ok x then more el
 abbrev raise_by : PlanOf → Who → ℕ → Quota → List Grant → Bool → Option BookRefusal
 raise_by plan who session ask gs lower = cond lower (Some Lower) (why_over plan who ask (grants_without who session gs))
 
+-- why a raise is refused, by the grant that was found, or its place
 module _ (plan : PlanOf) (who : Who) (session : ℕ) (ask : Quota) (gs : List Grant) where
   pub raise-is : (held : Grant) (lower : Bool) → grant_of who session gs ≡ Some held → is_no_raise held.ask ask ≡ lower → raise_by plan who session ask gs lower ≡ why_no_raise plan who session ask gs (grant_of who session gs)
   raise-is held lower is low = sym (ap (why_no_raise plan who session ask gs) is ∙ ap (raise_by plan who session ask gs) low)

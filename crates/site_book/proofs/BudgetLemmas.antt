@@ -14,6 +14,7 @@ IsPart All = ⊥
 pub in-network : (who : Who) → is_guest who ≡ true → is_in (Network (network_of who)) who ≡ true
 in-network who guest = and_from _ _ guest (is-same (network_of who))
 
+-- a session isn't refused exactly where each budget has room for it
 module _ (plan : PlanOf) (who : Who) (ask : Quota) (gs : List Grant) where
   within-part : (part : Group) → is_beyond_part plan part who ask (used part gs) ≡ false → is_in part who ≡ true → IsAmountWithin (plus (of_one ask) (used part gs)) (limit_of plan part)
   within-part part nay own = within-test _ _ (grind arith)
@@ -41,8 +42,7 @@ module _ (plan : PlanOf) (who : Who) (ask : Quota) (gs : List Grant) where
   pub passes : HasBudgetFor plan who ask gs → (part : Group) → IsPart part → is_in part who ≡ true → IsAmountWithin (plus (of_one ask) (used part gs)) (limit_of plan part)
   passes has part is own = grind (arith, same-is, and_parts)
 
--- more
-
+-- a raise that asks for more is one, and no other
 module _ (now ask : Quota) where
   pub more-from : is_no_raise now ask ≡ false → IsAbove now ask
   more-from nay = grind (arith, or_parts, ltb-false, eq-eqb, eqb-false)

@@ -9,7 +9,6 @@ pub record IsEnded (i : Option Present) (n : ℕ) : Type 0 where
   pub number : present.session ≡ n
 
 -- of one for whom all guests have too much
-
 module _ (r : BookRefusal) (w : Option BookRefusal) (i : Option Present) where
   not-enters : unless_idle r w i ≡ Enters → ⊥
   not-enters e = grind arith
@@ -24,7 +23,6 @@ module _ (r : BookRefusal) (w : Option BookRefusal) (i : Option Present) where
   unless-none e none = grind arith
 
 -- who enters, who is to end, and who is refused
-
 module _ (o s w : Option BookRefusal) (i : Option Present) where
   pub only_enters : by_book o s w i ≡ Enters → o ≡ None
   only_enters e = grind (arith, not-enters)
@@ -43,6 +41,7 @@ module _ (o s w : Option BookRefusal) (i : Option Present) where
 
 -- who is idle
 
+-- the idler of two is one of them
 module _ (q : Present) (o : Option Present) where
   idler-one : (p : Present) → idler (Some q) o ≡ Some p → (q ≡ p) ⊎ (o ≡ Some p)
   idler-one p e = grind arith
@@ -62,6 +61,7 @@ pub record IsSilent (now most : ℕ) (p : Present) : Type 0 where
   pub waits : p.waits ≡ false
   pub silent : most < now - p.last
 
+-- the idlest of a roll is one of them, and idle
 module _ (now most : ℕ) where
   pub idlest-there : (roll : List Present) (p : Present) → idlest now most roll ≡ Some p → Contains roll p × (is_idle now most p ≡ true)
   idlest-there [] p e = absurd cc
@@ -105,6 +105,7 @@ append-none : (gs : List Grant) → gs ++ [] ≡ gs
 append-none [] = refl
 append-none (g ∷ gs) = ap (λ (l : List Grant). g ∷ l) (append-none gs)
 
+-- the plan keeps the grants that are left after the told ones have gone
 module _ (plan : PlanOf) where
   pub left-kept : (before gs : List Grant) (roll : List Present) → IsKept plan before → length roll ≡ length gs → IsKept plan (before ++ remaining those_told gs (told_by plan before gs roll))
   left-kept before (g ∷ gs) (p ∷ roll) kept alike =

@@ -47,6 +47,7 @@ pub record IsPlace (who : Who) (session : ℕ) (gs : List Grant) (i : ℕ) : Typ
   pub removed : remove gs i ≡ grants_without who session gs
   pub written : (held : Grant) (ask : Quota) → held ≡ get_or gs i held → set gs i (record held { ask = ask }) ≡ grants_raised who session ask gs
 
+-- a session's grant: how many there are without it, where it stands, and whether there is one
 module _ (who : Who) (session : ℕ) where
   pub length-without : (gs : List Grant) → length (grants_without who session gs) ≤ length gs
   length-without [] = omega arith

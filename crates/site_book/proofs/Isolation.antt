@@ -1,4 +1,4 @@
--- What others do is nothing to some customers.
+-- What others do changes nothing for customers who share no budget with them.
 use Rattle.site_book.proofs.Common.{◌≡◌, ℕ, Bool, true, false, not, ◌&&◌, cond, List, [], ◌∷◌, Option, Some, None, refl, ap, sym, ◌∙◌, inl, inr, arith, cases_Bool, and_parts, and_from, is_none, Quota, Amount, Grant, Group, Own, Network, Guests, BookRefusal, OverBudget, OverNetwork, OverGuests, Lower, Who, Named, same_who, is_guest, network_of, of_one, plus, is_amount_within, PlanOf, limit_of, is_in, used, grants_without, is_no_raise, BookOf, BookEvent, Opens, Raises, Closes, Replans, first_refusal, why_over, why_no_raise, part_over, are_within, why_not_replan, answer_of_book, taken, book_after_answer, book_after, book_after_events, is_of, is_event_kept, only_events, answers_of, grants_of}
 use Rattle.site_book.proofs.NameLemmas.{same-is}
 use Rattle.site_book.proofs.BudgetLemmas.{IsPart}
@@ -27,6 +27,7 @@ module _ (is_one : Who → Bool) where
   other-answer : (book : BookOf) (event : BookEvent) (answer : Option BookRefusal) → is_event_kept is_one event answer ≡ false → their_book is_one (book_after_answer book event answer) ≡ their_book is_one book
   other-answer book event answer other = grind (arith, push-others, with-ask-others, without-others)
 
+  -- where they are whole, what the book says of their events is the same without others' grants
   module _ (whole : IsWhole is_one) where
     part-theirs : (part : Group) (who : Who) (gs : List Grant) (test : Amount → Bool) → IsPart part → is_one who ≡ true → (is_in part who && test (used part (grants_of is_one gs))) ≡ (is_in part who && test (used part gs))
     part-theirs part who gs test is own = elim (cases_Bool (is_in part who)) [
@@ -45,6 +46,7 @@ module _ (is_one : Who → Bool) where
         let network = Network (network_of who) in
         λ i. cond (same (Own who) tt i) (Some (Own who)) (cond (same network tt i) (Some network) (cond (same Guests tt i) (Some Guests) None))
 
+    -- a plan that all grants are within, theirs alone are within
     within-theirs : (plan : PlanOf) (all gs : List Grant) → are_within plan all gs ≡ true → are_within plan (grants_of is_one all) (grants_of is_one gs) ≡ true
     within-theirs plan all [] within = refl
     within-theirs plan all (g ∷ gs) within =
@@ -62,6 +64,7 @@ module _ (is_one : Who → Bool) where
         let same = ap (why_over plan who ask) (sym (without-theirs is_one who session own gs)) ∙ over-theirs plan who ask (grants_without who session gs) own in
         ap (λ (o : Option BookRefusal). cond (is_no_raise held.ask ask) (Some Lower) o) same
 
+    -- what they are answered is the same, and after an event that is kept the book is theirs of the one after it
     module _ (book : BookOf) where
       pub answer-theirs : (event : BookEvent) → is_of is_one event ≡ true → answer_of_book (their_book is_one book) event ≡ answer_of_book book event
       answer-theirs (Opens who session ask) own = over-theirs book.plan who ask book.grants own
@@ -83,6 +86,7 @@ module _ (is_one : Who → Bool) where
     run-theirs book [] = refl
     run-theirs book (event ∷ events) = grind (arith, run-theirs (book_after book event) events, after-kept, other-answer)
 
+-- some of those who are whole are told the same without the others' events
 module _ (few many : Who → Bool) (among : (w : Who) → few w ≡ true → many w ≡ true) where
   of-many : (event : BookEvent) → is_of few event ≡ true → is_of many event ≡ true
   of-many event own = grind arith

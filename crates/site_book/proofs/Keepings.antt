@@ -9,6 +9,7 @@ use Rattle.site_book.proofs.Totals.{all-within, few-sessions}
 pub kept-new : (plan : PlanOf) → sums_fit plan ≡ true → IsKept plan []
 kept-new plan fit = record { fit = fit; within = λ part. within-nothing (limit_of plan part) }
 
+-- a plan keeps grants of which each part is within its limit
 module _ (plan : PlanOf) (gs : List Grant) where
   pub kept-of : sums_fit plan ≡ true → ((part : Group) → IsPart part → IsAmountWithin (used part gs) (limit_of plan part)) → IsKept plan gs
   kept-of fit parts = record { fit = fit; within = λ part. each part }
@@ -23,7 +24,9 @@ module _ (plan : PlanOf) (gs : List Grant) where
   pub kept-few : IsKept plan gs → length gs ≤ 64
   kept-few kept = let all = kept.within All in omega (arith, all.sessions, used-all gs, few-sessions plan kept.fit)
 
+-- a plan keeps the grants after a session opens, is raised or closes
 module _ (plan : PlanOf) (gs : List Grant) (who : Who) (session : ℕ) where
+  -- where it asks for so much
   module _ (ask : Quota) where
     pub kept-open : IsKept plan gs → why_over plan who ask gs ≡ None → IsKept plan (gs ++ record { who = who; session = session; ask = ask } ∷ [])
     kept-open kept none =
@@ -47,6 +50,7 @@ module _ (plan : PlanOf) (gs : List Grant) (who : Who) (session : ℕ) where
 
 -- another plan
 
+-- where part_over finds no part, each of which the customer is one is within its limit
 module _ (plan : PlanOf) (gs : List Grant) (who : Who) where
   within-over : (part : Group) → is_over plan part who gs ≡ false → is_in part who ≡ true → IsAmountWithin (used part gs) (limit_of plan part)
   within-over part nay own = within-test _ _ (grind arith)
@@ -78,7 +82,6 @@ pub within-plan : (plan : PlanOf) (gs : List Grant) → are_within plan gs gs �
 within-plan plan gs within part is = grind (arith, some-within, within-nothing)
 
 -- what is within a plan lets it in
-
 module _ (plan : PlanOf) (all : List Grant) (within : (part : Group) → IsAmountWithin (used part all) (limit_of plan part)) where
   not-over : (part : Group) (who : Who) → is_over plan part who all ≡ false
   not-over part who = rw (test-within (used part all) (limit_of plan part) (within part)) (and_right (is_in part who) false refl)
@@ -96,6 +99,7 @@ pub record ComesIn (book : BookOf) (plan : PlanOf) : Type 0 where
   pub fit : sums_fit plan ≡ true
   pub within : are_within plan book.grants book.grants ≡ true
 
+-- a plan that isn't refused lets the grants in, and keeps them
 module _ (book : BookOf) (plan : PlanOf) where
   pub comes-in : why_not_replan book plan ≡ None → ComesIn book plan
   comes-in none = grind (arith, same-is_same)
@@ -114,6 +118,7 @@ kept-taken book (Raises who session ask) none kept = kept-raise book.plan book.g
 kept-taken book (Closes who session) none kept = kept-close book.plan book.grants who session kept
 kept-taken book (Replans plan) none kept = kept-replan book plan none
 
+-- after each event the book's plan keeps its grants
 module _ (book : BookOf) (event : BookEvent) where
   kept-answer : (answer : Option BookRefusal) → answer_of_book book event ≡ answer → IsKept book.plan book.grants → IsKept (book_after_answer book event answer).plan (book_after_answer book event answer).grants
   kept-answer answer is kept = grind (arith, kept-taken)

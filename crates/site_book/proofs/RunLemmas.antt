@@ -35,6 +35,7 @@ names-push : (g : Grant) (gs : List Grant) → names_granted (gs ++ g ∷ []) �
 names-push g [] = refl
 names-push g (h ∷ gs) = ap (λ (x : List Name). (h.who, h.session) ∷ x) (names-push g gs)
 
+-- the names of the grants after one is closed, and after one is raised
 module _ (who : Who) (session : ℕ) where
   names-without : (gs : List Grant) → names_granted (grants_without who session gs) ≡ names_without who session (names_granted gs)
   names-without [] = refl

@@ -20,6 +20,7 @@ out-first part g gs none = grind arith
 used-tail : (part : Group) (g : Grant) (gs : List Grant) → IsAmountWithin (used part gs) (used part (g ∷ gs))
 used-tail part g gs = grind (arith, within-more, within-same)
 
+-- who has place k or a later one: the customer at k, or who has a later one
 module _ (k : ℕ) where
   place-split : (n : ℕ) → leb k n ≡ (eqb k n || leb (suc k) n)
   place-split n = grind arith
@@ -49,6 +50,7 @@ module _ (k : ℕ) where
   next : (n : ℕ) → k + suc n ≡ suc k + n
   next n = omega arith
 
+-- guests and the customers from a place on use no more than all of them may have
 module _ (gs : List Grant) (guests : Amount) (few : IsAmountWithin (used Guests gs) guests) where
   bound : (customers : List Amount) (k : ℕ) → ((n : ℕ) → IsAmountWithin (used (Own (Named (k + n))) gs) (get_or customers n nothing)) → IsAmountWithin (used_by (from_place k) gs) (plus guests (sum_of customers))
   bound [] k own = let same = none-named k gs own in grind arith
@@ -59,6 +61,7 @@ module _ (gs : List Grant) (guests : Amount) (few : IsAmountWithin (used Guests 
       let split = used-split (from_place k) (is_in (Own (Named k))) (from_place (suc k)) gs (from-split k) (from-apart k) in
       rw split (subst (IsAmountWithin _) (plus-swap c guests (sum_of cs)) both)
 
+-- where a plan's sums fit, all grants are within its totals, and there are at most 64 sessions
 module _ (plan : PlanOf) where
   sums-within : sums_fit plan ≡ true → (leb plan.totals.sessions 64 ≡ true) × (is_amount_within (plus plan.guests (sum_of plan.customers)) plan.totals ≡ true)
   sums-within fit = and_parts _ _ fit

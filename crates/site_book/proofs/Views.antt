@@ -2,6 +2,7 @@
 use Rattle.site_book.proofs.Common.{◌≡◌, ℕ, Bool, true, false, List, [], ◌∷◌, ◌++◌, refl, arith, and_parts, Quota, Grant, Who, used_by, is_held_as, grant_of, grants_without, grants_raised, grants_of}
 use Rattle.site_book.proofs.NameLemmas.{same-is}
 
+-- of their grants alone: what they use, and a grant more
 module _ (is_one : Who → Bool) where
   pub used-theirs : (test : Who → Bool) (gs : List Grant) → ((w : Who) → test w ≡ true → is_one w ≡ true) → used_by test (grants_of is_one gs) ≡ used_by test gs
   used-theirs test [] among = refl
@@ -15,10 +16,12 @@ module _ (is_one : Who → Bool) where
   push-others [] g other = grind arith
   push-others (h ∷ gs) g other = grind (arith, push-others gs g other)
 
+-- a session's grant among theirs
 module _ (is_one : Who → Bool) (who : Who) (session : ℕ) where
   held-is : (b : Bool) (g : Grant) → is_one who ≡ b → is_held_as who session g ≡ true → is_one g.who ≡ b
   held-is b g own aye = grind (arith, same-is, and_parts)
 
+  -- if it is theirs, it is found, removed and raised there as among all
   module _ (own : is_one who ≡ true) where
     pub grant-theirs : (gs : List Grant) → grant_of who session (grants_of is_one gs) ≡ grant_of who session gs
     grant-theirs [] = refl
@@ -32,6 +35,7 @@ module _ (is_one : Who → Bool) (who : Who) (session : ℕ) where
     with-ask-theirs ask [] = refl
     with-ask-theirs ask (g ∷ gs) = grind (arith, with-ask-theirs ask gs, held-is)
 
+  -- if it isn't, its removal or raise changes none of theirs
   module _ (other : is_one who ≡ false) where
     pub without-others : (gs : List Grant) → grants_of is_one (grants_without who session gs) ≡ grants_of is_one gs
     without-others [] = refl

@@ -2,9 +2,6 @@
 use Rattle.task_deques.proofs.Common.{◌≡◌, ℕ, ◌+◌, ◌-◌, ◌<◌, List, [], ◌∷◌, ◌++◌, set, refl, arith, some, get_elem?, Pushes, Takes, Pops, Finds, Forks, Merges, Learns, Tally, Task, tally, weigh, IsEmptied, IsEachOnce}
 use Rattle.task_deques.proofs.TallyLemmas.{weigh-append, total-snoc, total-set, alone, idle-set, idle-snoc}
 
-pub begins : IsEachOnce [] (tally 64 [] [] ∷ [])
-begins = grind arith
-
 -- a seat that has a part changes what it pushed and took: the rule is kept where, by each weighing, what the deque holds changes by as much
 changes : (port : ℕ) (v w : Tally) (before after : List Task) (views : List Tally) → 0 < v.parts → w.parts ≡ v.parts →
     ((h : Task → ℕ) → weigh h w.pushed + weigh h v.taken + weigh h before ≡ weigh h v.pushed + weigh h w.taken + weigh h after) →

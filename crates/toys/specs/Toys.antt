@@ -1,9 +1,9 @@
--- Representation: three toy procedures, whose every step can be followed by hand.
+-- Representation: toy procedures, whose every step can be followed by hand.
 use Rattle.std.specs.Prelude.{ℕ, ◌+◌, ◌-◌, ◌%◌, ◌^◌, true, false, ◌&&◌, ◌==◌, List, [], ◌∷◌, if◌then◌else◌, slice_get, unwrap_or}
 use Rattle.sched_rules.specs.declared.act.Act.{Act}
 use Rattle.sched_rules.specs.declared.act.InletAct.{InletAct}
 use Rattle.sched_rules.specs.declared.act.Continuation.{Continuation}
-use Rattle.sched_rules.specs.declared.act.Continuation.TheVariants.{Spawn, Go, Wait, Compute, Return}
+use Rattle.sched_rules.specs.declared.act.Continuation.TheVariants.{Spawn, Wait, Compute, Return}
 use Rattle.toys.specs.declared.fan.FanAnswer.{FanAnswer}
 use Rattle.sched_rules.specs.Functions.{Functions}
 
@@ -91,9 +91,3 @@ chain_inlet own child = record { stores = (2, word_at child 0) ∷ []; abort = f
 -- the procedure Chain; an answer is itself the input that it was computed from, and nothing is stored of it
 abbrev pub chain_procedure : Functions ℕ ℕ
 chain_procedure = toy chain_act chain_inlet (λ answer. answer) (λ answer. [])
-
--- the procedure Spin: a frame goes on for ever, without a store; an answer is itself its input and stores nothing
-abbrev pub spin : Functions ℕ ℕ
-spin =
-    toy (λ count stage. record { stores = []; after = Go }) (λ own child. record { stores = []; abort = false; wake = false })
-    (λ answer. answer) (λ answer. [])

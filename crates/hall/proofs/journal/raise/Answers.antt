@@ -1,14 +1,10 @@
 -- The journal that is raised is the tenant's.
-use Rattle.hall.proofs.Common.{◌≡◌, ℕ, List, [], Result, Ok, Err, length, ap, ◌∙◌, arith, StepOf, AdmitMore, LeafAnswer, IsAt, at-within, at-own, at-said, at-set, long_steps, owner_of_journal, journal_in, longer, raise_count}
-use Rattle.std.proofs.Common.{OnOk}
+use Rattle.hall.proofs.Common.{◌≡◌, ℕ, List, [], length, ap, ◌∙◌, arith, StepOf, AdmitMore, LeafAnswer, IsAt, at-within, at-own, at-said, at-set, long_steps, owner_of_journal, journal_in, longer, raise_count}
 use Rattle.hall.proofs.Lists.{at-place, steps_of}
 use Rattle.hall.proofs.journal.raise.Given.{Over}
 use Rattle.hall.proofs.journal.raise.Goals.{After-index_mut-journal}
 use Rattle.hall.proofs.journal.raise.Goals as goal
-
-on-ok : {T E P Q : Type 0} (answer : Result T E) → (P → Q) → OnOk answer P → OnOk answer Q
-on-ok (Ok value) to it = to it
-on-ok (Err error) to it = tt
+use Rattle.std.proofs.lemmas.Result.{on_ok_weaker}
 
 -- the journal that was read is the tenant's
 place : (g : Over) (c : After-index_mut-journal g) → IsAt owner_of_journal c.args.tenant c.args.journals.now.items c.place_of-at.result
@@ -45,7 +41,7 @@ returns-clause-one g c = rw (own g (goal.at.returns-clause-one g c).After-index_
 pub returns-clause-written : goal.returns-clause-written
 returns-clause-written g c =
     let at = (goal.at.returns-clause-written g c).After-index_mut-journal in
-    on-ok c.raise.result
+    on_ok_weaker c.raise.result
     (λ written. at-set owner_of_journal _ (longer (AdmitMore c.args.tenant c.args.reserve)) _ _ _ _ (place g at) c.index_mut-journal.ensures.value
     (written ∙ ap (λ (n : ℕ). longer (AdmitMore n c.args.reserve) c.index_mut-journal.result.now) (own g at))) c.raise.ensures.written
 

@@ -1,4 +1,4 @@
-use Rattle.sched_store.proofs.Common.{Some, set, parts_of}
+use Rattle.sched_store.proofs.Common.{◌≡◌, length, Some, set, parts_of}
 use Rattle.sched_store.proofs.Lookups.{there-has}
 use Rattle.sched_store.proofs.States.{StateSet, takes-set}
 use Rattle.sched_store.proofs.store.Store.hold.Goals.{After-set_state}
@@ -8,7 +8,9 @@ use Rattle.sched_store.proofs.store.Store.hold.Goals as goal
 taken : (g : _) (c : After-set_state g) → StateSet (parts_of c.self.inside) c.set_state.new.self (set (parts_of c.self.inside).places c.number-number.result (Some c.args.name)) c.args.name c.args.state
 taken g c =
     let limits = c.number-number.ensures.limits in
-    takes-set _ _ _ c.args.name c.args.state c.self.invariant c.self.view_is (record { frames = c.set_state.ensures.frames; kept = c.set_state.ensures.kept }) c.requires.there limits.0 limits.1
+    -- (an array is as long as its type says: the sixth of what the fields' types tell is that of `places`)
+    let long : length c.self.inside.places ≡ 33 = c.self.ranges.1.1.1.1.1.0.1.0.1 in
+    takes-set _ _ _ c.args.name c.args.state c.self.invariant c.self.view_is (record { frames = c.set_state.ensures.frames; kept = c.set_state.ensures.kept }) c.requires.there long limits.0 limits.1
     (rw (← c.number-number.ensures.value) at c.requires.free) (rw (← c.number-number.ensures.value) at c.requires.names)
 
 pub set_state-requires : goal.set_state-requires

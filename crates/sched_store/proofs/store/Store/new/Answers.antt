@@ -1,4 +1,3 @@
-use Rattle.sched_store.proofs.Common.{refl}
 use Rattle.sched_store.proofs.Admitting.{new-stored}
 use Rattle.sched_store.proofs.store.Store.new.Goals as goal
 
@@ -13,4 +12,4 @@ invariant_of-result g c =
       frames = c.in_ok-table.ensures.frames;
       places = c.in_ok-table.ensures.places;
       jobs = c.in_ok-ledgers.ensures;
-    }) refl
+    })

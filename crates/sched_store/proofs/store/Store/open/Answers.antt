@@ -1,4 +1,5 @@
 use Rattle.sched_store.proofs.Common.{◌≤◌, ◌+◌, ap, ◌∙◌, refl, sym, arith, charge, frames_of, parts_of}
+use Rattle.sched_store.proofs.Lookups.{its-account}
 use Rattle.sched_store.proofs.Steps.{book-left}
 use Rattle.sched_store.proofs.Words.{has-free, not-refused}
 use Rattle.sched_store.proofs.OpenFrame.{serials-found, opened-next, left-for, parent-for, parent-open, parent-in, serial-of-name, place-left, size-some, Opened, open-step}
@@ -47,7 +48,7 @@ add-requires g c =
     let parent = parent-for (parts_of c.self.inside) c.self.invariant c.args.tenant c.args.parent c.self.view_is c.requires.parent in
     let size = size-some c.args.words.now c.args.size c.requires.size in
     record {
-      above = rw serial (c.self.invariant.accounts c.args.tenant own.0 own.1.0).serials;
+      above = rw serial (its-account (parts_of c.self.inside) c.self.invariant c.args.tenant own.0 own.1.0).serials;
       parent = parent-in (frames_of c.self.inside.table c.args.tenant) c.args.tenant c.args.parent c.parent_name.result parent c.parent_name.ensures;
       room = place-left (parts_of c.self.inside) c.self.invariant c.args.tenant c.args.size own.0 c.sizes_are_in_limits.ensures.some own.1.0 size.0 own.1.1.0;
     }
