@@ -7,7 +7,7 @@ ghost use Rattle.sched_rules.specs.Views.{job_of, named};
 ghost use Rattle.sched_rules.specs.declared.job.Job.TheVariants.{Live as LiveJob};
 ghost use Rattle.sched_rules.specs.declared.step.StepOf.TheVariants.{Finish as FinishStep, Spend as SpendStep, Cancel as CancelStep, Leave as LeaveStep};
 ghost use Rattle.sched_laws.specs.Shapes.{AreShaped};
-ghost use Rattle.sched_store.specs.Ledgers.{is_live};
+ghost use Rattle.sched_store.specs.JobLists.{is_live};
 ghost use Rattle.sched_core.specs.StepResults.{FollowsResult};
 
 use crate::decide::{first_of, is_unfinished};

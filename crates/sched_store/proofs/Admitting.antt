@@ -1,15 +1,15 @@
--- A tenant is admitted: an account, places and a ledger of its own, after all others, and nothing else.
+-- A tenant is admitted: an account, places and a list of jobs of its own, after all others, and nothing else.
 use Rattle.std.proofs.Common.{◌≡◌, ◌≢◌, ℕ, ◌+◌, ◌^◌, ◌<◌, ◌≤◌, inl, inr, false, List, [], ◌∷◌, ◌++◌, length, None, refl, ap, sym, ◌∙◌, subst, arith, Option, zero, suc, replicate, sum_by, IsSome}
 use Rattle.sched_store.proofs.Common.{Account, FrameId, ltb, leb, inserted, IsAboveOwn, with_admitted, Quota, IsAbove}
 use Rattle.sched_store.proofs.Common.{length-replicate, with_reserve, Tenant, admitted_with, Nodes, node_at, charge_of, total_charge}
-use Rattle.sched_store.proofs.Common.{frame_at, IsTree, frames_of, places_of, tenant_count, KeepsOtherTenants, JobLedger}
-use Rattle.sched_store.proofs.Common.{owner_of_ledger, jobs_of, numbers_of, is_there, Parts, with_words_of_nodes, tenant_from, tenants_from, shared_of}
+use Rattle.sched_store.proofs.Common.{frame_at, IsTree, frames_of, places_of, tenant_count, KeepsOtherTenants, JobListOf}
+use Rattle.sched_store.proofs.Common.{owner_of_jobs, jobs_of, numbers_of, is_there, Parts, with_words_of_nodes, tenant_from, tenants_from, shared_of}
 use Rattle.sched_store.proofs.Common.{cases_eq, ne_eqb, leb-false, ltb-false, or_parts, lt-ltb, false≢true, CoreState, is_full, reservations_in, tenant_in}
 use Rattle.sched_store.proofs.Common.{reserved_by, is_beyond, owner_of_account, account_of, fresh, with_new, raised_to, IsStored, IsAccountFor}
 use Rattle.sched_store.proofs.Common.{AreFramesNodes, numbers_in, AreAtMost, frame_in_trees, node_of, Reservations, IsSoundBook, HasRoom, Admits}
 use Rattle.sched_store.proofs.Common.{KeepsOtherAccounts, HasRoomFor, CanRaise, Raises, empty_of}
 use Rattle.number_index.proofs.Edits.{said-inserted-own, said-inserted-other}
-use Rattle.sched_store.proofs.Lookups.{agrees-still, its-account, nobodys, within-reserve, Frames, Trees, Owns, none-or-some, Entries, reservations-found, tenant-found, length-numbers, numbers-inserted, no-ledger}
+use Rattle.sched_store.proofs.Lookups.{agrees-still, its-account, nobodys, within-reserve, Frames, Trees, Owns, none-or-some, Entries, reservations-found, tenant-found, length-numbers, numbers-inserted, no-job_list}
 use Rattle.std.proofs.lemmas.Bool.Decides.{nat_tests}
 use Rattle.std.proofs.lemmas.List.Folds.{sum_by-replicate}
 use Rattle.sched_rules.specs.Lone.{is_lower}
@@ -21,10 +21,10 @@ pub newer-missing : (newest number : ℕ) (entries : Entries) → AreAtMost newe
 newer-missing newest number [] most newer = refl
 newer-missing newest number (entry ∷ entries) most newer = grind (arith, newer-missing newest number entries most.1 newer, ne_eqb)
 
--- there are as many ledgers as accounts
+-- there are as many lists of jobs as accounts
 module _ (parts : Parts) (stored : IsStored parts) where
-  pub many-ledgers : length parts.ledgers ≡ length parts.book.accounts
-  many-ledgers = sym (length-numbers owner_of_ledger parts.ledgers) ∙ ap length stored.ledgers ∙ length-numbers owner_of_account parts.book.accounts
+  pub many-job_lists : length parts.job_lists ≡ length parts.book.accounts
+  many-job_lists = sym (length-numbers owner_of_jobs parts.job_lists) ∙ ap length stored.job_lists ∙ length-numbers owner_of_account parts.book.accounts
 
   -- what a core that isn't full has room for
   pub room-found : (quota : Quota) → is_full (reservations_in (shared_of parts)) quota ≡ false → HasRoom parts.book quota
@@ -36,28 +36,28 @@ pub record CanBeAdmitted (parts : Parts) (number : ℕ) (quota : Quota) : Type 0
   pub nobody : account_of number parts.book.accounts ≡ None
   pub no_places : places_of parts.trees number ≡ 0
   pub few_trees : tenant_count parts.trees < 64
-  pub few_ledgers : length parts.ledgers < 64
+  pub few_job_lists : length parts.job_lists < 64
   pub room : HasRoom parts.book quota
 
 pub can-be-admitted : (parts : Parts) (number : ℕ) (quota : Quota) {core : CoreState} → IsStored parts → shared_of parts ≡ core → core.newest < number → is_full (reservations_in core) quota ≡ false → CanBeAdmitted parts number quota
-can-be-admitted parts number quota stored is above not_full = grind (arith, room-found, newer-missing, many-ledgers, nobodys)
+can-be-admitted parts number quota stored is above not_full = grind (arith, room-found, newer-missing, many-job_lists, nobodys)
 
 -- what an admission was told by the table and the book
-pub record IsAdmitted (parts : Parts) (trees : Trees) (ledger : JobLedger) (book : Reservations) (number : ℕ) (quota : Quota) : Type 0 where
+pub record IsAdmitted (parts : Parts) (trees : Trees) (job_list : JobListOf) (book : Reservations) (number : ℕ) (quota : Quota) : Type 0 where
   pub newer : parts.newest < number
   pub within : number ≤ 2 ^ 62
   pub places : places_of trees number ≡ quota.segments
   pub frames : frames_of trees number ≡ []
   pub kept : KeepsOtherTenants parts.trees trees number
   pub count : tenant_count trees ≡ tenant_count parts.trees + 1
-  pub ledger_is : ledger ≡ (number, [])
+  pub job_list_is : job_list ≡ (number, [])
   pub admits : Admits parts.book book number quota
   pub others : KeepsOtherAccounts parts.book book number
   pub sound : IsSoundBook book
 
 -- the parts after it
-abbrev pub with_one_more : Parts → Trees → JobLedger → Reservations → ℕ → Parts
-with_one_more parts trees ledger book number = record parts { trees = trees; ledgers = inserted owner_of_ledger ledger parts.ledgers; book = book; newest = number }
+abbrev pub with_one_more : Parts → Trees → JobListOf → Reservations → ℕ → Parts
+with_one_more parts trees job_list book number = record parts { trees = trees; job_lists = inserted owner_of_jobs job_list parts.job_lists; book = book; newest = number }
 
 -- a new account that is above all stands last
 new-last : (newest number : ℕ) (account : Account) (entries : Entries) → AreAtMost newest entries → newest < number → with_new number account entries ≡ entries ++ (number, account) ∷ []
@@ -84,8 +84,8 @@ tenants-pushed parts after newest number account (entry ∷ entries) most newer 
     rw (others entry.0 entry.1 differs, tenants-pushed parts after newest number account entries most.1 newer others) refl
 
 -- after an admission the new account stands behind all others
-module _ (parts : Parts) (trees : Trees) (ledger : JobLedger) (book : Reservations) (number : ℕ) (quota : Quota) (stored : IsStored parts)
-    (is : IsAdmitted parts trees ledger book number quota) where
+module _ (parts : Parts) (trees : Trees) (job_list : JobListOf) (book : Reservations) (number : ℕ) (quota : Quota) (stored : IsStored parts)
+    (is : IsAdmitted parts trees job_list book number quota) where
   accounts-after : book.accounts ≡ parts.book.accounts ++ (number, fresh quota) ∷ []
   accounts-after = grind (arith, new-last)
 
@@ -97,7 +97,7 @@ module _ (parts : Parts) (trees : Trees) (ledger : JobLedger) (book : Reservatio
   ]
 
   -- what a store keeps true is true after it
-  pub admit-stored : IsStored (with_one_more parts trees ledger book number)
+  pub admit-stored : IsStored (with_one_more parts trees job_list book number)
   admit-stored =
       let frames = same-frames in
       let accounts = accounts-after in
@@ -116,7 +116,7 @@ module _ (parts : Parts) (trees : Trees) (ledger : JobLedger) (book : Reservatio
         tenants = omega (arith, tenants, more, longer);
         charges = stored.charges ∙ sym is.admits.charged;
         segments = stored.segments ∙ sym is.others.segments;
-        ledgers = numbers-inserted owner_of_ledger ledger parts.ledgers ∙ ap (λ (l : JobLedger). inserted (λ k. k) l.0 (numbers_of parts.ledgers)) is.ledger_is ∙ ap (inserted (λ k. k) number) stored.ledgers ∙ sym (ap (λ (b : Reservations). numbers_in b.accounts) is.admits.whole ∙ numbers-inserted owner_of_account (number, fresh quota) parts.book.accounts);
+        job_lists = numbers-inserted owner_of_jobs job_list parts.job_lists ∙ ap (λ (l : JobListOf). inserted (λ k. k) l.0 (numbers_of parts.job_lists)) is.job_list_is ∙ ap (inserted (λ k. k) number) stored.job_lists ∙ sym (ap (λ (b : Reservations). numbers_in b.accounts) is.admits.whole ∙ numbers-inserted owner_of_account (number, fresh quota) parts.book.accounts);
         places = λ worker owner serial frame at held. stored.places worker owner serial frame (sym (ap (λ (xs : Frames). frame_at xs serial) (frames owner)) ∙ at) held;
         taken = rw accounts (most-pushed parts.newest number parts.book.accounts (fresh quota) stored.taken is.newer);
         newest = is.within;
@@ -126,16 +126,16 @@ module _ (parts : Parts) (trees : Trees) (ledger : JobLedger) (book : Reservatio
       own = grind arith
 
   -- and the core is the one before with that tenant after all others
-  pub admit-shared : shared_of (with_one_more parts trees ledger book number) ≡ with_admitted number quota (shared_of parts)
+  pub admit-shared : shared_of (with_one_more parts trees job_list book number) ≡ with_admitted number quota (shared_of parts)
   admit-shared =
-      let after = with_one_more parts trees ledger book number in
+      let after = with_one_more parts trees job_list book number in
       let frames = same-frames in
-      let first : ledger.0 ≡ number = ap (λ (l : JobLedger). l.0) is.ledger_is in
-      let none : ledger.1 ≡ [] = ap (λ (l : JobLedger). l.1) is.ledger_is in
+      let first : job_list.0 ≡ number = ap (λ (l : JobListOf). l.0) is.job_list_is in
+      let none : job_list.1 ≡ [] = ap (λ (l : JobListOf). l.1) is.job_list_is in
       let others : SameOthers parts after number =
-      λ other a differs. rw (said-inserted-other owner_of_ledger (λ (l : JobLedger). l.1) [] other ledger parts.ledgers (λ e. differs (sym e ∙ first)), frames other) refl in
-      let missing = no-ledger number parts.ledgers parts.book.accounts stored.ledgers (newer-missing parts.newest number parts.book.accounts stored.taken is.newer) in
-      let jobs : jobs_of (inserted owner_of_ledger ledger parts.ledgers) number ≡ [] = ap (jobs_of (inserted owner_of_ledger ledger parts.ledgers)) (sym first) ∙ said-inserted-own owner_of_ledger (λ (l : JobLedger). l.1) [] ledger parts.ledgers (ap (λ (n : ℕ). is_there n parts.ledgers) first ∙ missing) ∙ none in
+      λ other a differs. rw (said-inserted-other owner_of_jobs (λ (l : JobListOf). l.1) [] other job_list parts.job_lists (λ e. differs (sym e ∙ first)), frames other) refl in
+      let missing = no-job_list number parts.job_lists parts.book.accounts stored.job_lists (newer-missing parts.newest number parts.book.accounts stored.taken is.newer) in
+      let jobs : jobs_of (inserted owner_of_jobs job_list parts.job_lists) number ≡ [] = ap (jobs_of (inserted owner_of_jobs job_list parts.job_lists)) (sym first) ∙ said-inserted-own owner_of_jobs (λ (l : JobListOf). l.1) [] job_list parts.job_lists (ap (λ (n : ℕ). is_there n parts.job_lists) first ∙ missing) ∙ none in
       let mine : tenant_from after number (fresh quota) ≡ admitted_with quota = rw (jobs, is.frames) refl in
       let tenants = tenants-pushed parts after parts.newest number (fresh quota) parts.book.accounts stored.taken is.newer others ∙ ap (λ (t : Tenant). tenants_from parts parts.book.accounts ++ (number, t) ∷ []) mine in
       let whole = ap (tenants_from after) accounts-after ∙ tenants in
@@ -210,7 +210,7 @@ module _ (parts : Parts) (trees : Trees) (book : Reservations) (number : ℕ) (q
         charges = stored.charges ∙ sym is.raises.charged;
         own = grind arith;
         words = λ other differs. refl;
-        ledgers = refl;
+        job_lists = refl;
         jobs = λ other differs. refl;
         places = λ worker owner serial frame at held. stored.places worker owner serial frame (sym (ap (λ (xs : Frames). frame_at xs serial) (frames owner)) ∙ at) held;
         newest = refl;
@@ -228,18 +228,18 @@ none-open (suc count) zero = refl
 none-open (suc count) (suc node) = none-open count node
 
 -- the parts of a new store
-pub record AreNew (nodes : Nodes) (trees : Trees) (ledgers : List JobLedger) (book : Reservations) (segments nodes_in_all : ℕ) : Type 0 where
+pub record AreNew (nodes : Nodes) (trees : Trees) (job_lists : List JobListOf) (book : Reservations) (segments nodes_in_all : ℕ) : Type 0 where
   pub stack : nodes ≡ replicate segments None
   pub empty : book ≡ empty_of segments nodes_in_all
   pub sound : IsSoundBook book
   pub count : tenant_count trees ≡ 0
   pub frames : (tenant : ℕ) → frames_of trees tenant ≡ []
   pub places : (tenant : ℕ) → places_of trees tenant ≡ 0
-  pub jobs : ledgers ≡ []
+  pub jobs : job_lists ≡ []
 
-pub new-stored : (nodes : Nodes) (trees : Trees) (ledgers : List JobLedger) (book : Reservations) (places : List (Option FrameId)) (segments nodes_in_all : ℕ) → AreNew nodes trees ledgers book segments nodes_in_all →
-    IsStored (record { nodes = nodes; book = book; trees = trees; ledgers = ledgers; places = places; newest = 0 })
-new-stored nodes trees ledgers book places segments nodes_in_all is =
+pub new-stored : (nodes : Nodes) (trees : Trees) (job_lists : List JobListOf) (book : Reservations) (places : List (Option FrameId)) (segments nodes_in_all : ℕ) → AreNew nodes trees job_lists book segments nodes_in_all →
+    IsStored (record { nodes = nodes; book = book; trees = trees; job_lists = job_lists; places = places; newest = 0 })
+new-stored nodes trees job_lists book places segments nodes_in_all is =
     let no_accounts : book.accounts ≡ [] = ap (λ (b : Reservations). b.accounts) is.empty in
     let count = is.count in
     let many = ap length no_accounts in
@@ -255,7 +255,7 @@ new-stored nodes trees ledgers book places segments nodes_in_all is =
       tenants = omega (arith, count, many);
       charges = ap total_charge is.stack ∙ (sum_by-replicate charge_of segments None ∙ omega arith) ∙ sym (ap (λ (b : Reservations). sum_by (λ (e : ℕ × Account). Account.charged e.1) b.accounts) is.empty);
       segments = ap length is.stack ∙ length-replicate segments None ∙ sym (ap (λ (b : Reservations). b.segments) is.empty);
-      ledgers = ap numbers_of is.jobs ∙ sym (ap numbers_in no_accounts);
+      job_lists = ap numbers_of is.jobs ∙ sym (ap numbers_in no_accounts);
       places = λ worker owner serial frame at held. absurd (let none = missing owner serial in cc (none, at));
       taken = subst (λ (es : List (ℕ × Account)). AreAtMost 0 es) (sym no_accounts) tt;
       newest = omega arith;

@@ -40,8 +40,8 @@ pub use Rattle.tenant_quota.specs.declared.account.Account.{Account}
 pub use Rattle.tenant_quota.specs.declared.account.Left.{Left}
 pub use Rattle.sched_store.specs.Changes.{with_admitted, with_departed}
 pub use Rattle.sched_store.specs.Inside.{parts_of}
-pub use Rattle.sched_store.specs.Ledgers.{AreLiveOnce, JobLedger, is_live, is_live_in, is_there, jobs_of, numbers_by, numbers_of, owner_of_ledger, with_jobs}
-pub use Rattle.sched_store.specs.Ledgers.{without_ledger}
+pub use Rattle.sched_store.specs.JobLists.{AreLiveOnce, JobListOf, is_live, is_live_in, is_there, jobs_of, numbers_by, numbers_of, owner_of_jobs, with_jobs}
+pub use Rattle.sched_store.specs.JobLists.{without_jobs}
 pub use Rattle.sched_store.specs.Parts.{Parts, shared_of, tenant_from, tenants_from, with_words_of_nodes}
 pub use Rattle.sched_store.specs.Reads.{AreAfter, AreTenantsRising, IsAboveOwn, IsReadyIn, TenantHasLeft, frames_in_core, holds, is_busy_among, is_held}
 pub use Rattle.sched_store.specs.Reads.{jobs_in, jobs_kept, may_hold, path_of, serials_in, sight_of, tree_of, words_under}

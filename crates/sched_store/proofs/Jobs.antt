@@ -1,8 +1,8 @@
 -- The jobs of one tenant: found by number, begun and ended.
 use Rattle.sched_store.proofs.Common.{◌≡◌, ◌≢◌, ℕ, zero, suc, ◌<◌, ◌≤◌, ◌+◌, ◌-◌, true, false, List, [], ◌∷◌, ◌++◌, length, get_or, drop, Some, None, refl, ap}
 use Rattle.sched_store.proofs.Common.{sym, ◌∙◌, arith, inl, inr, set, cases_Bool, false≢true, true≢false, ne_eqb, or_parts, or_from, Job, Live}
-use Rattle.sched_store.proofs.Common.{is_live_at, job_at, number_from, job_under, with_ended, is_live, is_live_in, AreLiveOnce, JobLedger}
-use Rattle.sched_store.proofs.Common.{owner_of_ledger, jobs_of, with_jobs, find_by_number, change_by_number}
+use Rattle.sched_store.proofs.Common.{is_live_at, job_at, number_from, job_under, with_ended, is_live, is_live_in, AreLiveOnce, JobListOf}
+use Rattle.sched_store.proofs.Common.{owner_of_jobs, jobs_of, with_jobs, find_by_number, change_by_number}
 use Rattle.std.proofs.Math.Bool.{or-true}
 use Rattle.std.specs.Prelude.{Option, IfSome, IfNone, option_copied}
 use Rattle.std.specs.Borrow.{Bor}
@@ -131,26 +131,26 @@ job-read jobs number job some within is = grind (arith, job_at-there)
 pub job-past : (jobs : Jobs) (number : ℕ) → number ≢ 0 → length jobs ≤ number - 1 → None ≡ job_at jobs number
 job-past jobs number some past = sym (job_at-past jobs number (omega arith))
 
--- A tenant's ledger that was found, and what other jobs in it leave.
+-- A tenant's list of jobs that was found, and what other jobs in it leave.
 
 abbrev All : Type 0
-All = List JobLedger
+All = List JobListOf
 
-module _ (n : ℕ) (ledgers : All) (ledger : JobLedger) where
-  -- the ledger that was found, with other jobs
-  pub found-changed : (changed : JobLedger) (change : List Job → List Job) → find_by_number owner_of_ledger n ledgers ≡ Some ledger → changed ≡ (ledger.0, change ledger.1) → change_by_number owner_of_ledger n (λ was. changed) ledgers ≡ with_jobs n change ledgers
-  found-changed changed change is new = put-changed owner_of_ledger n (λ (l : JobLedger). (l.0, change l.1)) ledgers ledger changed is new
+module _ (n : ℕ) (job_lists : All) (job_list : JobListOf) where
+  -- the list of jobs that was found, with other jobs
+  pub found-changed : (changed : JobListOf) (change : List Job → List Job) → find_by_number owner_of_jobs n job_lists ≡ Some job_list → changed ≡ (job_list.0, change job_list.1) → change_by_number owner_of_jobs n (λ was. changed) job_lists ≡ with_jobs n change job_lists
+  found-changed changed change is new = put-changed owner_of_jobs n (λ (l : JobListOf). (l.0, change l.1)) job_lists job_list changed is new
 
-  pub jobs-found : find_by_number owner_of_ledger n ledgers ≡ Some ledger → jobs_of ledgers n ≡ ledger.1
-  jobs-found is = said-found owner_of_ledger (λ (l : JobLedger). l.1) [] n ledgers ledger is
+  pub jobs-found : find_by_number owner_of_jobs n job_lists ≡ Some job_list → jobs_of job_lists n ≡ job_list.1
+  jobs-found is = said-found owner_of_jobs (λ (l : JobListOf). l.1) [] n job_lists job_list is
 
--- the jobs of the ledger that is looked for
-module _ (n : ℕ) (ledgers : All) (found : Option (Bor JobLedger)) (is : option_copied found ≡ find_by_number owner_of_ledger n ledgers) where
-  pub found-jobs : IfSome found (λ ledger. jobs_of ledgers n ≡ ledger.now.1)
-  found-jobs = found-said owner_of_ledger (λ (l : JobLedger). l.1) [] n ledgers found is
+-- the jobs of the list that is looked for
+module _ (n : ℕ) (job_lists : All) (found : Option (Bor JobListOf)) (is : option_copied found ≡ find_by_number owner_of_jobs n job_lists) where
+  pub found-jobs : IfSome found (λ job_list. jobs_of job_lists n ≡ job_list.now.1)
+  found-jobs = found-said owner_of_jobs (λ (l : JobListOf). l.1) [] n job_lists found is
 
-  pub none-found : IfNone found (jobs_of ledgers n ≡ [])
-  none-found = found-none owner_of_ledger (λ (l : JobLedger). l.1) [] n ledgers found is
+  pub none-found : IfNone found (jobs_of job_lists n ≡ [])
+  none-found = found-none owner_of_jobs (λ (l : JobListOf). l.1) [] n job_lists found is
 
 pub ruleset job_laws = (job_at-zero, job-read, job-past)
 

@@ -2,8 +2,8 @@
 use Rattle.sched_store.proofs.Common.{◌≡◌, ◌≢◌, ℕ, ◌+◌, ◌<◌, ◌≤◌, inl, inr, Bool, false, eqb, List, [], ◌∷◌, length, refl, ap, sym, ◌∙◌, subst, arith}
 use Rattle.sched_store.proofs.Common.{filter, cases_Bool, cases_eq, ne_eqb, eqb-true, eqb-false, Nodes, without, total_charge, Reservations, IsSoundBook, Releases}
 use Rattle.sched_store.proofs.Common.{KeepsOtherAccounts, Account, Frame, values_of, frames_of, places_of, tenant_count}
-use Rattle.sched_store.proofs.Common.{Tenant, charged_for, CoreState, without_tenant, with_departed, JobLedger, owner_of_ledger, jobs_of, numbers_of}
-use Rattle.sched_store.proofs.Common.{without_ledger, Parts, with_words_of_nodes, tenants_from, shared_of, IsStored, IsAccountFor, numbers_in}
+use Rattle.sched_store.proofs.Common.{Tenant, charged_for, CoreState, without_tenant, with_departed, JobListOf, owner_of_jobs, jobs_of, numbers_of}
+use Rattle.sched_store.proofs.Common.{without_jobs, Parts, with_words_of_nodes, tenants_from, shared_of, IsStored, IsAccountFor, numbers_in}
 use Rattle.sched_store.proofs.Common.{AreAtMost, remove_by_number}
 use Rattle.tenant_quota.specs.Accounts.{owner_of_account, account_of, without as without_account, AllEntries, IsRising, charged_segments}
 use Rattle.number_index.proofs.Edits.{said-without-other, all-without}
@@ -42,8 +42,8 @@ leave-closes parts number numbers stored is =
       with_children = closing-children parts.nodes parts.trees number none_stays stored.frames_nodes tree takes;
     })
 
--- what a departure was told by the table, the stack, the ledgers and the book
-pub record IsDeparture (parts : Parts) (nodes : Nodes) (trees : Trees) (ledgers : List JobLedger) (book : Reservations) (number : ℕ) (numbers : List ℕ) (account : Account) : Type 0 where
+-- what a departure was told by the table, the stack, the lists of jobs and the book
+pub record IsDeparture (parts : Parts) (nodes : Nodes) (trees : Trees) (job_lists : List JobListOf) (book : Reservations) (number : ℕ) (numbers : List ℕ) (account : Account) : Type 0 where
   pub there : Owns parts number account
   pub values : numbers ≡ values_of (frames_of parts.trees number)
   pub closed_all : nodes ≡ without parts.nodes numbers
@@ -52,14 +52,14 @@ pub record IsDeparture (parts : Parts) (nodes : Nodes) (trees : Trees) (ledgers 
   pub other_frames : (other : ℕ) → other ≢ number → frames_of trees other ≡ frames_of parts.trees other
   pub other_places : (other : ℕ) → other ≢ number → places_of trees other ≡ places_of parts.trees other
   pub count : tenant_count trees + 1 ≡ tenant_count parts.trees
-  pub jobs : ledgers ≡ without_ledger number parts.ledgers
+  pub jobs : job_lists ≡ without_jobs number parts.job_lists
   pub released : Releases parts.book book number account
   pub others : KeepsOtherAccounts parts.book book number
   pub sound : IsSoundBook book
 
 -- the parts after it
-abbrev pub departed : Parts → Nodes → Trees → List JobLedger → Reservations → Parts
-departed parts nodes trees ledgers book = record parts { nodes = nodes; trees = trees; ledgers = ledgers; book = book }
+abbrev pub departed : Parts → Nodes → Trees → List JobListOf → Reservations → Parts
+departed parts nodes trees job_lists book = record parts { nodes = nodes; trees = trees; job_lists = job_lists; book = book }
 
 closed-same : (parts : Parts) (nodes : Nodes) (number : ℕ) (numbers : List ℕ) → numbers ≡ values_of (frames_of parts.trees number) → nodes ≡ without parts.nodes numbers → without parts.nodes (closing parts.trees number none_stays) ≡ nodes
 closed-same parts nodes number numbers values closed_all = ap (without parts.nodes) (closed-whole (frames_of parts.trees number) ∙ sym values) ∙ sym closed_all
@@ -83,8 +83,8 @@ module _ (parts after : Parts) (number : ℕ) where
         | inr other ↦ rw (other, others entry.0 entry.1 (eqb-false entry.0 number other), tenants-without entries rising.1 others) refl
       ]
 
-module _ (parts : Parts) (nodes : Nodes) (trees : Trees) (ledgers : List JobLedger) (book : Reservations) (number : ℕ) (numbers : List ℕ)
-    (account : Account) (stored : IsStored parts) (is : IsDeparture parts nodes trees ledgers book number numbers account) where
+module _ (parts : Parts) (nodes : Nodes) (trees : Trees) (job_lists : List JobListOf) (book : Reservations) (number : ℕ) (numbers : List ℕ)
+    (account : Account) (stored : IsStored parts) (is : IsDeparture parts nodes trees job_lists book number numbers account) where
   -- the cut that takes all frames
   leave-cut : IsCut parts.trees trees number none_stays
   leave-cut = grind (arith, filter-none)
@@ -106,7 +106,7 @@ module _ (parts : Parts) (nodes : Nodes) (trees : Trees) (ledgers : List JobLedg
       omega (arith, frees, none, same, charged, stored.charges, is.released.charged)
 
   -- what a store keeps true is true after it
-  pub leave-stored : IsStored (departed parts nodes trees ledgers book)
+  pub leave-stored : IsStored (departed parts nodes trees job_lists book)
   leave-stored =
       let cut = leave-cut in
       let same = closed-same parts nodes number numbers is.values is.closed_all in
@@ -125,19 +125,19 @@ module _ (parts : Parts) (nodes : Nodes) (trees : Trees) (ledgers : List JobLedg
         tenants = omega (arith, tenants, fewer, left);
         charges = leave-charges;
         segments = ap length (sym same) ∙ length-without parts.nodes (closing parts.trees number none_stays) ∙ stored.segments ∙ sym is.others.segments;
-        ledgers = ap numbers_of is.jobs ∙ (numbers-without owner_of_ledger number parts.ledgers ∙ ap (remove_by_number (λ k. k) number) stored.ledgers) ∙ sym (ap (λ (b : Reservations). numbers_in b.accounts) is.released.whole ∙ numbers-without owner_of_account number parts.book.accounts);
+        job_lists = ap numbers_of is.jobs ∙ (numbers-without owner_of_jobs number parts.job_lists ∙ ap (remove_by_number (λ k. k) number) stored.job_lists) ∙ sym (ap (λ (b : Reservations). numbers_in b.accounts) is.released.whole ∙ numbers-without owner_of_account number parts.book.accounts);
         places = cut-places parts.nodes parts.trees trees number none_stays stored.frames_nodes cut parts.places stored.places;
         taken = subst (λ (b : Reservations). AreAtMost parts.newest b.accounts) (sym is.released.whole) (all-without (λ (e : ℕ × Account). e.0 ≤ parts.newest) owner_of_account number parts.book.accounts stored.taken);
         newest = stored.newest;
       }
 
   -- and the core is the one before without that tenant
-  pub leave-shared : shared_of (departed parts nodes trees ledgers book) ≡ with_departed number (shared_of parts)
+  pub leave-shared : shared_of (departed parts nodes trees job_lists book) ≡ with_departed number (shared_of parts)
   leave-shared =
-      let after = departed parts nodes trees ledgers book in
+      let after = departed parts nodes trees job_lists book in
       let others : SameOthers parts after number =
       λ other a differs. (
-      let jobs : jobs_of ledgers other ≡ jobs_of parts.ledgers other = ap (λ (ls : List JobLedger). jobs_of ls other) is.jobs ∙ said-without-other owner_of_ledger (λ (l : JobLedger). l.1) [] other number parts.ledgers (λ e. differs (sym e)) in
+      let jobs : jobs_of job_lists other ≡ jobs_of parts.job_lists other = ap (λ (ls : List JobListOf). jobs_of ls other) is.jobs ∙ said-without-other owner_of_jobs (λ (l : JobListOf). l.1) [] other number parts.job_lists (λ e. differs (sym e)) in
       rw (jobs, leave-words other differs) refl) in
       let tenants = tenants-without parts after number parts.book.accounts stored.book.rising others in
       rw is.released.whole (ap (λ (entries : List (ℕ × Tenant)). with-entries entries) tenants)

@@ -2,7 +2,7 @@
 use Rattle.std.proofs.Common.{◌≡◌, ℕ, ◌<◌, eqb, List, [], ◌∷◌, Some, None, ◌⊎◌, refl, subst, arith, inl, inr, suc, true, false, ◌||◌, Bool, length, ap, sym, ◌∙◌, ◌≤◌, ◌+◌, Option, IfSome, is_some, option_map, option_and_then, ◌-◌, ltb, IsSome, ◌++◌, map, reverse}
 use Rattle.sched_store.proofs.Common.{cases_Bool, eq-eqb, eqb-true, le-leb, lt-leb, lt-ltb, le-ltb, ltb-true, ltb-false, or_left, or_right, false≢true}
 use Rattle.sched_store.proofs.Common.{owner_of_account, account_of, AllEntries, IsRising, charged_segments, Account, has_by_number, change_by_number}
-use Rattle.sched_store.proofs.Common.{remove_by_number, inserted, JobLedger, owner_of_ledger, numbers_by, numbers_of, is_there, jobs_of, numbers_in, IsStored}
+use Rattle.sched_store.proofs.Common.{remove_by_number, inserted, JobListOf, owner_of_jobs, numbers_by, numbers_of, is_there, jobs_of, numbers_in, IsStored}
 use Rattle.sched_store.proofs.Common.{frame_in_trees, AreAtMost, node_above, sum_by-cons, node_words, total_charge, Nodes, IsOpen, IsSight, node_parent, Left}
 use Rattle.sched_store.proofs.Common.{left_in_book, Reservations, IsSoundBook, unreserved_of, FrameId, frame_at, Frame, has_frame, parent_of, name_of}
 use Rattle.sched_store.proofs.Common.{entry_of_frame, ready_name, first_of_two, newest_ready_of, IsTree, map_value, frames_of, Tenant, Tree, TenantTree, charged_for}
@@ -112,37 +112,37 @@ module _ {X : Type 0} (number_of : X → ℕ) where
   has-numbers n [] = refl
   has-numbers n (x ∷ xs) = ap (λ (b : Bool). eqb (number_of x) n || b) (has-numbers n xs)
 
--- a tenant has a ledger exactly where it has an account
-module _ (n : ℕ) (ledgers : List JobLedger) (entries : List (ℕ × Account)) where
-  there-same : numbers_of ledgers ≡ numbers_in entries → is_there n ledgers ≡ has_by_number owner_of_account n entries
-  there-same same = has-numbers owner_of_ledger n ledgers ∙ ap (has_by_number (λ k. k) n) same ∙ sym (has-numbers owner_of_account n entries)
+-- a tenant has a list of jobs exactly where it has an account
+module _ (n : ℕ) (job_lists : List JobListOf) (entries : List (ℕ × Account)) where
+  there-same : numbers_of job_lists ≡ numbers_in entries → is_there n job_lists ≡ has_by_number owner_of_account n entries
+  there-same same = has-numbers owner_of_jobs n job_lists ∙ ap (has_by_number (λ k. k) n) same ∙ sym (has-numbers owner_of_account n entries)
 
-  pub ledger-there : (a : Account) → numbers_of ledgers ≡ numbers_in entries → account_of n entries ≡ Some a → is_there n ledgers ≡ true
-  ledger-there a same there = there-same same ∙ has-found owner_of_account n entries (n, a) (entry-of n a entries there)
+  pub job_list-there : (a : Account) → numbers_of job_lists ≡ numbers_in entries → account_of n entries ≡ Some a → is_there n job_lists ≡ true
+  job_list-there a same there = there-same same ∙ has-found owner_of_account n entries (n, a) (entry-of n a entries there)
 
-  pub no-ledger : numbers_of ledgers ≡ numbers_in entries → account_of n entries ≡ None → is_there n ledgers ≡ false
-  no-ledger same none = there-same same ∙ lacks-said owner_of_account (λ e. Some e.1) None n entries (λ e is. cc) none
+  pub no-job_list : numbers_of job_lists ≡ numbers_in entries → account_of n entries ≡ None → is_there n job_lists ≡ false
+  no-job_list same none = there-same same ∙ lacks-said owner_of_account (λ e. Some e.1) None n entries (λ e is. cc) none
 
--- the ledgers rise as the accounts do
+-- the lists of jobs rise as the accounts do
 
-above-same : (n : ℕ) (ledgers : List JobLedger) (entries : Entries) → numbers_of ledgers ≡ numbers_in entries → AllEntries (λ later. n < later.0) entries → AreAbove owner_of_ledger n ledgers
+above-same : (n : ℕ) (job_lists : List JobListOf) (entries : Entries) → numbers_of job_lists ≡ numbers_in entries → AllEntries (λ later. n < later.0) entries → AreAbove owner_of_jobs n job_lists
 above-same n [] entries same above = tt
-above-same n (ledger ∷ ledgers) [] same above = absurd cc
-above-same n (ledger ∷ ledgers) (entry ∷ entries) same above =
-    let first : ledger.0 ≡ entry.0 = cc in
-    let rest : numbers_of ledgers ≡ numbers_in entries = cc in
-    (rw first above.0, above-same n ledgers entries rest above.1)
+above-same n (job_list ∷ job_lists) [] same above = absurd cc
+above-same n (job_list ∷ job_lists) (entry ∷ entries) same above =
+    let first : job_list.0 ≡ entry.0 = cc in
+    let rest : numbers_of job_lists ≡ numbers_in entries = cc in
+    (rw first above.0, above-same n job_lists entries rest above.1)
 
-rise-same : (ledgers : List JobLedger) (entries : Entries) → numbers_of ledgers ≡ numbers_in entries → IsRising entries → AreRising owner_of_ledger ledgers
+rise-same : (job_lists : List JobListOf) (entries : Entries) → numbers_of job_lists ≡ numbers_in entries → IsRising entries → AreRising owner_of_jobs job_lists
 rise-same [] entries same rising = tt
-rise-same (ledger ∷ ledgers) [] same rising = absurd cc
-rise-same (ledger ∷ ledgers) (entry ∷ entries) same rising =
-    let first : ledger.0 ≡ entry.0 = cc in
-    let rest : numbers_of ledgers ≡ numbers_in entries = cc in
-    (above-same ledger.0 ledgers entries rest (rw first rising.0), rise-same ledgers entries rest rising.1)
+rise-same (job_list ∷ job_lists) [] same rising = absurd cc
+rise-same (job_list ∷ job_lists) (entry ∷ entries) same rising =
+    let first : job_list.0 ≡ entry.0 = cc in
+    let rest : numbers_of job_lists ≡ numbers_in entries = cc in
+    (above-same job_list.0 job_lists entries rest (rw first rising.0), rise-same job_lists entries rest rising.1)
 
-pub ledgers-rise : (parts : Parts) → IsStored parts → AreRising owner_of_ledger parts.ledgers
-ledgers-rise parts stored = rise-same parts.ledgers parts.book.accounts stored.ledgers stored.book.rising
+pub job_lists-rise : (parts : Parts) → IsStored parts → AreRising owner_of_jobs parts.job_lists
+job_lists-rise parts stored = rise-same parts.job_lists parts.book.accounts stored.job_lists stored.book.rising
 
 -- What is found in the core that a store stands for.
 
@@ -174,11 +174,11 @@ module _ (parts : Parts) (stored : IsStored parts) where
   pub named-found : (name : FrameId) → named (shared_of parts) name ≡ with_words parts (framed parts name)
   named-found name = grind (arith, named-frames, frames-found, frame_at-map_values)
 
-  -- its jobs are those of its ledger
+  -- its jobs are those of its list
 
-  pub jobs-found : (number : ℕ) → jobs_in (shared_of parts) number ≡ jobs_of parts.ledgers number
+  pub jobs-found : (number : ℕ) → jobs_in (shared_of parts) number ≡ jobs_of parts.job_lists number
   jobs-found number = ap jobs_kept (tenant-found parts number) ∙ elim (none-or-some (account_of number parts.book.accounts)) [
-    | inl none ↦ rw none (sym (said-lacks owner_of_ledger (λ (l : JobLedger). l.1) [] number parts.ledgers (no-ledger number parts.ledgers parts.book.accounts stored.ledgers none)))
+    | inl none ↦ rw none (sym (said-lacks owner_of_jobs (λ (l : JobListOf). l.1) [] number parts.job_lists (no-job_list number parts.job_lists parts.book.accounts stored.job_lists none)))
     | inr own ↦ rw own.1 refl
   ]
 

@@ -195,7 +195,7 @@ module _ (old : Parts) (nodes : Nodes) (trees : Trees) (book : Reservations) (nu
           serials = rw opens.frames (below-push (account.opened + 1) (account.opened + 1 + 1) frames added (omega arith) (omega arith) account_is.serials);
         };
         words = λ other differs. opened-others other;
-        ledgers = refl;
+        job_lists = refl;
         jobs = λ other differs. refl;
         places = λ worker m s frame is held. elim (added-cases old.trees trees added number opens.frames opens.kept account_is.serials m s) [
           | inl (same, at) ↦ absurd (

@@ -95,7 +95,7 @@ module _ (parts : Parts) (trees : Trees) (book : Reservations) (number freed : �
     charges = omega (arith, is.frees, is.sum, stored.charges);
     own = removed-own stored is;
     words = λ other differs. ap (with_words_of_nodes (without parts.nodes (closing parts.trees number keep))) (sym (is.cut.others other differs)) ∙ other-words parts trees book number freed keep stored is other differs;
-    ledgers = refl;
+    job_lists = refl;
     jobs = λ other differs. refl;
     places = cut-places parts.nodes parts.trees trees number keep stored.frames_nodes is.cut parts.places stored.places;
     newest = refl;
@@ -251,7 +251,7 @@ module _ (parts : Parts) (nodes : Nodes) (trees : Trees) (book : Reservations) (
       (stepped (with_frames change) stored step (ap (with-frames removal.account) frames))
     where
       with-frames : Account → List (Frame (List ℕ)) → Tenant
-      with-frames account frames = record { reserve = account.reserve; serials = account.opened; steps = account.ticks; jobs = jobs_of parts.ledgers name.tenant; frames = frames }
+      with-frames account frames = record { reserve = account.reserve; serials = account.opened; steps = account.ticks; jobs = jobs_of parts.job_lists name.tenant; frames = frames }
 
 -- the frames that an abort leaves
 abbrev pub stays : ℕ → Frame ℕ → Bool

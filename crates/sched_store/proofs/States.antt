@@ -231,7 +231,7 @@ module _ (old : Parts) (trees : Trees) (name : FrameId) (state : State) (frame :
           serials = rw sets.frames (AllBelow-alike (family old name) (with_state name.serial state (family old name)) (account.opened + 1) (with_state-alike name.serial state (family old name)) is.serials);
         });
         words = λ other differs. refl;
-        ledgers = refl;
+        job_lists = refl;
         jobs = λ other differs. refl;
         places = are;
         newest = refl;

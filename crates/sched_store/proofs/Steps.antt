@@ -5,11 +5,11 @@ use Rattle.sched_store.proofs.Common.{words_under, IsReadyIn, left_in_core, read
 use Rattle.sched_store.proofs.Common.{charged_for, frame_words, total_charge, Nodes, node_words, charge, cases_Bool, cases_eq, eqb-true, eqb-false, false≢true}
 use Rattle.sched_store.proofs.Common.{IsTree, Frame, names_of, ready_frames, IsReadyAt, frames_of, tenant_count, KeepsOtherFrames}
 use Rattle.sched_store.proofs.Common.{KeepsOtherTenants, Reservations, changed, IsSoundBook, ChangesOnly, left_in_book, Parts, with_words_of_nodes, tenant_from}
-use Rattle.sched_store.proofs.Common.{tenants_from, shared_of, jobs_of, numbers_of, JobLedger, owner_of_ledger, is_there, with_jobs, IsStored, IsAccountFor}
+use Rattle.sched_store.proofs.Common.{tenants_from, shared_of, jobs_of, numbers_of, JobListOf, owner_of_jobs, is_there, with_jobs, IsStored, IsAccountFor}
 use Rattle.sched_store.proofs.Common.{AreFramesNodes, ArePlaces, numbers_in, frame_in_trees, owner_of_account, account_of, with_changed}
 use Rattle.sched_store.proofs.Common.{charged_segments, AllEntries, IsRising, ticked, left_in}
 use Rattle.number_index.proofs.Edits.{with-same, said-with-own, said-with-other, length-with, all-with}
-use Rattle.sched_store.proofs.Lookups.{agrees-still, its-account, nobodys, within-reserve, Frames, Trees, tree_in, with_words, Owns, Entries, none-or-some, numbers-with, ledger-there, tenant-there, left-found, named-found, tenant-found}
+use Rattle.sched_store.proofs.Lookups.{agrees-still, its-account, nobodys, within-reserve, Frames, Trees, tree_in, with_words, Owns, Entries, none-or-some, numbers-with, job_list-there, tenant-there, left-found, named-found, tenant-found}
 use Rattle.sched_store.proofs.Common.{find_by_number, change_by_number}
 use Rattle.sched_store.proofs.Jobs.{found-changed}
 use Rattle.sched_rules.specs.Lone.{counted}
@@ -57,8 +57,8 @@ pub record TenantStep (old new : Parts) (number : ℕ) (f : Account → Account)
   pub charges : total_charge new.nodes ≡ charged_segments new.book.accounts
   pub own : IsAccountFor new.nodes new.trees number (f account)
   pub words : (other : ℕ) → other ≢ number → with_words_of_nodes new.nodes (frames_of old.trees other) ≡ tree_in old other
-  pub ledgers : numbers_of new.ledgers ≡ numbers_of old.ledgers
-  pub jobs : (other : ℕ) → other ≢ number → jobs_of new.ledgers other ≡ jobs_of old.ledgers other
+  pub job_lists : numbers_of new.job_lists ≡ numbers_of old.job_lists
+  pub jobs : (other : ℕ) → other ≢ number → jobs_of new.job_lists other ≡ jobs_of old.job_lists other
   pub places : ArePlaces new.trees new.places
   pub newest : new.newest ≡ old.newest
 
@@ -89,7 +89,7 @@ module _ (old new : Parts) (number : ℕ) where
         tenants = step.count ∙ stored.tenants ∙ sym (ap (λ (book : Reservations). length book.accounts) step.book ∙ length-with owner_of_account number (with_second f) old.book.accounts);
         charges = step.charges;
         segments = step.segments ∙ stored.segments ∙ sym (ap (λ (book : Reservations). book.segments) step.book);
-        ledgers = step.ledgers ∙ stored.ledgers ∙ sym (ap (λ (book : Reservations). numbers_in book.accounts) step.book ∙ numbers-with owner_of_account number (with_second f) old.book.accounts (λ e. refl));
+        job_lists = step.job_lists ∙ stored.job_lists ∙ sym (ap (λ (book : Reservations). numbers_in book.accounts) step.book ∙ numbers-with owner_of_account number (with_second f) old.book.accounts (λ e. refl));
         places = step.places;
         taken = rw (step.newest, step.book) (all-with (λ (e : ℕ × Account). e.0 ≤ old.newest) owner_of_account number (with_second f) old.book.accounts stored.taken (λ e le is. le));
         newest = rw step.newest stored.newest;
@@ -152,11 +152,11 @@ module _ (parts : Parts) (number : ℕ) where
   pub there-account-in : {core : CoreState} → shared_of parts ≡ core → IsSome (tenant_in core.tenants number) → (a : Account) × (Owns parts number a)
   there-account-in is there = there-account (subst (λ (s : CoreState). IsSome (tenant_in s.tenants number)) (sym is) there)
 
--- and so is its ledger
-pub has-ledger : (parts : Parts) (number : ℕ) {core : CoreState} → IsStored parts → shared_of parts ≡ core → IsSome (tenant_in core.tenants number) → is_there number parts.ledgers ≡ true
-has-ledger parts number stored is there =
+-- and so is its list of jobs
+pub has-job_list : (parts : Parts) (number : ℕ) {core : CoreState} → IsStored parts → shared_of parts ≡ core → IsSome (tenant_in core.tenants number) → is_there number parts.job_lists ≡ true
+has-job_list parts number stored is there =
     let own = there-account-in parts number is there in
-    ledger-there number parts.ledgers parts.book.accounts own.0 stored.ledgers own.1
+    job_list-there number parts.job_lists parts.book.accounts own.0 stored.job_lists own.1
 
 module _ (parts : Parts) (stored : IsStored parts) (number : ℕ) (P : Left → Type 0) (is : IsSomeAnd (left_in_core (shared_of parts) number) P) where
   -- what the book says it has left
@@ -170,10 +170,10 @@ module _ (parts : Parts) (stored : IsStored parts) (number : ℕ) (P : Left → 
   ]
 
 -- a step that leaves the trees and the nodes as they are
-steady-step : (old : Parts) (book : Reservations) (ledgers : List JobLedger) (number : ℕ) (change : Account → Account) (account : Account) → IsStored old → Owns old number account →
+steady-step : (old : Parts) (book : Reservations) (job_lists : List JobListOf) (number : ℕ) (change : Account → Account) (account : Account) → IsStored old → Owns old number account →
     IsSoundBook book → book ≡ changed old.book number change → charged_segments book.accounts ≡ charged_segments old.book.accounts → IsAccountFor old.nodes old.trees number (change account) →
-    numbers_of ledgers ≡ numbers_of old.ledgers → ((other : ℕ) → other ≢ number → jobs_of ledgers other ≡ jobs_of old.ledgers other) → TenantStep old (record old { book = book; ledgers = ledgers }) number change account
-steady-step old book ledgers number change account stored there sound is sum own numbers jobs = grind arith
+    numbers_of job_lists ≡ numbers_of old.job_lists → ((other : ℕ) → other ≢ number → jobs_of job_lists other ≡ jobs_of old.job_lists other) → TenantStep old (record old { book = book; job_lists = job_lists }) number change account
+steady-step old book job_lists number change account stored there sound is sum own numbers jobs = grind arith
 
 -- a step is counted
 module _ (old : Parts) (book : Reservations) (number : ℕ) (account : Account) (stored : IsStored old) (there : Owns old number account) (sound : IsSoundBook book) (changes : ChangesOnly old.book book number ticked) (sum : charged_segments book.accounts ≡ charged_segments old.book.accounts) where
@@ -185,33 +185,33 @@ module _ (old : Parts) (book : Reservations) (number : ℕ) (account : Account) 
 
 -- jobs begin and end
 
-jobs-with_jobs : (n : ℕ) (change : List Job → List Job) (ledgers : List JobLedger) → is_there n ledgers ≡ true → jobs_of (with_jobs n change ledgers) n ≡ change (jobs_of ledgers n)
-jobs-with_jobs n change ledgers there =
-    said-with-own owner_of_ledger (λ (l : JobLedger). l.1) [] change n (with_second change) ledgers (λ l own. own) (λ l. refl) (λ lacks. absurd (false≢true (sym lacks ∙ there)))
+jobs-with_jobs : (n : ℕ) (change : List Job → List Job) (job_lists : List JobListOf) → is_there n job_lists ≡ true → jobs_of (with_jobs n change job_lists) n ≡ change (jobs_of job_lists n)
+jobs-with_jobs n change job_lists there =
+    said-with-own owner_of_jobs (λ (l : JobListOf). l.1) [] change n (with_second change) job_lists (λ l own. own) (λ l. refl) (λ lacks. absurd (false≢true (sym lacks ∙ there)))
 
-jobs-other-with_jobs : (n m : ℕ) (change : List Job → List Job) (ledgers : List JobLedger) → m ≢ n → jobs_of (with_jobs n change ledgers) m ≡ jobs_of ledgers m
-jobs-other-with_jobs n m change ledgers differs = said-with-other owner_of_ledger (λ (l : JobLedger). l.1) [] m n (with_second change) ledgers (λ e. differs (sym e)) (λ l own. own)
+jobs-other-with_jobs : (n m : ℕ) (change : List Job → List Job) (job_lists : List JobListOf) → m ≢ n → jobs_of (with_jobs n change job_lists) m ≡ jobs_of job_lists m
+jobs-other-with_jobs n m change job_lists differs = said-with-other owner_of_jobs (λ (l : JobListOf). l.1) [] m n (with_second change) job_lists (λ e. differs (sym e)) (λ l own. own)
 
 -- the tenant with its jobs changed so
 abbrev pub jobs_changed : (List Job → List Job) → Tenant → Tenant
 jobs_changed change tenant = record tenant { jobs = change tenant.jobs }
 
--- the tenant's ledger is this now, which is that of the tenant with its jobs changed so
-abbrev pub JobsPut : Parts → ℕ → JobLedger → (List Job → List Job) → Type 0
-JobsPut old number changed change = Stepped old (record old { ledgers = change_by_number owner_of_ledger number (λ was. changed) old.ledgers }) number (jobs_changed change)
+-- the tenant's list of jobs is this now, which is that of the tenant with its jobs changed so
+abbrev pub JobsPut : Parts → ℕ → JobListOf → (List Job → List Job) → Type 0
+JobsPut old number changed change = Stepped old (record old { job_lists = change_by_number owner_of_jobs number (λ was. changed) old.job_lists }) number (jobs_changed change)
 
 -- a tenant's jobs change, and nothing else
 module _ (old : Parts) (number : ℕ) (account : Account) (change : List Job → List Job) (stored : IsStored old) (there : Owns old number account) where
-  jobs-step : TenantStep old (record old { ledgers = with_jobs number change old.ledgers }) number (λ a. a) account
+  jobs-step : TenantStep old (record old { job_lists = with_jobs number change old.job_lists }) number (λ a. a) account
   jobs-step =
-      steady-step old old.book (with_jobs number change old.ledgers) number (λ a. a) account stored there stored.book (changed-nothing old.book number) refl
-      (its-account old stored number account there) (numbers-with owner_of_ledger number (with_second change) old.ledgers (λ l. refl)) (λ other differs. jobs-other-with_jobs number other change old.ledgers differs)
+      steady-step old old.book (with_jobs number change old.job_lists) number (λ a. a) account stored there stored.book (changed-nothing old.book number) refl
+      (its-account old stored number account there) (numbers-with owner_of_jobs number (with_second change) old.job_lists (λ l. refl)) (λ other differs. jobs-other-with_jobs number other change old.job_lists differs)
 
-  -- where the ledger that was found was put back with its jobs changed
-  pub jobs-put : (ledger changed : JobLedger) → find_by_number owner_of_ledger number old.ledgers ≡ Some ledger → changed ≡ (ledger.0, change ledger.1) → JobsPut old number changed change
-  jobs-put ledger changed found is =
-      let jobs = jobs-with_jobs number change old.ledgers (ledger-there number old.ledgers old.book.accounts account stored.ledgers there) in
-      rw (found-changed number old.ledgers ledger changed change found is) (stepped (jobs_changed change) stored (jobs-step) (rw jobs refl))
+  -- where the list of jobs that was found was put back with its jobs changed
+  pub jobs-put : (job_list changed : JobListOf) → find_by_number owner_of_jobs number old.job_lists ≡ Some job_list → changed ≡ (job_list.0, change job_list.1) → JobsPut old number changed change
+  jobs-put job_list changed found is =
+      let jobs = jobs-with_jobs number change old.job_lists (job_list-there number old.job_lists old.book.accounts account stored.job_lists there) in
+      rw (found-changed number old.job_lists job_list changed change found is) (stepped (jobs_changed change) stored (jobs-step) (rw jobs refl))
 
 -- What is counted over a tenant's frames and over all tenants: words, and frames that are ready.
 

@@ -182,7 +182,7 @@ module _ (old : Parts) (nodes : Nodes) (name : FrameId) (frame : Frame ℕ) (wor
         own = grind arith;
         words = λ other differs. with_words_of_nodes-same old.nodes nodes (frames_of old.trees other)
             (each-frame old stored other (λ x. node_words nodes x.value ≡ node_words old.nodes x.value) (λ serial x at. other-frame other serial x at (λ both. differs both.0)));
-        ledgers = refl;
+        job_lists = refl;
         jobs = λ other differs. refl;
         places = stored.places;
         newest = refl;

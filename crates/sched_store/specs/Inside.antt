@@ -4,4 +4,4 @@ use Rattle.sched_store.specs.Parts.{Parts}
 
 -- the fields of a store but for the allocator
 abbrev pub parts_of : {A : Type 0} → Inside A → Parts
-parts_of s = record { nodes = s.stack; book = s.book; trees = s.table; ledgers = s.ledgers; places = s.places; newest = s.newest }
+parts_of s = record { nodes = s.stack; book = s.book; trees = s.table; job_lists = s.job_lists; places = s.places; newest = s.newest }

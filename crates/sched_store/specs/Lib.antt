@@ -1,4 +1,4 @@
-pub mod Ledgers
+pub mod JobLists
 pub mod Parts
 pub mod Stored
 pub mod Inside

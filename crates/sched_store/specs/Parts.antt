@@ -10,14 +10,14 @@ use Rattle.frame_tree.specs.TreeLaws.{map_values}
 use Rattle.frame_tree.specs.Tables.{frames_of}
 use Rattle.sched_rules.specs.Trees.{Tree, Tenant}
 use Rattle.sched_rules.specs.Cores.{CoreState}
-use Rattle.sched_store.specs.Ledgers.{JobLedger, jobs_of}
+use Rattle.sched_store.specs.JobLists.{JobListOf, jobs_of}
 
 -- what a store keeps: the stack's nodes, the book, the table of frames with their nodes, the jobs, for each worker the frame that it held last, and the greatest number of a tenant so far
 pub record Parts : Type 0 where
   pub nodes : Nodes
   pub book : Reservations
   pub trees : List (TenantTree ℕ)
-  pub ledgers : List JobLedger
+  pub job_lists : List JobListOf
   pub places : List (Option FrameId)
   pub newest : ℕ
 
@@ -27,7 +27,7 @@ with_words_of_nodes nodes frames = map_values (node_words nodes) frames
 
 -- the tenant of this number, by its account and the parts of the store
 abbrev pub tenant_from : Parts → ℕ → Account → Tenant
-tenant_from parts number account = record { reserve = account.reserve; serials = account.opened; steps = account.ticks; jobs = jobs_of parts.ledgers number; frames = with_words_of_nodes parts.nodes (frames_of parts.trees number) }
+tenant_from parts number account = record { reserve = account.reserve; serials = account.opened; steps = account.ticks; jobs = jobs_of parts.job_lists number; frames = with_words_of_nodes parts.nodes (frames_of parts.trees number) }
 
 -- the tenants of these accounts, by the parts of the store
 abbrev pub tenants_from : Parts → List (ℕ × Account) → List (ℕ × Tenant)

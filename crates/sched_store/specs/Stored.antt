@@ -9,7 +9,7 @@ use Rattle.frame_tree.specs.declared.names.FrameId.{FrameId}
 use Rattle.frame_tree.specs.Frames.{Frame, frame_at, parent_of, AllBelow, IsTree, TenantTree}
 use Rattle.frame_tree.specs.Tables.{frames_of, places_of, tenant_count}
 use Rattle.sched_rules.specs.Trees.{charged_for, is_held_by}
-use Rattle.sched_store.specs.Ledgers.{numbers_of, numbers_by}
+use Rattle.sched_store.specs.JobLists.{numbers_of, numbers_by}
 use Rattle.sched_store.specs.Parts.{Parts, with_words_of_nodes}
 
 -- the frame of this serial in the tree of the tenant of this number, if there is one
@@ -84,8 +84,8 @@ pub record IsStored (parts : Parts) : Type 0 where
   pub charges : total_charge parts.nodes ≡ charged_segments parts.book.accounts
   -- as many places for nodes as segments in the total
   pub segments : length parts.nodes ≡ parts.book.segments
-  -- a ledger for each account, in the same order
-  pub ledgers : numbers_of parts.ledgers ≡ numbers_in parts.book.accounts
+  -- a list of jobs for each account, in the same order
+  pub job_lists : numbers_of parts.job_lists ≡ numbers_in parts.book.accounts
   -- a worker that holds a frame has its name at its place
   pub places : ArePlaces parts.trees parts.places
   -- no tenant's number is above the greatest so far

@@ -9,7 +9,7 @@
 //! offer the tests.
 //!
 //! What makes it true (`specs/Stored.antt`): the book of reservations, the table of frames and the
-//! ledgers of jobs have the same tenants. Each frame of the table keeps the number of a node of the
+//! lists of jobs have the same tenants. Each frame of the table keeps the number of a node of the
 //! stack; each open node is the node of exactly one frame, and its parent is the node of the frame's
 //! parent. A tenant is charged for its frames, so what it has left is there; it has as many places for
 //! frames as segments, and each frame takes a segment at least, so there is a place for a frame
@@ -33,7 +33,7 @@
 //! ```
 #![tactic(auto)]
 
-mod ledger;
+mod job_list;
 mod store;
 
 pub use store::Store;

@@ -10,7 +10,7 @@ mod removing;
 mod tenants;
 mod writing;
 
-use crate::ledger::Ledger;
+use crate::job_list::JobList;
 use cactus_stack::{NodeNo, Stack};
 use frame_tree::{FrameId, FrameTable};
 use number_index::NumberedList;
@@ -22,7 +22,7 @@ use tenant_quota::Book;
 /// How many workers there are, and one place more: workers are numbered from 1.
 const PLACES: usize = 33;
 
-/// The tenants of a core, with their frames, jobs and what they have left. `ledgers` has the jobs of each tenant
+/// The tenants of a core, with their frames, jobs and what they have left. `job_lists` has the jobs of each tenant
 /// of the book, by rising number; `places` has, by a worker's number, the frame that the worker held last;
 /// `newest` is the greatest number of a tenant so far.
 pub struct Store<A: Allocator = Global> {
@@ -30,7 +30,7 @@ pub struct Store<A: Allocator = Global> {
     stack: Stack<A>,
     book: Book<A>,
     table: FrameTable<NodeNo, A>,
-    ledgers: NumberedList<Ledger<A>, A>,
+    job_lists: NumberedList<JobList<A>, A>,
     places: [Option<FrameId>; PLACES],
     newest: u64,
 }
@@ -58,7 +58,7 @@ impl<A: Allocator> Drop for Store<A> {
             stack: _stack,
             book: _book,
             table: _table,
-            ledgers: _ledgers,
+            job_lists: _job_lists,
             places: _,
             newest: _,
         } = self;
@@ -77,13 +77,13 @@ impl<A: Allocator> Store<A> {
         let stack = Stack::new(alloc.clone()?, segments as usize)?;
         let book = Book::new(alloc.clone()?, segments, config.nodes())?;
         let table = FrameTable::new(alloc.clone()?)?;
-        let ledgers = NumberedList::new(alloc.clone()?)?;
+        let job_lists = NumberedList::new(alloc.clone()?)?;
         Ok(Store {
             alloc,
             stack,
             book,
             table,
-            ledgers,
+            job_lists,
             places: [None; PLACES],
             newest: 0,
         })

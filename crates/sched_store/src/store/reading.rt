@@ -9,7 +9,7 @@ ghost use Rattle.sched_rules.specs.Headline.{AreNumbersGiven};
 ghost use Rattle.sched_rules.specs.Views.{left_in_core, job_of, named, frame_in_core, words_of_frame, live_of, newest_ready_in, ready_count, free_in};
 ghost use Rattle.sched_store.specs.Reads.{frames_in_core, jobs_in, serials_in, path_of, words_under, sight_of, is_busy_among, holds, AreTenantsRising, IsReadyIn};
 
-use crate::ledger::Ledger;
+use crate::job_list::JobList;
 use crate::store::Store;
 use cactus_stack::{Sight, Words};
 use frame_tree::{FrameId, State};
@@ -188,8 +188,8 @@ impl<A: Allocator> Store<A> {
     pub fn job(&self, tenant: u64, number: u64) -> Option<&Job>
         ensures { option_copied result ≡ job_of self.now tenant number }
     {
-        match self.ledger(tenant) {
-            Some(ledger) => ledger.job(number),
+        match self.job_list(tenant) {
+            Some(job_list) => job_list.job(number),
             None => None,
         }
     }
@@ -199,8 +199,8 @@ impl<A: Allocator> Store<A> {
         ensures count { result ≡ length (jobs_in self.now tenant) }
         ensures few { result ≤ 256 }
     {
-        match self.ledger(tenant) {
-            Some(ledger) => ledger.len(),
+        match self.job_list(tenant) {
+            Some(job_list) => job_list.len(),
             None => 0,
         }
     }
@@ -209,8 +209,8 @@ impl<A: Allocator> Store<A> {
     pub fn job_under(&self, tenant: u64, root: u64) -> usize
         ensures { result ≡ number_under root (jobs_in self.now tenant) }
     {
-        match self.ledger(tenant) {
-            Some(ledger) => ledger.under(root),
+        match self.job_list(tenant) {
+            Some(job_list) => job_list.under(root),
             None => 0,
         }
     }
@@ -253,11 +253,11 @@ impl<A: Allocator> Store<A> {
     }
 
     /// A tenant's jobs; None where it isn't there.
-    fn ledger(&self, tenant: u64) -> Option<&Ledger<A>>
-        ensures found { IfSome result (λ ledger. jobs_in self.now tenant ≡ ledger.now.1) }
+    fn job_list(&self, tenant: u64) -> Option<&JobList<A>>
+        ensures found { IfSome result (λ job_list. jobs_in self.now tenant ≡ job_list.now.1) }
         ensures none { IfNone result (jobs_in self.now tenant ≡ []) }
     {
-        self.ledgers.get(tenant)
+        self.job_lists.get(tenant)
     }
 
     /// Whether this frame is there, and this worker runs or computes it.

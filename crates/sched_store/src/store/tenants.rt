@@ -5,10 +5,10 @@ ghost use Rattle.sched_rules.specs.Lone.{counted};
 ghost use Rattle.sched_rules.specs.Cores.{tenant_in, reservations_in, reserved_by, is_beyond, is_full as is_full_for};
 ghost use Rattle.sched_rules.specs.Changes.{on_tenant, with_reserve, with_job, ending_job};
 ghost use Rattle.sched_store.specs.Changes.{with_admitted, with_departed};
-ghost use Rattle.sched_store.specs.Ledgers.{is_live};
+ghost use Rattle.sched_store.specs.JobLists.{is_live};
 ghost use Rattle.sched_store.specs.Reads.{jobs_in, TenantHasStepLeft, IsAboveOwn};
 
-use crate::ledger::Ledger;
+use crate::job_list::JobList;
 use crate::store::Store;
 use sched_rules::Job;
 use std::alloc::{AllocError, Allocator};
@@ -26,9 +26,9 @@ impl<A: Allocator> Store<A> {
         ensures ok { OnOk result (self.new ≡ with_admitted number reserve self.old) }
         ensures err { OnErr result (self.new ≡ self.old) }
     {
-        let ledger = Ledger::new(self.alloc.clone()?, number)?;
+        let job_list = JobList::new(self.alloc.clone()?, number)?;
         self.table.reserve(number, reserve.segments() as usize)?;
-        self.ledgers.insert(ledger);
+        self.job_lists.insert(job_list);
         self.newest = number;
         self.book.reserve(number, reserve).unwrap();
         Ok(())
@@ -57,7 +57,7 @@ impl<A: Allocator> Store<A> {
         let nodes = self.table.remove_all(tenant);
         self.stack.close_all(nodes);
         self.table.release(tenant);
-        self.ledgers.remove(tenant);
+        self.job_lists.remove(tenant);
         self.book.release(tenant);
     }
 
@@ -78,8 +78,8 @@ impl<A: Allocator> Store<A> {
         requires fresh { number_under root (jobs_in self.old tenant) ≡ 0 }
         ensures { self.new ≡ on_tenant tenant (with_job (Job.Live root)) self.old }
     {
-        let ledger = self.ledgers.get_mut(tenant);
-        ledger.begin(root);
+        let job_list = self.job_lists.get_mut(tenant);
+        job_list.begin(root);
     }
 
     /// Replaces the tenant's live job with this root, if there is one, by `ended`, which says how it ended. The
@@ -89,7 +89,7 @@ impl<A: Allocator> Store<A> {
         requires ended { is_live ended ≡ false }
         ensures { self.new ≡ on_tenant tenant (ending_job root ended) self.old }
     {
-        let ledger = self.ledgers.get_mut(tenant);
-        ledger.end(root, ended);
+        let job_list = self.job_lists.get_mut(tenant);
+        job_list.end(root, ended);
     }
 }

@@ -1,5 +1,5 @@
-use Rattle.sched_store.proofs.Common.{List, ap, ◌∙◌, arith, with_admitted, parts_of, JobLedger, shared_of}
-use Rattle.sched_store.proofs.Lookups.{ledgers-rise}
+use Rattle.sched_store.proofs.Common.{List, ap, ◌∙◌, arith, with_admitted, parts_of, JobListOf, shared_of}
+use Rattle.sched_store.proofs.Lookups.{job_lists-rise}
 use Rattle.sched_store.proofs.Admitting.{CanBeAdmitted, can-be-admitted, IsAdmitted, admit-stored, admit-shared}
 use Rattle.sched_store.proofs.store.Store.admit.Goals.{After-segments, After-unwrap}
 use Rattle.sched_store.proofs.store.Store.admit.Goals as goal
@@ -9,7 +9,7 @@ can : (g : _) (c : After-segments g) → CanBeAdmitted (parts_of c.self.inside) 
 can g c = can-be-admitted _ _ _ c.self.invariant c.self.view_is c.requires.above c.requires.room
 
 -- what the table and the book told
-told : (g : _) (c : After-unwrap g) → IsAdmitted (parts_of c.self.inside) c.reserve.new.self c.in_ok-ledger.ledger c.reserve-2.new.self c.args.number c.args.reserve
+told : (g : _) (c : After-unwrap g) → IsAdmitted (parts_of c.self.inside) c.reserve.new.self c.in_ok-job_list.job_list c.reserve-2.new.self c.args.number c.args.reserve
 told g c =
     let able = can-be-admitted (parts_of c.self.inside) c.args.number c.args.reserve c.self.invariant c.self.view_is c.requires.above c.requires.room in
     let table = c.in_ok-reserve.ensures in
@@ -20,7 +20,7 @@ told g c =
       frames = table.frames ∙ table.none able.no_places;
       kept = table.kept;
       count = table.one_more able.no_places;
-      ledger_is = c.in_ok-ledger.ensures;
+      job_list_is = c.in_ok-job_list.ensures;
       admits = rw c.unwrap.ensures at c.reserve-2.ensures.admits;
       others = c.reserve-2.ensures.others;
       sound = c.reserve-2.ensures.sound;
@@ -34,8 +34,8 @@ reserve-requires-clause-free g c = λ none. (can g (goal.at.reserve-requires-cla
 
 pub insert-requires : goal.insert-requires
 insert-requires g c = record {
-  rising = ledgers-rise (parts_of c.self.inside) c.self.invariant;
-  room = (can g (goal.at.insert-requires g c).After-segments).few_ledgers;
+  rising = job_lists-rise (parts_of c.self.inside) c.self.invariant;
+  room = (can g (goal.at.insert-requires g c).After-segments).few_job_lists;
 }
 
 pub reserve-requires-2 : goal.reserve-requires-2
@@ -49,6 +49,6 @@ invariant_of-self-2 g c = rw c.insert.ensures (admit-stored _ _ _ _ _ _ c.self.i
 
 pub returns-clause-ok : goal.returns-clause-ok
 returns-clause-ok g c =
-    ap (λ (ls : List JobLedger). shared_of (record (parts_of c.self.inside) { book = c.reserve-2.new.self; trees = c.reserve.new.self; ledgers = ls; newest = c.args.number })) c.insert.ensures
+    ap (λ (ls : List JobListOf). shared_of (record (parts_of c.self.inside) { book = c.reserve-2.new.self; trees = c.reserve.new.self; job_lists = ls; newest = c.args.number })) c.insert.ensures
     ∙ admit-shared _ _ _ _ _ _ c.self.invariant (told g (goal.at.returns-clause-ok g c).After-unwrap)
     ∙ ap (with_admitted c.args.number c.args.reserve) c.self.view_is

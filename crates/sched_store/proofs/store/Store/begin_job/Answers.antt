@@ -1,25 +1,25 @@
 use Rattle.sched_store.proofs.Common.{◌++◌, ◌∷◌, [], ◌∙◌, Live, parts_of}
-use Rattle.sched_store.proofs.Jobs.{jobs-found as ledger-jobs}
-use Rattle.sched_store.proofs.Lookups.{jobs-found, ledgers-rise}
-use Rattle.sched_store.proofs.Steps.{JobsPut, there-account-in, has-ledger, jobs-put}
+use Rattle.sched_store.proofs.Jobs.{jobs-found as job_list-jobs}
+use Rattle.sched_store.proofs.Lookups.{jobs-found, job_lists-rise}
+use Rattle.sched_store.proofs.Steps.{JobsPut, there-account-in, has-job_list, jobs-put}
 use Rattle.sched_store.proofs.store.Store.begin_job.Goals.{After-begin}
 use Rattle.sched_store.proofs.store.Store.begin_job.Goals as goal
 
--- the ledger that was found has the jobs
+-- the list of jobs that was found has the jobs
 put : (g : _) (c : After-begin g) → JobsPut (parts_of c.self.inside) c.args.tenant c.begin.new.self (λ jobs. jobs ++ Live c.args.root ∷ [])
 put g c =
     let own = there-account-in (parts_of c.self.inside) c.args.tenant c.self.view_is c.requires.there in
-    jobs-put (parts_of c.self.inside) c.args.tenant own.0 (λ jobs. jobs ++ Live c.args.root ∷ []) c.self.invariant own.1 c.get_mut-ledger.result.now c.begin.new.self c.get_mut-ledger.ensures.value c.begin.ensures
+    jobs-put (parts_of c.self.inside) c.args.tenant own.0 (λ jobs. jobs ++ Live c.args.root ∷ []) c.self.invariant own.1 c.get_mut-job_list.result.now c.begin.new.self c.get_mut-job_list.ensures.value c.begin.ensures
 
-pub get_mut-ledger-requires : goal.get_mut-ledger-requires
-get_mut-ledger-requires g c = record {
-  rising = ledgers-rise (parts_of c.self.inside) c.self.invariant;
-  there = has-ledger (parts_of c.self.inside) c.args.tenant c.self.invariant c.self.view_is c.requires.there;
+pub get_mut-job_list-requires : goal.get_mut-job_list-requires
+get_mut-job_list-requires g c = record {
+  rising = job_lists-rise (parts_of c.self.inside) c.self.invariant;
+  there = has-job_list (parts_of c.self.inside) c.args.tenant c.self.invariant c.self.view_is c.requires.there;
 }
 
 pub begin-requires : goal.begin-requires
 begin-requires g c =
-    let found = jobs-found (parts_of c.self.inside) c.self.invariant c.args.tenant ∙ ledger-jobs c.args.tenant c.self.inside.ledgers c.get_mut-ledger.result.now c.get_mut-ledger.ensures.value in
+    let found = jobs-found (parts_of c.self.inside) c.self.invariant c.args.tenant ∙ job_list-jobs c.args.tenant c.self.inside.job_lists c.get_mut-job_list.result.now c.get_mut-job_list.ensures.value in
     record { room = rw found at (rw (← c.self.view_is) at c.requires.room); fresh = rw found at (rw (← c.self.view_is) at c.requires.fresh) }
 
 pub invariant_of-self : goal.invariant_of-self

@@ -1,19 +1,19 @@
 use Rattle.sched_store.proofs.Common.{with_ended, parts_of}
-use Rattle.sched_store.proofs.Lookups.{ledgers-rise}
-use Rattle.sched_store.proofs.Steps.{JobsPut, there-account-in, has-ledger, jobs-put}
+use Rattle.sched_store.proofs.Lookups.{job_lists-rise}
+use Rattle.sched_store.proofs.Steps.{JobsPut, there-account-in, has-job_list, jobs-put}
 use Rattle.sched_store.proofs.store.Store.end_job.Goals.{After-end}
 use Rattle.sched_store.proofs.store.Store.end_job.Goals as goal
 
--- the ledger that was found has the jobs
+-- the list of jobs that was found has the jobs
 put : (g : _) (c : After-end g) → JobsPut (parts_of c.self.inside) c.args.tenant c.end.new.self (with_ended c.args.root c.args.ended)
 put g c =
     let own = there-account-in (parts_of c.self.inside) c.args.tenant c.self.view_is c.requires.there in
-    jobs-put (parts_of c.self.inside) c.args.tenant own.0 (with_ended c.args.root c.args.ended) c.self.invariant own.1 c.get_mut-ledger.result.now c.end.new.self c.get_mut-ledger.ensures.value c.end.ensures
+    jobs-put (parts_of c.self.inside) c.args.tenant own.0 (with_ended c.args.root c.args.ended) c.self.invariant own.1 c.get_mut-job_list.result.now c.end.new.self c.get_mut-job_list.ensures.value c.end.ensures
 
-pub get_mut-ledger-requires : goal.get_mut-ledger-requires
-get_mut-ledger-requires g c = record {
-  rising = ledgers-rise (parts_of c.self.inside) c.self.invariant;
-  there = has-ledger (parts_of c.self.inside) c.args.tenant c.self.invariant c.self.view_is c.requires.there;
+pub get_mut-job_list-requires : goal.get_mut-job_list-requires
+get_mut-job_list-requires g c = record {
+  rising = job_lists-rise (parts_of c.self.inside) c.self.invariant;
+  there = has-job_list (parts_of c.self.inside) c.args.tenant c.self.invariant c.self.view_is c.requires.there;
 }
 
 pub invariant_of-self : goal.invariant_of-self

@@ -1,11 +1,11 @@
 use Rattle.sched_store.proofs.Common.{IfSome, Option, refl, ap, ◌∙◌, subst, Releases, Account, with_departed, parts_of}
-use Rattle.sched_store.proofs.Steps.{there-account-in, has-ledger}
-use Rattle.sched_store.proofs.Lookups.{ledgers-rise}
+use Rattle.sched_store.proofs.Steps.{there-account-in, has-job_list}
+use Rattle.sched_store.proofs.Lookups.{job_lists-rise}
 use Rattle.sched_store.proofs.LeaveTenant.{has-places, leave-closes, IsDeparture, leave-stored, leave-shared}
 use Rattle.sched_store.proofs.store.Store.leave.Goals.{After-release-2}
 use Rattle.sched_store.proofs.store.Store.leave.Goals as goal
 
--- what the table, the stack, the ledgers and the book told
+-- what the table, the stack, the lists of jobs and the book told
 told : (g : _) (c : After-release-2 g) → (a : Account) × IsDeparture (parts_of c.self.inside) c.close_all.new.self c.release.new.self c.remove.new.self c.release-2.new.self c.args.tenant c.remove_all-nodes.result.now a
 told g c =
     let a = there-account-in (parts_of c.self.inside) c.args.tenant c.self.view_is c.requires in
@@ -44,8 +44,8 @@ release-requires-clause-there g c =
 
 pub remove-requires : goal.remove-requires
 remove-requires g c = record {
-  rising = ledgers-rise (parts_of c.self.inside) c.self.invariant;
-  there = has-ledger (parts_of c.self.inside) c.args.tenant c.self.invariant c.self.view_is c.requires;
+  rising = job_lists-rise (parts_of c.self.inside) c.self.invariant;
+  there = has-job_list (parts_of c.self.inside) c.args.tenant c.self.invariant c.self.view_is c.requires;
 }
 
 pub release-requires-2 : goal.release-requires-2

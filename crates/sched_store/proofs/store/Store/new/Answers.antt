@@ -3,7 +3,7 @@ use Rattle.sched_store.proofs.store.Store.new.Goals as goal
 
 pub invariant_of-result : goal.invariant_of-result
 invariant_of-result g c =
-    new-stored c.in_ok-stack.stack c.in_ok-table.table c.in_ok-ledgers.ledgers c.in_ok-book.book _ c.segments-segments.result c.nodes.result
+    new-stored c.in_ok-stack.stack c.in_ok-table.table c.in_ok-job_lists.job_lists c.in_ok-book.book _ c.segments-segments.result c.nodes.result
     (record {
       stack = c.in_ok-stack.ensures;
       empty = c.in_ok-book.ensures.empty;
@@ -11,5 +11,5 @@ invariant_of-result g c =
       count = c.in_ok-table.ensures.count;
       frames = c.in_ok-table.ensures.frames;
       places = c.in_ok-table.ensures.places;
-      jobs = c.in_ok-ledgers.ensures;
+      jobs = c.in_ok-job_lists.ensures;
     })

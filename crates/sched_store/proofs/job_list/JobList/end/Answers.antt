@@ -1,6 +1,6 @@
 use Rattle.sched_store.proofs.Common.{◌-◌, arith, ap, sym, length-set}
 use Rattle.sched_store.proofs.Jobs.{Jobs, once-ended, ended-one, ended-nobody}
-use Rattle.sched_store.proofs.ledger.Ledger.end.Goals as goal
+use Rattle.sched_store.proofs.job_list.JobList.end.Goals as goal
 
 pub invariant_of-self : goal.invariant_of-self
 invariant_of-self g c = (

@@ -1,5 +1,5 @@
 use Rattle.sched_store.proofs.Common.{◌≡◌, false, drop, is_live_in}
-use Rattle.sched_store.proofs.ledger.Ledger.under.Given as goal
+use Rattle.sched_store.proofs.job_list.JobList.under.Given as goal
 
 abbrev pub invariant-loop-at : goal.invariant-loop-at
 invariant-loop-at g l = is_live_in l.root (drop l.at l.self-inside.jobs.items) ≡ false

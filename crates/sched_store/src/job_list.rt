@@ -1,7 +1,7 @@
 //! The jobs of one tenant.
 ghost use Rattle.std.specs.Prelude.{◌≡◌, ◌+◌, ◌<◌, ◌≤◌, ℕ, List, [], ◌∷◌, ◌++◌, false, length, IfOk, option_copied};
 ghost use Rattle.sched_rules.specs.Trees.{is_live_at, job_at, job_under, with_ended};
-ghost use Rattle.sched_store.specs.Ledgers.{is_live};
+ghost use Rattle.sched_store.specs.JobLists.{is_live};
 
 use number_index::Numbered;
 use sched_rules::Job;
@@ -13,17 +13,17 @@ pub(crate) const JOBS: usize = 256;
 
 /// A tenant's number and its jobs, job 1 first. Memory for all 256 was taken when it was made.
 #[derive(Drop)]
-pub(crate) struct Ledger<A: Allocator = Global> {
+pub(crate) struct JobList<A: Allocator = Global> {
     number: u64,
     jobs: Vec<Job, A>,
 }
 
 // Clauses see the tenant's number and the list of its jobs.
-impl<A: Allocator> Model for Ledger<A> {
+impl<A: Allocator> Model for JobList<A> {
     ghost use Rattle.std.specs.Prelude.{ℕ, ◌≤◌, List, length};
     ghost use Rattle.std.specs.Vec.{vec_capacity};
     ghost use Rattle.sched_rules.specs.declared.job.Job.{Job as JobOf};
-    ghost use Rattle.sched_store.specs.Ledgers.{AreLiveOnce};
+    ghost use Rattle.sched_store.specs.JobLists.{AreLiveOnce};
 
     ghost Value = { ℕ × List JobOf };
 
@@ -32,10 +32,10 @@ impl<A: Allocator> Model for Ledger<A> {
     ghost invariant = { λ l. (256 ≤ vec_capacity l.jobs) × (length l.jobs.items ≤ 256) × AreLiveOnce l.jobs.items };
 }
 
-impl<A: Allocator> Numbered for Ledger<A> {
-    ghost use Rattle.sched_store.specs.Ledgers.{owner_of_ledger};
+impl<A: Allocator> Numbered for JobList<A> {
+    ghost use Rattle.sched_store.specs.JobLists.{owner_of_jobs};
 
-    ghost number_of = { owner_of_ledger };
+    ghost number_of = { owner_of_jobs };
 
     #[inline(always)]
     fn number(&self) -> u64 {
@@ -43,14 +43,14 @@ impl<A: Allocator> Numbered for Ledger<A> {
     }
 }
 
-impl<A: Allocator> Ledger<A> {
-    /// The ledger of a tenant that has no job yet. Takes memory for 256 jobs: `AllocError` only where it is
+impl<A: Allocator> JobList<A> {
+    /// The list of jobs of a tenant that has no job yet. Takes memory for 256 jobs: `AllocError` only where it is
     /// refused.
-    pub(crate) fn new(alloc: A, number: u64) -> Result<Ledger<A>, AllocError>
-        ensures { IfOk result (λ ledger. ledger ≡ (number, [])) }
+    pub(crate) fn new(alloc: A, number: u64) -> Result<JobList<A>, AllocError>
+        ensures { IfOk result (λ job_list. job_list ≡ (number, [])) }
     {
         let jobs = Vec::with_capacity(alloc, JOBS)?;
-        Ok(Ledger { number, jobs })
+        Ok(JobList { number, jobs })
     }
 
     /// How many jobs it has.

@@ -6,16 +6,16 @@ use Rattle.sched_rules.specs.declared.job.Job.TheVariants.{Live, Done, Spent, Ca
 use Rattle.sched_rules.specs.Trees.{is_live_at}
 
 -- a tenant's number, and its jobs from number 1 on
-abbrev pub JobLedger : Type 0
-JobLedger = ℕ × List Job
+abbrev pub JobListOf : Type 0
+JobListOf = ℕ × List Job
 
--- the number of a ledger's tenant
-abbrev pub owner_of_ledger : JobLedger → ℕ
-owner_of_ledger ledger = ledger.0
+-- the number of a list's tenant
+abbrev pub owner_of_jobs : JobListOf → ℕ
+owner_of_jobs job_list = job_list.0
 
 -- the jobs of the tenant of this number; none where it isn't there
-abbrev pub jobs_of : List JobLedger → ℕ → List Job
-jobs_of ledgers number = read_by_number owner_of_ledger (λ ledger. ledger.1) [] number ledgers
+abbrev pub jobs_of : List JobListOf → ℕ → List Job
+jobs_of job_lists number = read_by_number owner_of_jobs (λ job_list. job_list.1) [] number job_lists
 
 -- the numbers of things, in their order
 abbrev pub numbers_by : {X : Type 0} → (X → ℕ) → List X → List ℕ
@@ -23,12 +23,12 @@ numbers_by number_of [] = []
 numbers_by number_of (x ∷ xs) = number_of x ∷ numbers_by number_of xs
 
 -- the tenants' numbers
-abbrev pub numbers_of : List JobLedger → List ℕ
-numbers_of ledgers = numbers_by owner_of_ledger ledgers
+abbrev pub numbers_of : List JobListOf → List ℕ
+numbers_of job_lists = numbers_by owner_of_jobs job_lists
 
 -- whether the tenant of this number is there
-abbrev pub is_there : ℕ → List JobLedger → Bool
-is_there number ledgers = has_by_number owner_of_ledger number ledgers
+abbrev pub is_there : ℕ → List JobListOf → Bool
+is_there number job_lists = has_by_number owner_of_jobs number job_lists
 
 -- whether a job lives
 abbrev pub is_live : Job → Bool
@@ -47,10 +47,10 @@ abbrev pub AreLiveOnce : List Job → Type 0
 AreLiveOnce [] = Unit {0}
 AreLiveOnce (job ∷ jobs) = ((root : ℕ) → is_live_at root job ≡ true → is_live_in root jobs ≡ false) × AreLiveOnce jobs
 
--- the ledgers, the jobs of the tenant of this number changed by change
-abbrev pub with_jobs : ℕ → (List Job → List Job) → List JobLedger → List JobLedger
-with_jobs number change ledgers = change_by_number owner_of_ledger number (λ ledger. (ledger.0, change ledger.1)) ledgers
+-- the lists of jobs, the jobs of the tenant of this number changed by change
+abbrev pub with_jobs : ℕ → (List Job → List Job) → List JobListOf → List JobListOf
+with_jobs number change job_lists = change_by_number owner_of_jobs number (λ job_list. (job_list.0, change job_list.1)) job_lists
 
--- the ledgers without that of the tenant of this number
-abbrev pub without_ledger : ℕ → List JobLedger → List JobLedger
-without_ledger number ledgers = remove_by_number owner_of_ledger number ledgers
+-- the lists of jobs without that of the tenant of this number
+abbrev pub without_jobs : ℕ → List JobListOf → List JobListOf
+without_jobs number job_lists = remove_by_number owner_of_jobs number job_lists
