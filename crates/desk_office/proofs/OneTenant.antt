@@ -128,6 +128,7 @@ module _ (begun : HallOf) where
   turn-seated line lines replies from to last again (Tabulates job) is h = grind (arith, stays-seated, one-more)
   turn-seated line lines replies from to last again Ends is h = ([], tt, ap (λ (ls : List LineText). (Leave, Gone) ∷ calls_in false (turns false ls replies)) (last.0 (ends-is_bye line is)))
 
+  -- lines read while one is there: it leaves by the last of their calls
   while-seated : (lines : List LineText) (replies : List OfficeReply) (from to : OfficeOf) → EndsAtBye lines → Led from (calls_in true (turns true lines replies)) to → AreSeated (calls_in true (turns true lines replies))
   while-seated [] replies from to last h = ([], tt, refl)
   while-seated (line ∷ lines) replies from to last h = turn-seated line lines replies from to last (λ rs next more. while-seated lines rs next to last.1 more) (request true line) refl h
@@ -212,6 +213,7 @@ module _ (begun : HallOf) where
           subst Q (sym seated) (one-refused quota reply refused.1 from h.0 to (calls_in false (turns false lines later)) refused.2 refused.0 (again later h.0 nobody (subst P seated h.2)))
   turn-before line lines replies from to last none again _ is h = absurd (subst IsEarly is (early line))
 
+  -- lines read while no tenant is there: by the calls that they make at most one comes (Comes), and leaves by the last
   before-hello : (lines : List LineText) (replies : List OfficeReply) (from to : OfficeOf) → EndsAtBye lines → from.seat ≡ None → Led from (calls_in false (turns false lines replies)) to → Comes from (calls_in false (turns false lines replies)) to
   before-hello [] replies from to last none h = inl (tt, ap (λ (o : OfficeOf). o.knew) (sym h))
   before-hello (line ∷ lines) replies from to last none h = turn-before line lines replies from to last none (λ rs next nobody more. before-hello lines rs next to last.1 nobody more) (request false line) refl h

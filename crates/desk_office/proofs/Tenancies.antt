@@ -3,6 +3,7 @@ use Rattle.desk_office.proofs.Common.{◌≡◌, ℕ, ◌+◌, ◌==◌, List, [
 use Rattle.sched_rules.specs.declared.step.StepOf.TheVariants.{Cancel as CancelStep, Leave as LeaveStep}
 use Rattle.desk_office.proofs.Histories.{adds-none, all-mine, all-own, moment, own-more, seat-more, steps-more, AllGo, Goes, IsAtMoment, Step}
 use Rattle.desk_office.proofs.Answered.{ask-at-once, ask-refused, ask-taken, cancel-at-once, cancel-refused, cancel-taken, live-at, reserve-refused, reserve-taken, rest-at, root_of, told-at}
+use Rattle.hall.proofs.Halls.{searches-push}
 
 -- ---- beginnings
 
@@ -33,10 +34,6 @@ record SeatHolds (seat : SeatOf) : Type 0 where
 go-more : (steps : List Step) (step : Step) → AllGo steps → Goes step → AllGo (steps ++ step ∷ [])
 go-more [] step all one = (one, tt)
 go-more (s ∷ steps) step all one = (all.0, go-more steps step all.1 one)
-
-searches-more : (steps : List Step) (step : Step) → AreSearches steps → IsSearch step → AreSearches (steps ++ step ∷ [])
-searches-more [] step all one = (one, tt)
-searches-more (s ∷ steps) step all one = (all.0, searches-more steps step all.1 one)
 
 origins-more : (steps : List Step) (step : Step) → origins_of (steps ++ step ∷ []) ≡ origins_of steps ++ submits step
 origins-more [] step = append-nil (submits step)
@@ -75,7 +72,7 @@ by-taken begun from next first words step call reply now is to board asks t take
     let more : now.known.mine ≡ Admit first.tenant is.quota ∷ (is.later ++ step ∷ []) = k.3 ∙ ap (λ (l : List Step). l ++ step ∷ []) is.first in
     let origins : origins_of (is.later ++ step ∷ []) ≡ map root_of (asked_after first.asked words call) = origins-more is.later step ∙ ap (λ (l : List (List ℕ)). l ++ submits step) is.asked ∙ sym asked in
     let seated : SeatHolds (record { tenant = first.tenant; share = first.share + 1; asked = asked_after first.asked words call; known = now.known }) =
-    record { whose = took-whose first.known now.known step k; quota = is.quota; later = is.later ++ step ∷ []; first = more; go = go-more is.later step is.go goes; searches = searches-more is.later step is.searches search; asked = origins } in
+    record { whose = took-whose first.known now.known step k; quota = is.quota; later = is.later ++ step ∷ []; first = more; go = go-more is.later step is.go goes; searches = searches-push is.later step is.searches search; asked = origins } in
     record {
       now = now;
       seat = ap (λ (o : OfficeOf). o.seat) to;

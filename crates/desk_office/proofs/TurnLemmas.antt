@@ -13,6 +13,8 @@ turn begun from call reply before after is one keeps = grind arith
 no_words : Board
 no_words = record { own = 0; opp = 0; disjoint = refl }
 
+-- The step by which a call comes (IsStepBy), from what the desk's contract says of the call.
+
 -- the seat reserves more
 reserve-step : (begun : HallOf) (before after : SeatOf) (quota : Quota) (answer : Result (Unit {0}) Refusal) → MatchResult answer (λ _. after ≡ stepped after.known before) (λ _. after ≡ seeing after.known before) →
     IsToldOf begun before.known (AdmitMore before.tenant quota) answer after.known → IsStepBy begun before (Reserve quota) (reply_of (λ _. Reserved quota) answer) after

@@ -1,6 +1,6 @@
 -- Who has a lead is picked after the others have caught up.
 use Rattle.fair_pool.proofs.Common.{◌≡◌, ◌≢◌, ℕ, zero, suc, ◌+◌, ◌-◌, ◌*◌, ◌<◌, ◌≤◌, Bool, true, false, List, [], ◌∷◌, length, set, sym, ◌∙◌, refl, ap, subst, arith, cond, count_by, sum_by, nat_lt, nat_eq, eqb-false, eqb-true, get_or-set_same, sum_by-cons, ShareAccount, free_account, is_active, is_rival, is_before, capped_sum, account_charged, woken_from, rested, LineOf, IsNextAccount, account_at, floor_of, charged, LineEvent, Comes, Wakes, Rests, Serves, Picks, line_after, place_in, IsFair, Waits, picks_in, arrivals_in, is_member, IsLed}
-use Rattle.fair_pool.proofs.WaitLemmas.{one, line_woken, sum-set, sum-one, other-at, any-at, floor-least, picks-cons}
+use Rattle.fair_pool.proofs.WaitLemmas.{one, line_woken, not-before, sum-set, sum-one, other-at, any-at, floor-least, picks-cons}
 
 -- how often another may still be picked before
 abbrev weight : ℕ → ℕ → ShareAccount → ShareAccount → ℕ
@@ -51,9 +51,6 @@ named-member group y active named = grind arith
 
 rival-active : (group : ℕ) (y : ShareAccount) → is_rival group y ≡ true → is_active y ≡ true
 rival-active group y rival = grind arith
-
-not-before : (a b : ShareAccount) → is_before a b ≡ false → b.served ≤ a.served
-not-before a b is = grind arith
 
 rests-named : (y : ShareAccount) → is_active (rested y) ≡ true → (rested y).name ≢ 0
 rests-named y active = grind arith

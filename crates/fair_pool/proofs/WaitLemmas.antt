@@ -17,6 +17,7 @@ few-tasks many since (Picks place amount ∷ events) each less = omega (arith, f
 charged-behind : (a b : ShareAccount) (amount : ℕ) → 0 < amount → a.served < 18446744073709551615 → a.served ≤ b.served → is_before a (account_charged amount b) ≡ true
 charged-behind a b amount some few least = grind arith
 
+-- who isn't before another has been served as much at least
 pub not-before : (a b : ShareAccount) → is_before a b ≡ false → b.served ≤ a.served
 not-before a b is = grind arith
 

@@ -1,5 +1,5 @@
 -- Representation: small lines, and shares in which something happened.
-use Rattle.std.specs.Prelude.{ℕ, true, List, [], ◌∷◌}
+use Rattle.std.specs.Prelude.{ℕ, true, [], ◌∷◌}
 use Rattle.fair_pool.specs.declared.account.ShareAccount.{ShareAccount}
 use Rattle.fair_pool.specs.Lines.{LineOf}
 use Rattle.fair_pool.specs.Shares.{SharesOf, new_shares, tenant_entered, tenant_seen, served_all}
@@ -11,11 +11,6 @@ account name group served since = record { name = name; group = group; served = 
 -- served 10; in group 1 one active that was served nothing
 abbrev pub four : LineOf
 four = record { accounts = account 1 0 50 3 ∷ account 2 0 50 2 ∷ account 3 0 10 0 ∷ account 4 1 0 1 ∷ []; turn = 4 }
-
--- what each was served
-abbrev pub counts : List ShareAccount → List ℕ
-counts [] = []
-counts (account ∷ accounts) = account.served ∷ counts accounts
 
 -- customer 0 has two tenants in a network and customer 1 one; all have something to be done
 abbrev pub three : SharesOf
