@@ -1,7 +1,7 @@
 -- What a hall keeps, over an admission, a Leave, and any other step that was taken.
-use Rattle.hall.proofs.Common.{◌≡◌, ◌≢◌, ℕ, ◌+◌, ◌*◌, ◌^◌, ◌<◌, ◌≤◌, Bool, true, false, ◌||◌, eqb, List, [], ◌∷◌, ◌++◌, length, Option, Some, None, Result, Ok, Err, refl, ap, sym, ◌∙◌, subst, arith, inl, inr, length-append, ◌==◌, nat_le, nat_lt, OnOk, cases_Bool, eqb-true, eqb-false, eq-eqb, true≢false, nat_tests, Quota, IsWithinLimits, Refusal, NoTenant, OldTenant, BadAct, Full, Lower, StepOf, Admit, AdmitMore, Leave, DidOf, Left, Functions, Job, Tenant, admitted_with, job_at, step-ended, IsOfSearches, tenant-none-bad, Outcome, unless, refusal_in, lone, lone_step, is_lower, tenant_of, CoreState, tenant_in, step_result, unless_beyond, shared_by_nobody, shared_refusal, newest_after, IsOneStep, AreNumbersGiven, IsAnswerTo, step-taken, shared-after-taken, there, more-there, tenant_in-with_outcome, one-step, Leaf, LeafAnswer, jamboree, IsSearch, AreSearches, job_of, origins_of, submits, TenantSearches, ServesSearches, origin_at, IsOutcomeIn, AnswersTo, IsJournalOf, journal-searches, journal-goes-on, journal-begins, others-stay, serial_in, is_long_step, long_steps, AreRising, all-push, all-with, all-without, said-lacks, said-with-other, said-without-own, said-without-other, rising-with, rising-without, length-with, length-without, JournalOf, journal_in, places_in, longs_in, owner_of_journal, has_journal, with_step, without_journal, total_length, places_for, places_with, longs_for, longs_with, raise_in, raise_count, reserved_in, admitted_journal, journals_after, gone_by, is_appended, longer, AreUpTo, IsBegun, AreBegun, HallOf, empty_hall, hall_after, Explains, IsExplained, IsHall, lets_go, KeepsEndedJobs}
+use Rattle.hall.proofs.Common.{◌≡◌, ◌≢◌, ℕ, ◌+◌, ◌*◌, ◌^◌, ◌<◌, ◌≤◌, Bool, true, false, ◌||◌, eqb, List, [], ◌∷◌, ◌++◌, length, Option, Some, None, Result, Ok, Err, refl, ap, sym, ◌∙◌, subst, arith, inl, inr, length-append, ◌==◌, nat_le, nat_lt, OnOk, cases_Bool, eqb-true, eqb-false, eq-eqb, true≢false, nat_tests, Quota, IsWithinLimits, Refusal, NoTenant, OldTenant, BadAct, Full, Lower, StepOf, Admit, AdmitMore, Leave, DidOf, Left, Functions, Job, Tenant, admitted_with, job_at, step-ended, IsOfSearches, tenant-none-bad, Outcome, unless, refusal_in, lone, lone_step, is_lower, tenant_of, CoreState, tenant_in, without_tenant, accounts_in, step_result, unless_beyond, shared_by_nobody, shared_refusal, newest_after, IsOneStep, AreNumbersGiven, IsAnswerTo, step-taken, shared-after-taken, there, more-there, tenant_in-with_outcome, tenant_in-other-without_tenant, one-step, Leaf, LeafAnswer, jamboree, IsSearch, AreSearches, job_of, origins_of, submits, TenantSearches, ServesSearches, origin_at, IsOutcomeIn, AnswersTo, IsJournalOf, journal-searches, journal-goes-on, journal-begins, others-stay, serial_in, is_long_step, long_steps, AreRising, all-push, all-with, all-without, said-lacks, has-above, inserted, said-with-other, said-without-own, said-without-other, rising-with, rising-without, length-with, length-without, JournalOf, journal_in, places_in, longs_in, owner_of_journal, has_journal, with_step, without_journal, total_length, places_for, places_with, longs_for, longs_with, raise_in, raise_count, reserved_in, admitted_journal, journals_after, gone_by, is_appended, longer, AreUpTo, IsBegun, AreBegun, HallOf, empty_hall, hall_after, Explains, IsExplained, IsHall, lets_go, KeepsEndedJobs}
 use Rattle.jamboree_core.specs.declared.outcomes.Outcome.{Outcome as Outcomes}
-use Rattle.hall.proofs.Lists.{IsAllowed, Brings, steps_of, longer-places, longer-longs, step-own, step-total, step-begun, without-total, push-own, push-other, push-total, push-rising, push-upto, total-within, IsAt, found-at}
+use Rattle.hall.proofs.Lists.{IsAllowed, Brings, steps_of, longer-places, longer-longs, step-own, step-total, step-begun, without-total, push-own, push-other, push-total, push-rising, push-inserted, push-upto, total-within, IsAt, found-at}
 use Rattle.hall.proofs.Using.{IsToldBy, step-used, step-brings, serial-given, told-by}
 use Rattle.hall.proofs.Longs.{journal-longs}
 
@@ -154,12 +154,51 @@ pub record GoesOn (hall : HallOf) (latest count : ℕ) (step : Step) (after : Co
   pub keeps : IsHall (record hall { shared = after; journals = with_step (tenant_of step) step hall.journals }) latest (count + 1)
 
 -- why an admission wasn't refused
-no-refusal : {I : Type 0} (old full : Bool) (effect : Outcome I) → refusal_in (unless ((old, OldTenant) ∷ (full, Full) ∷ []) effect) ≡ None → old ≡ false
-no-refusal false full effect none = refl
+no-refusal : {I : Type 0} (old full : Bool) (effect : Outcome I) → refusal_in (unless ((old, OldTenant) ∷ (full, Full) ∷ []) effect) ≡ None → (old ≡ false) × (full ≡ false)
+no-refusal false false effect none = (refl, refl)
+no-refusal {I = I} false true effect none = (let wrong : Some Full ≡ None = none in absurd cc)
 no-refusal {I = I} true full effect none = (let wrong : Some OldTenant ≡ None = none in absurd cc)
 
 numbered : (number newest : ℕ) → ((number == 0) || nat_le number newest || nat_lt (2 ^ 62) number) ≡ false → (newest < number) × (number ≤ 2 ^ 62)
 numbered number newest is_new = (grind (arith, nat_tests), grind (arith, nat_tests))
+
+free-place : (tenants segments wanted nodes asked : ℕ) → (nat_le 64 tenants || nat_lt segments wanted || nat_lt nodes asked) ≡ false → tenants < 64
+free-place tenants segments wanted nodes asked is = grind (arith, nat_tests)
+
+length-accounts : (es : List (ℕ × Tenant)) → length (accounts_in es) ≡ length es
+length-accounts [] = refl
+length-accounts (e ∷ es) = (let rest = length-accounts es in omega (arith, rest))
+
+-- there are no more journals than tenants
+not-more : (n : ℕ) (es : List (ℕ × Tenant)) → length (without_tenant n es) ≤ length es
+not-more n [] = omega arith
+not-more n (e ∷ es) = grind (arith, not-more n es)
+
+one-fewer : (n : ℕ) (es : List (ℕ × Tenant)) → tenant_in es n ≢ None → length (without_tenant n es) + 1 ≤ length es
+one-fewer n [] found = absurd (found refl)
+one-fewer n (e ∷ es) found = elim (cases_Bool (eqb e.0 n)) [
+  | inl same ↦ (let rest = not-more n es in rw same (omega (arith, rest)))
+  | inr other ↦ (let rest = one-fewer n es (λ none. found (rw other none)) in rw other (omega (arith, rest)))
+]
+
+few-journals : (js : List JournalOf) (es : List (ℕ × Tenant)) → AreRising owner_of_journal js → AreBegun js → ((n : ℕ) → tenant_in es n ≡ None → journal_in js n ≡ []) → length js ≤ length es
+few-journals [] es rising begun lacks = omega arith
+few-journals (j ∷ js) es rising begun lacks =
+    let rest = few-journals js (without_tenant j.tenant es) rising.1 begun.1 later in
+    omega (arith, rest, one-fewer j.tenant es here)
+  where
+    here : tenant_in es j.tenant ≢ None
+    here none =
+        let none_here = lacks j.tenant none in
+        let empty : j.steps ≡ [] = rw (eq-eqb j.tenant j.tenant refl) at none_here in
+        let wrong : Admit j.tenant begun.0.quota ∷ begun.0.later ≡ [] = sym begun.0.begins ∙ empty in
+        absurd cc
+
+    later : (m : ℕ) → tenant_in (without_tenant j.tenant es) m ≡ None → journal_in js m ≡ []
+    later m none = elim (cases_Bool (eqb j.tenant m)) [
+      | inl same ↦ (let own = eqb-true j.tenant m same in said-lacks owner_of_journal steps_of [] m js (has-above owner_of_journal m j.tenant js (omega (arith, own)) rising.0))
+      | inr other ↦ (let none_here = lacks m (sym (tenant_in-other-without_tenant m j.tenant es (eqb-false j.tenant m other)) ∙ none) in rw other at none_here)
+    ]
 
 module _ {I A : Type 0} (functions : Functions I A) (before : CoreState) (step : StepOf A) where
   refused-by : (refusal : Refusal) (result : Result (Outcome I) Refusal) → refusal_in result ≡ Some refusal → result ≡ Err refusal
@@ -278,12 +317,30 @@ module _ (hall : HallOf) (latest count : ℕ) (keeps : IsHall hall latest count)
         });
       }
 
+  -- an admission that the core doesn't refuse: there is a place for its journal, behind all others
+  lacking : (n : ℕ) → tenant_in hall.shared.tenants n ≡ None → journal_in hall.journals n ≡ []
+  lacking n none = let P : Option Tenant → Type 0 = λ o. Explains (jamboree hall.grain) o (journal_in hall.journals n) in subst P none (keeps.explained.tenants n)
+
+  few-accounts : (number : ℕ) (quota : Quota) → shared_refusal {A = LeafAnswer} (jamboree hall.grain) hall.shared (Admit number quota) ≡ None → length (accounts_in hall.shared.tenants) < 64
+  few-accounts number quota none = free-place _ _ _ _ _ (no-refusal _ _ _ none).1
+
+  pub is-free : (number : ℕ) (quota : Quota) → shared_refusal {A = LeafAnswer} (jamboree hall.grain) hall.shared (Admit number quota) ≡ None → length hall.journals < 64
+  is-free number quota none =
+      let few = few-accounts number quota none in
+      omega (arith, few, length-accounts hall.shared.tenants, few-journals hall.journals hall.shared.tenants keeps.rising keeps.begun lacking)
+
+  pub is-last : (number : ℕ) (quota : Quota) → shared_refusal {A = LeafAnswer} (jamboree hall.grain) hall.shared (Admit number quota) ≡ None →
+      inserted owner_of_journal (admitted_journal number quota) hall.journals ≡ hall.journals ++ admitted_journal number quota ∷ []
+  is-last number quota none =
+      let passed = numbered number hall.shared.newest (no-refusal _ _ _ none).0 in
+      push-inserted latest (admitted_journal number quota) (omega (arith, passed.0, keeps.newest)) hall.journals keeps.upto
+
   -- an admission
   pub admitted : (number : ℕ) (quota : Quota) (did : DidOf Leaf) (after : CoreState) → IsStepOf hall (Admit number quota) (Ok did) after →
       shared_refusal {A = LeafAnswer} (jamboree hall.grain) hall.shared (Admit number quota) ≡ None → IsWithinLimits quota → AreNumbersGiven after →
       IsHall (record hall { shared = after; journals = hall.journals ++ admitted_journal number quota ∷ [] }) number (count + 1)
   admitted number quota did after one none limit known =
-      let passed = numbered number hall.shared.newest (no-refusal _ _ _ none) in
+      let passed = numbered number hall.shared.newest (no-refusal _ _ _ none).0 in
       let above : latest < number = omega (arith, passed.0, keeps.newest) in
       let journal = admitted_journal number quota in
       let begins = journal-begins (jamboree hall.grain) hall.shared number quota did after keeps.explained.known one in

@@ -1,5 +1,5 @@
 -- Journals by their tenants' numbers: one more step in one of them, one fewer of them, one more.
-use Rattle.hall.proofs.Common.{◌≡◌, ◌≢◌, ℕ, ◌+◌, ◌<◌, ◌≤◌, true, List, [], ◌∷◌, ◌++◌, Option, Some, None, length, get_or, refl, ap, sym, ◌∙◌, arith, length-append, ◌*◌, remove, false≢true, ne_eqb, eq-eqb, StepOf, LeafAnswer, Quota, IsWithinLimits, count_below, find_by_number, AreRising, IsAt as IsPlace, all-map, all-of, all-push, all-with, thing-there, thing-with, said-found, said-with-own, rising-push, place-found, at-said, at-removed, reserve_in, raise_in, newer, reserved_after, reserved_in, one_for, raise_count, places_for, places_with, longs_for, longs_with, longs_in, longer, is_appended, JournalOf, journal_in, places_in, owner_of_journal, has_journal, with_step, without_journal, total_length, AreUpTo, IsBegun, AreBegun}
+use Rattle.hall.proofs.Common.{◌≡◌, ◌≢◌, ℕ, ◌+◌, ◌<◌, ◌≤◌, true, List, [], ◌∷◌, ◌++◌, Option, Some, None, length, refl, ap, sym, ◌∙◌, arith, length-append, ◌*◌, false≢true, ne_eqb, eq-eqb, StepOf, LeafAnswer, Quota, IsWithinLimits, find_by_number, inserted, nat_tests, AreRising, all-map, all-of, all-push, all-with, thing-there, thing-with, said-found, said-with-own, rising-push, reserve_in, raise_in, newer, reserved_after, reserved_in, one_for, raise_count, places_for, places_with, longs_for, longs_with, longs_in, longer, is_appended, JournalOf, journal_in, places_in, owner_of_journal, has_journal, with_step, without_journal, total_length, AreUpTo, IsBegun, AreBegun}
 
 abbrev Js : Type 0
 Js = List JournalOf
@@ -151,6 +151,10 @@ module _ (m : ℕ) (j : JournalOf) (above : m < j.tenant) where
   pub push-rising : (js : Js) → AreUpTo m js → AreRising owner_of_journal js → AreRising owner_of_journal (js ++ j ∷ [])
   push-rising js upto rising = grind (arith, rising-push, all-map)
 
+  pub push-inserted : (js : Js) → AreUpTo m js → inserted owner_of_journal j js ≡ js ++ j ∷ []
+  push-inserted [] upto = refl
+  push-inserted (i ∷ js) upto = grind (arith, push-inserted js upto.1, nat_tests)
+
   pub push-upto : (js : Js) → AreUpTo m js → AreUpTo j.tenant (js ++ j ∷ [])
   push-upto js upto = grind (arith, all-push, all-map)
 
@@ -160,13 +164,3 @@ total-within [] begun = omega arith
 total-within (j ∷ js) begun =
     let rest = total-within js begun.1 in let own = begun.0 in
     omega (arith, rest, own.within, own.places, own.segments, own.nodes, own.raised)
-
--- the place that the index found
-pub at-place : (n : ℕ) (js read : Js) (at : ℕ) → AreRising owner_of_journal js → has_journal n js ≡ true → read ≡ js → at ≡ count_below owner_of_journal n read → IsPlace owner_of_journal n js at
-at-place n js read at rising has same is = place-found owner_of_journal n js at rising has (is ∙ ap (count_below owner_of_journal n) same)
-
--- the journal that stood there is taken out
-pub at-left : (n : ℕ) (js removed : Js) (at : ℕ) (j : JournalOf) (long : ℕ) → IsPlace owner_of_journal n js at → removed ≡ remove js at → j ≡ get_or js at j → long ≡ length j.steps →
-    (removed ≡ without_journal n js) × (long ≡ length (journal_in js n))
-at-left n js removed at j long place gone stands long_is =
-    (gone ∙ at-removed owner_of_journal n js at place, long_is ∙ ap length (sym (at-said owner_of_journal steps_of [] n js at j place stands)))

@@ -1,5 +1,5 @@
 //! The hall.
-ghost use Rattle.std.specs.Prelude.{◌≡◌, ◌≢◌, ◌≤◌, ◌<◌, ◌+◌, ◌^◌, vec_len, vec_capacity, true, false, [], length, Err, Some, None, IfOk, OnErr, OnOk};
+ghost use Rattle.std.specs.Prelude.{◌≡◌, ◌≢◌, ◌≤◌, ◌+◌, true, false, [], Err, None, IfOk, OnErr, OnOk};
 ghost use Rattle.sched_rules.specs.declared.refusal.Refusal.TheVariants.{BadAct, OutOfMemory};
 ghost use Rattle.sched_rules.specs.Cores.{newest_after, shared_refusal};
 ghost use Rattle.sched_rules.specs.Headline.{IsOneStep, is_admission};
@@ -7,14 +7,13 @@ ghost use Rattle.jamboree_core.specs.sched_laws.Fitted.{submits};
 ghost use Rattle.jamboree_core.specs.jamboree_rules.Procedure.{jamboree};
 ghost use Rattle.jamboree_core.specs.Replies.{IsSearch};
 ghost use Rattle.sched_rules.specs.Runs.{tenant_of};
-ghost use Rattle.tenant_quota.specs.Quota.{IsWithinLimits};
-ghost use Rattle.hall.specs.Journals.{is_appended, raise_in, admitted_journal};
+ghost use Rattle.hall.specs.Journals.{is_appended, raise_in};
 ghost use Rattle.hall.specs.Halls.{empty_hall, hall_after, count_of, IsExplained, IsDecided, KeepsEndedJobs};
 
 use crate::journal::{Journal, raise, write};
 use jamboree_core::jamboree::Jamboree;
 use jamboree_core::sched_core::Core;
-use number_index::TenantIndex;
+use number_index::NumberedList;
 use sched_rules::{Config, Did, Refusal, Step, StepOf};
 use std::alloc::{AllocError, Allocator, Global};
 use std::marker::Model;
@@ -27,8 +26,7 @@ pub type StepAnswer = Result<Did<Jamboree>, Refusal>;
 pub struct Hall<A: Allocator = Global> {
     alloc: A,
     pub(crate) core: Core<Jamboree, A>,
-    journals: Vec<Journal<A>, A>,
-    index: TenantIndex,
+    journals: NumberedList<Journal<A>, A>,
     /// The greatest number that a tenant was admitted with, 0 where none was.
     pub(crate) newest: u64,
     /// How many steps were taken.
@@ -45,9 +43,9 @@ impl<A: Allocator> Model for Hall<A> {
 
     ghost Value = { HallOf };
 
-    ghost view = { λ h. record { grain = h.core.procedure.grain; shared = h.core.shared; journals = h.journals.items; gone = h.gone; kept = h.kept } };
+    ghost view = { λ h. record { grain = h.core.procedure.grain; shared = h.core.shared; journals = h.journals; gone = h.gone; kept = h.kept } };
 
-    ghost invariant = { λ h. IsHall (record { grain = h.core.procedure.grain; shared = h.core.shared; journals = h.journals.items; gone = h.gone; kept = h.kept }) h.newest h.count };
+    ghost invariant = { λ h. IsHall (record { grain = h.core.procedure.grain; shared = h.core.shared; journals = h.journals; gone = h.gone; kept = h.kept }) h.newest h.count };
 }
 
 // Written by hand: if it were derived, each crate that holds a hall would have to prove again that all its parts
@@ -58,7 +56,6 @@ impl<A: Allocator> Drop for Hall<A> {
             alloc: _alloc,
             core: _core,
             journals: _journals,
-            index: _index,
             newest: _,
             count: _,
             gone: _,
@@ -77,12 +74,11 @@ impl<A: Allocator> Hall<A> {
         ensures { IfOk result (λ hall. hall ≡ empty_hall grain config) }
     {
         let core = Core::new(alloc.clone()?, config, Jamboree { grain })?;
-        let journals = Vec::new(alloc.clone()?);
+        let journals = NumberedList::new(alloc.clone()?)?;
         Ok(Hall {
             alloc,
             core,
             journals,
-            index: TenantIndex::new(),
             newest: 0,
             count: 0,
             gone: 0,
@@ -162,11 +158,10 @@ impl<A: Allocator + Clone> Hall<A> {
         requires { shared_refusal (jamboree self.old.grain) self.old.shared (StepOf.Admit number reserve) ≡ None }
         ensures { IsDecided self.old (StepOf.Admit number reserve) result self.new }
     {
-        match room_for(&mut self.journals, &self.alloc, number, reserve) {
+        match Journal::new(&self.alloc, number, reserve) {
             Ok(journal) => match self.core.step(&StepOf::Admit(number, reserve)) {
                 Ok(did) => {
-                    self.journals.push_reserved(journal);
-                    self.index.guess_anew(self.journals.as_slice());
+                    self.journals.insert(journal);
                     self.newest = number;
                     self.count += 1;
                     Ok(did)
@@ -183,13 +178,7 @@ impl<A: Allocator + Clone> Hall<A> {
         requires { shared_refusal (jamboree self.old.grain) self.old.shared (StepOf.AdmitMore number reserve) ≡ None }
         ensures { IsDecided self.old (StepOf.AdmitMore number reserve) result self.new }
     {
-        let answer = raise(
-            &self.index,
-            &mut self.journals,
-            &mut self.core,
-            number,
-            reserve,
-        );
+        let answer = raise(&mut self.journals, &mut self.core, number, reserve);
         if answer.is_ok() {
             self.count += 1;
         }
@@ -209,7 +198,7 @@ impl<A: Allocator + Clone> Hall<A> {
     {
         let answer = self.core.step(step);
         if answer.is_ok() {
-            write(&self.index, &mut self.journals, number, step);
+            write(&mut self.journals, number, step);
             self.count += 1;
         }
         answer
@@ -222,9 +211,7 @@ impl<A: Allocator + Clone> Hall<A> {
     {
         match self.core.step(&StepOf::Leave(number)) {
             Ok(did) => {
-                let at = self.index.place_of(self.journals.as_slice(), number);
-                let journal = self.journals.remove(at);
-                self.index.guess_anew(self.journals.as_slice());
+                let journal = self.journals.remove(number);
                 self.gone += journal.len() as u128 + 1;
                 self.count += 1;
                 Ok(did)
@@ -232,21 +219,4 @@ impl<A: Allocator + Clone> Hall<A> {
             Err(refusal) => Err(refusal),
         }
     }
-}
-
-/// The journal of a tenant that is to be admitted, once there is room for it in the list. An error means that
-/// memory was refused; the list has the same journals in any case.
-fn room_for<A: Allocator + Clone>(
-    journals: &mut Vec<Journal<A>, A>,
-    alloc: &A,
-    number: u64,
-    reserve: Reserve,
-) -> Result<Journal<A>, AllocError>
-    ensures journal { IfOk result (λ journal. journal ≡ admitted_journal number reserve) }
-    ensures limits { OnOk result (IsWithinLimits reserve) }
-    ensures place { OnOk result (vec_len journals.new < vec_capacity journals.new) }
-    ensures same { journals.new.items ≡ journals.old.items }
-{
-    journals.reserve(1)?;
-    Journal::new(alloc.clone()?, number, reserve)
 }

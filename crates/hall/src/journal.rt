@@ -13,7 +13,7 @@ ghost use Rattle.hall.specs.Journals.{IsWritable, admitted_journal, is_appended,
 use crate::entry::{JournalEntry, LongEntry};
 use jamboree_core::jamboree::Jamboree;
 use jamboree_core::sched_core::Core;
-use number_index::{Numbered, TenantIndex};
+use number_index::{Numbered, NumberedList};
 use sched_rules::{Did, Refusal, Step, StepOf};
 use std::alloc::{AllocError, Allocator, Global};
 use std::marker::Model;
@@ -56,7 +56,7 @@ impl<A: Allocator> Model for Journal<A> {
 impl<A: Allocator> Journal<A> {
     /// The journal of a tenant that is admitted with this reservation; its Admit is the first step. Memory for
     /// all places is taken here, and an error means that it was refused.
-    pub(crate) fn new(alloc: A, tenant: u64, reserve: Reserve) -> Result<Journal<A>, AllocError>
+    pub(crate) fn new(alloc: &A, tenant: u64, reserve: Reserve) -> Result<Journal<A>, AllocError>
     where
         A: Clone,
         ensures journal { IfOk result (λ journal. journal ≡ admitted_journal tenant reserve) }
@@ -65,7 +65,7 @@ impl<A: Allocator> Journal<A> {
         let places = 16 * reserve.nodes() as usize + BESIDE_NODES;
         let mut entries = Vec::with_capacity(alloc.clone()?, places)?;
         let long_places = reserve.nodes() as usize + LONGS_BESIDE_NODES;
-        let mut longs = Vec::with_capacity(alloc, long_places)?;
+        let mut longs = Vec::with_capacity(alloc.clone()?, long_places)?;
         entries.push_reserved(JournalEntry::Long);
         longs.push_reserved(LongEntry::Admitted(reserve));
         Ok(Journal {
@@ -166,51 +166,47 @@ impl<A: Allocator> Numbered for Journal<A> {
 /// Adds a step, other than an AdmitMore, to the journal of its tenant, which has one with a free place.
 #[inline(always)]
 pub(crate) fn write<A: Allocator>(
-    index: &TenantIndex,
-    journals: &mut Vec<Journal<A>, A>,
+    journals: &mut NumberedList<Journal<A>, A>,
     tenant: u64,
     step: &Step<Jamboree>,
 )
-    requires rising { AreRising owner_of_journal journals.old.items }
+    requires rising { AreRising owner_of_journal journals.old }
     requires own { tenant_of step.now ≡ tenant }
     requires serial { serial_in step.now < 2 ^ 32 }
-    requires there { has_journal tenant journals.old.items ≡ true }
-    requires place { length (journal_in journals.old.items tenant) < places_in journals.old.items tenant }
-    requires long { is_long_step step.now ≡ true → long_steps (journal_in journals.old.items tenant) < longs_in journals.old.items tenant }
+    requires there { has_journal tenant journals.old ≡ true }
+    requires place { length (journal_in journals.old tenant) < places_in journals.old tenant }
+    requires long { is_long_step step.now ≡ true → long_steps (journal_in journals.old tenant) < longs_in journals.old tenant }
     requires is_appended { is_appended step.now ≡ true }
     requires search { IsSearch step.now }
     requires raises_not { raise_in step.now ≡ None }
-    ensures { journals.new.items ≡ with_step tenant step.now journals.old.items }
+    ensures { journals.new ≡ with_step tenant step.now journals.old }
 {
-    let at = index.place_of(journals.as_slice(), tenant);
-    let journal = &mut journals[at];
+    let journal = journals.get_mut(tenant);
     journal.write(step);
 }
 
 /// Has the core do a tenant's AdmitMore, and writes that step in the tenant's journal, which is there. Where
 /// memory or the core refuses, neither the journals nor the core have changed.
 pub(crate) fn raise<A: Allocator + Clone>(
-    index: &TenantIndex,
-    journals: &mut Vec<Journal<A>, A>,
+    journals: &mut NumberedList<Journal<A>, A>,
     core: &mut Core<Jamboree, A>,
     tenant: u64,
     reserve: Reserve,
 ) -> Result<Did<Jamboree>, Refusal>
-    requires rising { AreRising owner_of_journal journals.old.items }
-    requires there { has_journal tenant journals.old.items ≡ true }
-    requires few { raise_count (journal_in journals.old.items tenant) ≤ 69632 }
-    requires place { length (journal_in journals.old.items tenant) < places_for reserve + (raise_count (journal_in journals.old.items tenant) + 1) }
-    requires long { long_steps (journal_in journals.old.items tenant) < longs_for reserve + (raise_count (journal_in journals.old.items tenant) + 1) }
+    requires rising { AreRising owner_of_journal journals.old }
+    requires there { has_journal tenant journals.old ≡ true }
+    requires few { raise_count (journal_in journals.old tenant) ≤ 69632 }
+    requires place { length (journal_in journals.old tenant) < places_for reserve + (raise_count (journal_in journals.old tenant) + 1) }
+    requires long { long_steps (journal_in journals.old tenant) < longs_for reserve + (raise_count (journal_in journals.old tenant) + 1) }
     requires taken { shared_refusal (jamboree core.old.procedure.grain) core.old.shared (StepOf.AdmitMore tenant reserve) ≡ None }
     ensures one { IsOneStep (jamboree core.old.procedure.grain) core.old.shared (StepOf.AdmitMore tenant reserve) result core.new.shared }
-    ensures written { OnOk result (journals.new.items ≡ with_step tenant (StepOf.AdmitMore tenant reserve) journals.old.items) }
-    ensures refused { OnErr result (journals.new.items ≡ journals.old.items) }
+    ensures written { OnOk result (journals.new ≡ with_step tenant (StepOf.AdmitMore tenant reserve) journals.old) }
+    ensures refused { OnErr result (journals.new ≡ journals.old) }
     ensures core_refused { OnErr result (core.new.shared ≡ core.old.shared) }
     ensures procedure { core.new.procedure ≡ core.old.procedure }
     ensures known { OnOk result (AreNumbersGiven core.new.shared) }
     ensures limits { IsWithinLimits reserve }
 {
-    let at = index.place_of(journals.as_slice(), tenant);
-    let journal = &mut journals[at];
+    let journal = journals.get_mut(tenant);
     journal.raise(core, reserve)
 }

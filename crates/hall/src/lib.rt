@@ -16,12 +16,12 @@
 //! that say more (`LongEntry`) take 48 bytes in a list of their own. A step is written under the lock, so what
 //! it writes first is kept small: each page that the system has to give holds up all workers.
 //!
-//! An admission asks the core first whether it would be taken, then makes room in the list of journals and in
-//! the journal, and lets the core grow last; so does an AdmitMore, whose entry is written after the core's step.
+//! An admission asks the core first whether it would be taken, then takes the journal's memory, and lets the core
+//! grow last; so does an AdmitMore, whose entry is written after the core's step.
 //! So where a growth or the core refuses, nothing has changed. A journal has 16 places for each node that its
 //! tenant reserves, 770 more, and one for each AdmitMore: each counted step takes a sixteenth of a node, and
-//! the rest are the admission and what 256 jobs can need. A tenant's journal is found by an index of them
-//! (`number_index`).
+//! the rest are the admission and what 256 jobs can need. The journals are a list by number
+//! (`NumberedList` of `number_index`) in memory for 64, which `Hall::new` takes: the core admits no more.
 //!
 //! Why it is so:
 //!

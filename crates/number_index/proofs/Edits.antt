@@ -132,18 +132,10 @@ module _ {X : Type 0} (number_of : X → ℕ) (n : ℕ) where
   at-within (x ∷ xs) zero at = omega arith
   at-within (x ∷ xs) (suc i) at = (let rest = at-within xs i at.1 in omega (arith, rest))
 
-  pub at-own : (xs : List X) (i : ℕ) (x : X) → IsAt number_of n xs i → x ≡ get_or xs i x → number_of x ≡ n
-  at-own [] i x at is = absurd at
-  at-own (y ∷ ys) zero x at is = ap number_of is ∙ at
-  at-own (y ∷ ys) (suc i) x at is = at-own ys i x at.1 is
-
   pub at-thing : (xs : List X) (i : ℕ) (x : X) → IsAt number_of n xs i → x ≡ get_or xs i x → find_by_number number_of n xs ≡ Some x
   at-thing [] i x at is = absurd at
   at-thing (y ∷ ys) zero x at is = rw (eq-eqb (number_of y) n at) (ap (λ (z : _). Some z) (sym is))
   at-thing (y ∷ ys) (suc i) x at is = rw (ne_eqb (number_of y) n at.0) (at-thing ys i x at.1 is)
-
-pub at-said : {X Y : Type 0} (number_of : X → ℕ) (say : X → Y) (none : Y) (n : ℕ) (xs : List X) (i : ℕ) (x : X) → IsAt number_of n xs i → x ≡ get_or xs i x → read_by_number number_of say none n xs ≡ say x
-at-said number_of say none n xs i x at is = said-found number_of say none n xs x (at-thing number_of n xs i x at is)
 
 -- the edits of a list at a place
 

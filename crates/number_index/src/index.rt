@@ -17,7 +17,7 @@ const GUESSES: u64 = 256;
 /// Guesses where things stand in a list that rises by their numbers: for each remainder by 256, the place of a thing
 /// whose number has it. A guess may be wrong; then the thing is searched for.
 #[derive(Debug, Drop)]
-pub struct TenantIndex {
+pub(crate) struct TenantIndex {
     guesses: [u8; GUESSES as usize],
 }
 
@@ -34,7 +34,7 @@ impl Model for TenantIndex {
 
 impl TenantIndex {
     /// An index whose guesses are all 0. It takes no memory, and no other call does.
-    pub fn new() -> TenantIndex
+    pub(crate) fn new() -> TenantIndex
         ensures { result ≡ replicate 256 0 }
     {
         TenantIndex {
@@ -45,7 +45,7 @@ impl TenantIndex {
     /// The place of the thing of this number, if the guess is right; None where another thing or none stands there,
     /// even if a thing of this number stands elsewhere.
     #[inline(always)]
-    pub fn guessed<T: Numbered>(&self, things: &[T], number: u64) -> Option<usize>
+    pub(crate) fn guessed<T: Numbered>(&self, things: &[T], number: u64) -> Option<usize>
         requires { AreRising T.number_of things.now }
         ensures within { IfSome result (λ at. at < length things.now) }
         ensures place { IfSome result (λ at. at ≡ count_below T.number_of number things.now) }
@@ -61,7 +61,7 @@ impl TenantIndex {
     /// How many of these things have a number below this one: the place of the thing of this number, or the one where
     /// it would stand. Fast where the guess is right, else a binary search.
     #[inline(always)]
-    pub fn place_of<T: Numbered>(&self, things: &[T], number: u64) -> usize
+    pub(crate) fn place_of<T: Numbered>(&self, things: &[T], number: u64) -> usize
         requires { AreRising T.number_of things.now }
         ensures { result ≡ count_below T.number_of number things.now }
     {
@@ -73,7 +73,7 @@ impl TenantIndex {
 
     /// The thing of this number; None where there is none. Fast where the guess is right, else a binary search.
     #[inline(always)]
-    pub fn find<'a, T: Numbered>(&self, things: &'a [T], number: u64) -> Option<&'a T>
+    pub(crate) fn find<'a, T: Numbered>(&self, things: &'a [T], number: u64) -> Option<&'a T>
         requires { AreRising T.number_of things.now }
         ensures { option_copied result ≡ find_by_number T.number_of number things.now }
     {
@@ -85,7 +85,7 @@ impl TenantIndex {
 
     /// Puts down anew where each of these things stands, as after an insertion or a removal. Of things that share a
     /// guess, the place of the last is kept.
-    pub fn guess_anew<T: Numbered>(&mut self, things: &[T])
+    pub(crate) fn guess_anew<T: Numbered>(&mut self, things: &[T])
         ensures { self.new ≡ with_places T.number_of things.now 0 self.old }
     {
         for at in 0..things.len() {

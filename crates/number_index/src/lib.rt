@@ -6,12 +6,10 @@
 //! [`NumberedList::new`] takes memory.
 //!
 //! Where the thing of number n stands, or would stand, is how many of them have a number below n
-//! (`count_below` of `specs/Places.antt`). A [`TenantIndex`] answers that for any list that rises by number,
-//! as one of journals, which is kept elsewhere: it looks first where the number is guessed to stand, and
-//! searches by halves where another's thing stands there. [`TenantIndex::place_of`] answers just that count and
-//! [`TenantIndex::find`] just the thing of the number, whatever was guessed. So nothing has to be known
-//! of the guesses, and who changes the list puts them down anew ([`TenantIndex::guess_anew`]), or
-//! leaves it: then more is searched for.
+//! (`count_below` of `specs/Places.antt`). A list has an index (`index.rt`) that answers that: it looks first where
+//! the number is guessed to stand, and searches by halves where another's thing stands there. The answer is the
+//! same whatever was guessed, so nothing has to be known of the guesses. What is put in or taken out has them put
+//! down anew.
 //!
 //! What is said of such lists, here and in all crates above, are the definitions of `specs/Places.antt`: the
 //! first thing of a number and what is said of it, the list with that thing changed or gone and with a new
@@ -21,8 +19,8 @@
 //! [`Guesses`] alone is the table of guesses for who compares for himself: where the slots of frames
 //! stand, for one.
 //!
-//! That a [`NumberedList`] has memory for 64 things is its invariant. A [`TenantIndex`] stands for a list of
-//! 256 guesses, each a byte within it, and takes no memory. A [`Guesses`] stands for a list of numbers below
+//! That a [`NumberedList`] has memory for 64 things is its invariant. Its index stands for a list of 256 guesses,
+//! each a byte within it, and takes no memory. A [`Guesses`] stands for a list of numbers below
 //! 2^32, as many as a power of two; only [`Guesses::new`] takes memory. The guess of a number is what stands
 //! at the number's remainder by the length (`specs/Guesses.antt`), which is its lowest bits: that there are so
 //! many guesses is the invariant of both. Numbers that follow one another, no more than there are guesses,
@@ -34,19 +32,13 @@
 //!   compared. Two tenants share a guess only if their numbers differ by a multiple of 256.
 //!
 //! ```text
-//! let mut index = TenantIndex::new();
-//! let tenants = [(3, 30), (7, 70), (263, 2630)];
-//! index.guess_anew(&tenants);                        // 263 shares its guess with 7
-//! index.place_of(&tenants, 263) == 2
-//! index.place_of(&tenants, 7) == 1                   // searched for
-//! index.place_of(&tenants, 8) == 2                   // where it would stand
-//! index.find(&tenants, 3) == Some(&(3, 30))
-//!
 //! let mut list = NumberedList::new(alloc)?;
 //! list.insert((7, 70));
+//! list.insert((263, 2630));                          // shares its guess with 7
 //! list.insert((3, 30));
-//! list.get_mut(7).1 += 1;
-//! list.as_slice() == &[(3, 30), (7, 71)]
+//! list.get_mut(7).1 += 1;                            // searched for
+//! list.get(8) == None
+//! list.as_slice() == &[(3, 30), (7, 71), (263, 2630)]
 //! ```
 #![tactic(auto)]
 
@@ -56,7 +48,6 @@ mod numbered;
 pub mod rows;
 mod table;
 
-pub use index::TenantIndex;
 pub use list::NumberedList;
 pub use numbered::Numbered;
 pub use table::{Guesses, MOST};

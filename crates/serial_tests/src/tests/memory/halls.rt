@@ -243,8 +243,7 @@ fn last_steps<A: Allocator + Copy>(
     if is_first { ALL } else { 1 }
 }
 
-/// Each growth of an admission is refused in turn: that of the list of journals, of the journal, and
-/// of the core.
+/// Each growth of an admission is refused in turn: those of the journal's two lists, and of the core.
 #[test]
 fn each_growth_of_an_admission_is_refused(rt: HostRuntime) {
     let journal = (16 + BESIDE_NODES) * PLACE + (1 + LONGS_BESIDE_NODES) * LONG_PLACE;

@@ -4,7 +4,7 @@ ghost use Rattle.number_index.specs.Places.{AreRising};
 use crate::tests::memory::reserve_of;
 use crate::tests::{holds, left_of};
 use cactus_stack::{Sight, Stack};
-use number_index::{Guesses, TenantIndex};
+use number_index::{Guesses, NumberedList};
 use segment_region::Region;
 use std::alloc::{AllocError, Allocator};
 use std::process::Abort;
@@ -72,34 +72,36 @@ pub fn make_stack<A: Allocator + Clone>(rt: &impl Abort, alloc: A) -> Result<(),
     Ok(())
 }
 
-/// Whether the thing of a number stands, or would stand, at this place, with this value; 0 where there is none.
-fn stands(index: &TenantIndex, all: &[(u64, u32)], number: u64, place: usize, value: u32) -> bool
-    requires { AreRising (λ pair. pair.0) all.now }
+/// Whether the thing of a number has this value; 0 where there is none.
+fn is_kept(list: &NumberedList<(u64, u32)>, number: u64, value: u32) -> bool
+    requires { AreRising (λ pair. pair.0) list.now }
 {
-    let found = match index.find(all, number) {
+    let found = match list.get(number) {
         Some(pair) => pair.1,
         None => 0,
     };
-    index.place_of(all, number) == place && found == value
+    found == value
 }
 
 /// Each of three things is found, and one that isn't there isn't.
-fn are_found(rt: &impl Abort, index: &TenantIndex, all: &[(u64, u32)])
-    requires { AreRising (λ pair. pair.0) all.now }
+fn are_kept(rt: &impl Abort, list: &NumberedList<(u64, u32)>)
+    requires { AreRising (λ pair. pair.0) list.now }
 {
-    for (number, place, value) in [(3, 0, 30), (7, 1, 70), (263, 2, 2630), (8, 2, 0)] {
-        holds(rt, stands(index, all, number, place, value));
+    for (number, value) in [(3, 30), (7, 71), (263, 2630), (8, 0)] {
+        holds(rt, is_kept(list, number, value));
     }
 }
 
-/// Tenants 7 and 263 share a guess, as they differ by 256: each is found before the guesses are made anew, and after.
+/// Tenants 7 and 263 share a guess, as they differ by 256: both are found.
 #[test]
-fn a_tenant_is_found_whatever_is_guessed(rt: HostRuntime) {
-    let mut index = TenantIndex::new();
-    let tenants = [(3u64, 30u32), (7, 70), (263, 2630)];
-    are_found(&rt, &index, &tenants);
-    index.guess_anew(&tenants);
-    are_found(&rt, &index, &tenants);
+fn a_tenant_is_found_whatever_is_guessed(rt: HostRuntime) -> Result<(), Fail> {
+    let mut list = NumberedList::new(rt.alloc())?;
+    list.insert((7u64, 70u32));
+    list.insert((263, 2630));
+    list.insert((3, 30));
+    list.get_mut(7).1 += 1;
+    are_kept(&rt, &list);
+    Ok(())
 }
 
 /// Makes a table with room for 16 places, 64 bytes.
