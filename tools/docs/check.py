@@ -155,19 +155,16 @@ def crate_map():
 
 
 def crate_table():
-    """The crates by group, each with its sentence of tools/docs/about_crates.txt, or else the first of its head, and what it rests on."""
-    said = dict(line.split(" | ", 1) for line in (HERE / "about_crates.txt").read_text().splitlines() if line and not line.startswith("#"))
+    """The crates by group, each with the first sentence of its head, and what it rests on."""
     rows = ["| Crate | What it is | Rests on |", "|---|---|---|"]
     groups, direct = read_crates()
     for group, names in groups.items():
-        rows.append(f"| **{said.pop(group, group)}** | | |")
+        rows.append(f"| **{group}** | | |")
         for name in names:
             root = next(path for path in (TOP / "crates" / name / "src/lib.rt", TOP / "crates" / name / "src/main.rt") if path.exists())
             head = " ".join(re.match(r"(?://! .*\n)+", root.read_text())[0].replace("//! ", "").split())
             first = re.split(r"(?<=[.]) ", head)[0].removeprefix(f"`{name}`: ")
-            rows.append(f"| `{name}` | {said.pop(name, first[0].upper() + first[1:])} | {', '.join(direct[name])} |")
-    if said:
-        sys.exit(f"tools/docs/about_crates.txt names what isn't there: {', '.join(said)}")
+            rows.append(f"| `{name}` | {first[0].upper() + first[1:]} | {', '.join(direct[name])} |")
     return "\n".join(rows) + "\n"
 
 

@@ -1,4 +1,4 @@
-//! Searches on a running core: the headline in full.
+//! Searches on a scheduling core: isolation and minimax values in one theorem.
 //!
 //! `sched_laws` says of every procedure that its frames keep fitting and that each job holds what it
 //! was asked; `jamboree_rules` says what fits in a Jamboree search and what a returned root then

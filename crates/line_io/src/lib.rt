@@ -1,5 +1,5 @@
 //! Lines in, answers out: reads bytes in blocks, cuts them into lines, and writes the answer to each line
-//! with an LF as soon as the line is complete, by one call, before anything more is read. Nothing here takes
+//! before it reads more. An answer is written with an LF, by one call, as soon as the line is complete. Nothing here takes
 //! memory: a block and a line are held in arrays, and an answer in what the answerer has for it.
 //!
 //! A line ends with LF, and one CR directly before that LF is dropped. Bytes after the last LF, if there are
