@@ -1,7 +1,7 @@
 -- Meaning: what contracts see of what lies under the lock, what one call does to the hall there, and for what is waited.
 use Rattle.std.specs.Prelude.{◌≡◌, ℕ, ◌+◌, ◌==◌, Bool, false, not, ◌&&◌, ◌||◌, List, Option, Some, None, Result, Ok, Err}
-use Rattle.frame_tree.specs.declared.names.FrameId.{FrameId}
-use Rattle.frame_tree.specs.Frames.{IsReadyAt}
+use Rattle.frame_table.specs.declared.names.FrameId.{FrameId}
+use Rattle.frame_table.specs.Frames.{IsReadyAt}
 use Rattle.sched_rules.specs.declared.refusal.Refusal.{Refusal}
 use Rattle.sched_rules.specs.declared.step.StepOf.{StepOf}
 use Rattle.sched_rules.specs.declared.step.StepOf.TheVariants.{Leave}

@@ -19,7 +19,7 @@ use crate::locked_hall::LockedHall;
 use crate::seat::Seat;
 use crate::shares::{Badge, DeskLedger, PARTS};
 use desk_rules::Backoff;
-use frame_tree::FrameId;
+use frame_table::FrameId;
 use hall::{Hall, Jamboree, Outcome, Refusal, Step, StepAnswer};
 use position_text::Position;
 use std::alloc::{Allocator, Global};

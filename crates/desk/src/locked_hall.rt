@@ -29,7 +29,7 @@ use crate::seat::Seat;
 use crate::shares::{Badge, DeskLedger, PARTS};
 use arrayvec::ArrayVec;
 use desk_rules::{Backoff, JOBS, SeatAsked, seat_asked_at, shown};
-use frame_tree::FrameId;
+use frame_table::FrameId;
 use hall::{Hall, Jamboree, Outcome, Refusal, Step, StepAnswer, StepOf, submit};
 use position_text::Position;
 use sched_rules::laws::{each_step_has_a_right_answer, no_tenant_is_disturbed};

@@ -1,6 +1,6 @@
 -- Meaning: what one act of a worker comes to: its turn is the table's, and what it begins next is a task of its own deque or a pick.
 use Rattle.std.specs.Prelude.{◌≡◌, ◌⊎◌, ℕ, true, Option, Some, None, Result}
-use Rattle.frame_tree.specs.declared.names.FrameId.{FrameId}
+use Rattle.frame_table.specs.declared.names.FrameId.{FrameId}
 use Rattle.sched_rules.specs.declared.refusal.Refusal.{Refusal}
 use Rattle.sched_rules.specs.declared.step.DidOf.{DidOf}
 use Rattle.task_deques.specs.jamboree_rules.declared.leaf.Leaf.{Leaf}

@@ -4,7 +4,7 @@ ghost use Rattle.task_deques.specs.Deals.{posts};
 ghost use Rattle.fair_pool.specs.Works.{BringsCostedTo};
 
 use crate::hands::Hands;
-use frame_tree::FrameId;
+use frame_table::FrameId;
 use hall::{Leaf, LeafAnswer};
 use sched_rules::Worker;
 use std::sync::Wait;

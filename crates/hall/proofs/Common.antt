@@ -4,7 +4,7 @@ pub use Rattle.std.proofs.Common.{length-append, refl, rules, subst, sym, true, 
 pub use Rattle.std.proofs.lemmas.Bool.{cases_Bool, eq-eqb, eqb-false, eqb-true, false≢true, ne_eqb, true≢false}
 pub use Rattle.std.proofs.lemmas.Bool.Decides.{nat_tests}
 pub use Rattle.std.specs.Prelude.{OnOk, if◌then◌else◌, is_err, is_ok, nat_le, nat_lt, ◌==◌}
-pub use Rattle.frame_tree.specs.Frames.{Frame, frame_at, path_in, root_of}
+pub use Rattle.frame_table.specs.Frames.{Frame, frame_at, path_in, root_of}
 pub use Rattle.jamboree_core.proofs.Answering.{answer_count, journal-answers, one_if_answer}
 pub use Rattle.jamboree_core.proofs.JournalLemmas.{journal-begins, journal-goes-on, journal-searches, others-stay}
 pub use Rattle.jamboree_core.proofs.Possible.{IsOfSearches, tenant-none-bad}
@@ -22,10 +22,10 @@ pub use Rattle.jamboree_core.specs.jamboree_rules.declared.leaf.LeafAnswer.{Leaf
 pub use Rattle.jamboree_core.specs.sched_laws.Ended.{HasEnded}
 pub use Rattle.jamboree_core.specs.sched_laws.Fitted.{origins_of, submits}
 pub use Rattle.jamboree_core.specs.sched_laws.Shapes.{AreRootsLive, IsShaped, live_count}
-pub use Rattle.number_index.proofs.Edits.{all-map, all-of, all-push, all-with, all-without, has-above, length-with}
-pub use Rattle.number_index.proofs.Edits.{length-without, put-changed, put-same, rising-push, rising-with, rising-without, said-found, said-lacks, said-with-other}
-pub use Rattle.number_index.proofs.Edits.{said-with-own, said-without-other, said-without-own, thing-own, thing-there, thing-with}
-pub use Rattle.number_index.specs.Places.{AreRising, change_by_number, find_by_number, inserted}
+pub use Rattle.numbered_list.proofs.Edits.{all-map, all-of, all-push, all-with, all-without, has-above, length-with}
+pub use Rattle.numbered_list.proofs.Edits.{length-without, put-changed, put-same, rising-push, rising-with, rising-without, said-found, said-lacks, said-with-other}
+pub use Rattle.numbered_list.proofs.Edits.{said-with-own, said-without-other, said-without-own, thing-own, thing-there, thing-with}
+pub use Rattle.numbered_list.specs.Places.{AreRising, change_by_number, find_by_number, inserted}
 pub use Rattle.sched_rules.proofs.Isolation.{IsTaken, more-there, shared-after-taken, step-taken, there}
 pub use Rattle.sched_rules.proofs.Tenants.{tenant_in-other-without_tenant, tenant_in-with_outcome}
 pub use Rattle.sched_rules.specs.Cores.{CoreState, accounts_in, newest_after, shared_by_nobody, shared_refusal, shared_with, step_result, tenant_in, unless_beyond, without_tenant}

@@ -1,7 +1,7 @@
 -- Each taken step of a tenant uses one of what it may do, so a journal stays within its places.
 use Rattle.hall.proofs.Common.{◌≡◌, ℕ, ◌+◌, ◌*◌, ◌≤◌, inl, inr, Bool, false, true, eqb, List, [], ◌∷◌, ◌++◌, length, Option, Some, None, Result, Ok, Err, refl, ap, sym, ◌∙◌, arith, length-append, cases_Bool, eqb-true, nat_tests, Quota, Frame, frame_at, root_of, path_in, Job, Live, Done, Spent as SpentJob, Cancelled as CancelledJob, Refusal, StepOf, Admit, AdmitMore, Take, Steal, Advance, Answer, Inlet, Finish, Spend, Functions, DidOf, Tree, Tenant, admitted_with, with_ended, Outcome, at_frame, lone_step, is_lower, counted, ended, state_after, alone_from, HasEnded, IsShaped, AreRootsLive, live_count, unless-passed, frame-found, by-kinds, step-shaped, admitted-shaped, length-with_ended, live-root, root-above, StaysTaken, AreTakenFrom, IsJournalOf, serial_in, is_appended, raise_in, reserve_in, newer, reserved_after, reserved_in, one_for, raise_count, ended_count, uses}
 use Rattle.hall.proofs.Lists.{Brings}
-use Rattle.frame_tree.proofs.TreeLaws.{below-found, found-there}
+use Rattle.frame_table.proofs.TreeLaws.{below-found, found-there}
 
 -- one more is used by each step but a raise
 abbrev UsedBy : Option Quota → ℕ → ℕ → Type 0

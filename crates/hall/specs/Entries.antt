@@ -2,7 +2,7 @@
 use Rattle.std.specs.Prelude.{ℕ, ◌+◌, Bool, true, false, if◌then◌else◌, List, [], ◌∷◌, ◌++◌, map, take, drop}
 use Rattle.sched_rules.specs.declared.step.StepOf.{StepOf}
 use Rattle.sched_rules.specs.declared.step.StepOf.TheVariants.{Admit, AdmitMore, Submit, Take, Steal, Advance, Answer, Inlet, Finish, Spend, Cancel}
-use Rattle.frame_tree.specs.declared.names.FrameId.{FrameId}
+use Rattle.frame_table.specs.declared.names.FrameId.{FrameId}
 use Rattle.jamboree_core.specs.jamboree_rules.declared.leaf.LeafAnswer.{LeafAnswer}
 use Rattle.jamboree_core.specs.jamboree_rules.Places.{root_words, frame_size}
 use Rattle.hall.specs.declared.entry.JournalEntry.{JournalEntry}

@@ -17,7 +17,7 @@ use Rattle.jamboree_core.specs.jamboree_rules.declared.leaf.LeafAnswer.{LeafAnsw
 use Rattle.jamboree_core.specs.jamboree_rules.Procedure.{jamboree}
 use Rattle.jamboree_core.specs.Replies.{AreSearches}
 use Rattle.jamboree_core.specs.Journals.{IsJournalOf}
-use Rattle.number_index.specs.Places.{AreRising}
+use Rattle.numbered_list.specs.Places.{AreRising}
 use Rattle.hall.specs.Journals.{JournalOf, journal_in, total_length, journals_after, gone_by, owner_of_journal, AreUpTo, AreBegun}
 
 -- a hall: the grain of its searches, what the tenants share, their journals by rising number, how many steps went

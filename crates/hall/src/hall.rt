@@ -13,7 +13,7 @@ ghost use Rattle.hall.specs.Halls.{empty_hall, hall_after, count_of, IsExplained
 use crate::journal::{Journal, raise, write};
 use jamboree_core::jamboree::Jamboree;
 use jamboree_core::sched_core::Core;
-use number_index::NumberedList;
+use numbered_list::NumberedList;
 use sched_rules::{Config, Did, Refusal, Step, StepOf};
 use std::alloc::{AllocError, Allocator, Global};
 use std::marker::Model;

@@ -6,14 +6,14 @@ ghost use Rattle.jamboree_core.specs.jamboree_rules.Procedure.{jamboree};
 ghost use Rattle.jamboree_core.specs.Replies.{IsSearch};
 ghost use Rattle.sched_rules.specs.Cores.{shared_refusal};
 ghost use Rattle.sched_rules.specs.Runs.{tenant_of};
-ghost use Rattle.number_index.specs.Places.{AreRising};
+ghost use Rattle.numbered_list.specs.Places.{AreRising};
 ghost use Rattle.hall.specs.Entries.{is_long_step, long_steps, serial_in};
 ghost use Rattle.hall.specs.Journals.{IsWritable, admitted_journal, is_appended, has_journal, journal_in, longer, longs_for, longs_in, owner_of_journal, places_for, places_in, raise_count, raise_in, with_step};
 
 use crate::entry::{JournalEntry, LongEntry};
 use jamboree_core::jamboree::Jamboree;
 use jamboree_core::sched_core::Core;
-use number_index::{Numbered, NumberedList};
+use numbered_list::{Numbered, NumberedList};
 use sched_rules::{Did, Refusal, Step, StepOf};
 use std::alloc::{AllocError, Allocator, Global};
 use std::marker::Model;

@@ -21,7 +21,7 @@
 //! So where a growth or the core refuses, nothing has changed. A journal has 16 places for each node that its
 //! tenant reserves, 770 more, and one for each AdmitMore: each counted step takes a sixteenth of a node, and
 //! the rest are the admission and what 256 jobs can need. The journals are a list by number
-//! (`NumberedList` of `number_index`) in memory for 64, which `Hall::new` takes: the core admits no more.
+//! (`NumberedList` of `numbered_list`) in memory for 64, which `Hall::new` takes: the core admits no more.
 //!
 //! Why it is so:
 //!

@@ -1,6 +1,6 @@
 -- Meaning: what lists of searches come to: each job that is done holds the minimax value, the best choice and a table of what was asked.
 use Rattle.std.specs.Prelude.{◌≡◌, ℕ, ◌≤◌, bit_and, List, [], ◌∷◌, map, slice_index}
-use Rattle.frame_tree.specs.Frames.{Frame, children_of, values_of}
+use Rattle.frame_table.specs.Frames.{Frame, children_of, values_of}
 use Rattle.othello_board.specs.Words.{cells_of}
 use Rattle.othello_moves.specs.declared.choices.TheConstants.{DEEPEST}
 use Rattle.jamboree_rules.specs.othello_eval.Minimax.{minimax, best_choice}

@@ -2,7 +2,7 @@
 use Rattle.std.specs.Prelude.{ℕ, List, [], ◌∷◌}
 use Rattle.cactus_stack.specs.Nodes.{padded}
 use Rattle.tenant_quota.specs.Quota.{Quota}
-use Rattle.frame_tree.specs.declared.names.State.TheVariants.{Ready}
+use Rattle.frame_table.specs.declared.names.State.TheVariants.{Ready}
 use Rattle.sched_rules.specs.declared.job.Job.TheVariants.{Live}
 use Rattle.sched_rules.specs.declared.step.StepOf.{StepOf}
 use Rattle.sched_rules.specs.declared.step.StepOf.TheVariants.{Admit, Submit}

@@ -2,13 +2,13 @@
 pub use Rattle.std.proofs.Common.{Bool, Err, IfOk, List, None, Option, Result, Some, [], arith, eqb, false, if◌then◌else◌, inl, inr, not, refl, replicate}
 pub use Rattle.std.proofs.Common.{subst, sym, true, ℕ, ◌&&◌, ◌++◌, ◌+◌, ◌==◌, ◌∷◌, ◌≡◌, ◌⊎◌}
 pub use Rattle.std.proofs.lemmas.Bool.{cases_Bool, eq-eqb, eqb-true}
-pub use Rattle.frame_tree.proofs.TreeChanges.{frame_at-aborted, frame_at-without, frame_at-other-without}
-pub use Rattle.frame_tree.proofs.TreeLaws.{frame_at-left, frame_at-push, frame_at-right}
-pub use Rattle.frame_tree.specs.Frames.{AllBelow, Frame, IsReadyAt, IsTree, aborted, frame_at, frames_without, is_ready, new_frame, root_of, with_state}
-pub use Rattle.frame_tree.specs.TreeLaws.{if_kept}
-pub use Rattle.frame_tree.specs.declared.names.FrameId.{FrameId}
-pub use Rattle.frame_tree.specs.declared.names.State.{State}
-pub use Rattle.frame_tree.specs.declared.names.State.TheVariants.{Ready, Returned, Running, Waiting}
+pub use Rattle.frame_table.proofs.TreeChanges.{frame_at-aborted, frame_at-without, frame_at-other-without}
+pub use Rattle.frame_table.proofs.TreeLaws.{frame_at-left, frame_at-push, frame_at-right}
+pub use Rattle.frame_table.specs.Frames.{AllBelow, Frame, IsReadyAt, IsTree, aborted, frame_at, frames_without, is_ready, new_frame, root_of, with_state}
+pub use Rattle.frame_table.specs.TreeLaws.{if_kept}
+pub use Rattle.frame_table.specs.declared.names.FrameId.{FrameId}
+pub use Rattle.frame_table.specs.declared.names.State.{State}
+pub use Rattle.frame_table.specs.declared.names.State.TheVariants.{Ready, Returned, Running, Waiting}
 pub use Rattle.jamboree_rules.specs.declared.leaf.Leaf.{Leaf}
 pub use Rattle.jamboree_rules.specs.declared.leaf.LeafAnswer.{LeafAnswer}
 pub use Rattle.sched_rules.specs.Functions.{Functions}

@@ -1,6 +1,6 @@
 -- Meaning: which frames a worker's step makes ready, and that they are its tasks.
 use Rattle.std.specs.Prelude.{◌≡◌, ℕ, [], Option, Some, None, Ok, IfOk, ◌⊎◌}
-use Rattle.frame_tree.specs.Frames.{frame_at, IsReadyAt}
+use Rattle.frame_table.specs.Frames.{frame_at, IsReadyAt}
 use Rattle.sched_rules.specs.declared.step.StepOf.{StepOf}
 use Rattle.sched_rules.specs.Functions.{Functions}
 use Rattle.sched_rules.specs.Trees.{Tree, Tenant}

@@ -1,6 +1,6 @@
 -- Representation: two frames, on which the definitions are tried.
 use Rattle.std.specs.Prelude.{ℕ}
-use Rattle.frame_tree.specs.declared.names.FrameId.{FrameId}
+use Rattle.frame_table.specs.declared.names.FrameId.{FrameId}
 use Rattle.pool_rules.specs.declared.task.Task.{Task}
 
 -- the name of tenant 1's first frame

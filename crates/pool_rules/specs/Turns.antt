@@ -1,7 +1,7 @@
 -- Meaning: the turn of a worker: the table of what it offers, and of what it holds after each answer.
 -- (Cilk 5.4 Reference Manual: work stealing, inlets.)
 use Rattle.std.specs.Prelude.{ℕ, Bool, true, false, ◌==◌, Option, Some, None, Result, Ok, Err, if◌then◌else◌}
-use Rattle.frame_tree.specs.declared.names.FrameId.{FrameId}
+use Rattle.frame_table.specs.declared.names.FrameId.{FrameId}
 use Rattle.sched_rules.specs.declared.refusal.Refusal.{Refusal}
 use Rattle.sched_rules.specs.declared.refusal.Refusal.TheVariants.{NoSegments, NoNodes, NoSteps, BadAct, NotSpent}
 use Rattle.sched_rules.specs.declared.step.StepOf.{StepOf}

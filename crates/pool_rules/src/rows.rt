@@ -1,7 +1,7 @@
 //! The table of the worker's turn, tried on small cases: each contract is computed from the definitions
 //! alone.
 ghost use Rattle.std.specs.Prelude.{◌≡◌, true, false, Some, None, Ok, Err};
-ghost use Rattle.frame_tree.specs.declared.names.FrameId.{FrameId};
+ghost use Rattle.frame_table.specs.declared.names.FrameId.{FrameId};
 ghost use Rattle.jamboree_rules.specs.declared.leaf.Leaf.{Leaf};
 ghost use Rattle.jamboree_rules.specs.declared.leaf.LeafAnswer.{LeafAnswer};
 ghost use Rattle.sched_rules.specs.declared.refusal.Refusal.TheVariants.{NoFrame, NotReady, NoSteps, NoSegments, NotSpent};

@@ -5,7 +5,7 @@ ghost use Rattle.pool_rules.specs.Turns.{holding_after, readied, task_at, is_sho
 
 use crate::task::Task;
 use crate::turn::{Action, Holding, Turn};
-use frame_tree::FrameId;
+use frame_table::FrameId;
 use jamboree_rules::Leaf;
 use sched_rules::{DidOf, Refusal, Worker};
 

@@ -1,5 +1,5 @@
 //! Tasks: frames that became ready.
-use frame_tree::FrameId;
+use frame_table::FrameId;
 
 /// A frame that became ready, and the worker whose task it is. It is a hint: the hall may refuse the frame when a
 /// worker comes for it, as another may have taken it or it may be gone.

@@ -6,7 +6,7 @@ ghost use Rattle.std.specs.Prelude.{◌≡◌};
 
 use crate::table::{done, spent, without_task};
 use crate::task::Task;
-use frame_tree::FrameId;
+use frame_table::FrameId;
 use jamboree_rules::{Leaf, LeafAnswer};
 use sched_rules::{DidOf, Refusal, StepOf, Worker};
 

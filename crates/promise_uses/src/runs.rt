@@ -3,7 +3,7 @@ ghost use Rattle.std.specs.Prelude.{◌≡◌, ◌≢◌, ◌⊎◌, ◌++◌, �
 ghost use Rattle.othello_board.specs.Words.{cells_of};
 ghost use Rattle.othello_eval.specs.Minimax.{minimax, best_choice};
 ghost use Rattle.othello_eval.specs.Tables.{entered, IsTable, IsTrueBound, IsExactIfBest};
-ghost use Rattle.frame_tree.specs.declared.names.FrameId.{FrameId};
+ghost use Rattle.frame_table.specs.declared.names.FrameId.{FrameId};
 ghost use Rattle.sched_rules.specs.declared.job.Job.TheVariants.{Done};
 ghost use Rattle.sched_rules.specs.declared.refusal.Refusal.{Refusal};
 ghost use Rattle.sched_rules.specs.declared.refusal.Refusal.TheVariants.{Busy};

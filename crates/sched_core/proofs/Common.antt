@@ -10,10 +10,10 @@ pub use Rattle.std.specs.Prelude.{◌||◌}
 pub use Rattle.std.specs.Result.{result_err}
 pub use Rattle.std.specs.Vec.{vec_capacity}
 pub use Rattle.cactus_stack.specs.Nodes.{charge}
-pub use Rattle.frame_tree.proofs.TreeChanges.{child-under-parent}
-pub use Rattle.frame_tree.proofs.TreeLaws.{tree-induction}
-pub use Rattle.frame_tree.specs.Frames.{name_of}
-pub use Rattle.frame_tree.specs.declared.names.State.TheVariants.{Waiting}
+pub use Rattle.frame_table.proofs.TreeChanges.{child-under-parent}
+pub use Rattle.frame_table.proofs.TreeLaws.{tree-induction}
+pub use Rattle.frame_table.specs.Frames.{name_of}
+pub use Rattle.frame_table.specs.declared.names.State.TheVariants.{Waiting}
 pub use Rattle.sched_laws.proofs.Common.{Act, Admit, AdmitMore, Admitted, Advance, AllFit, Answer, AreAnswersTo, AreLiveRootsThere, AreNumbersGiven, AreShaped}
 pub use Rattle.sched_laws.proofs.Common.{BadAct, Bool, Busy, Cancel, Cancelled, Compute, Computing, Continuation, CoreFits, CoreState, DidOf, Done, Each, Err}
 pub use Rattle.sched_laws.proofs.Common.{EveryFrameFits, Finish, Fitting, Frame, FrameId, Functions, Go, Grow, Inlet, InletAct, IsAnswerTo, IsShaped, IsTop}

@@ -1,7 +1,7 @@
 -- Representation: what a core keeps true.
 use Rattle.std.specs.Prelude.{◌≡◌, ℕ, ◌+◌, ◌*◌, Bool, true, List, Option, Some, None}
 use Rattle.tenant_quota.specs.declared.account.Left.{Left}
-use Rattle.frame_tree.specs.declared.names.FrameId.{FrameId}
+use Rattle.frame_table.specs.declared.names.FrameId.{FrameId}
 use Rattle.sched_rules.specs.Trees.{Tenant, charged_for}
 use Rattle.sched_rules.specs.Laws.{Fitting, Rooting}
 use Rattle.sched_rules.specs.Cores.{CoreState}

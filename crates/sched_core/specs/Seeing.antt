@@ -1,7 +1,7 @@
 -- Representation: what a step reads of the frame that it names.
 use Rattle.std.specs.Prelude.{◌≡◌, ℕ, true, false, not, ◌&&◌, ◌==◌, nat_lt, List, [], length, Option, Some, None, is_some, if◌then◌else◌}
-use Rattle.frame_tree.specs.declared.names.FrameId.{FrameId}
-use Rattle.frame_tree.specs.Frames.{Frame, frame_at, has_frame, name_of, parent_of, children_of, IsTree}
+use Rattle.frame_table.specs.declared.names.FrameId.{FrameId}
+use Rattle.frame_table.specs.Frames.{Frame, frame_at, has_frame, name_of, parent_of, children_of, IsTree}
 use Rattle.sched_rules.specs.declared.refusal.Refusal.{Refusal}
 use Rattle.sched_rules.specs.declared.refusal.Refusal.TheVariants.{NoTenant, NoFrame}
 use Rattle.sched_rules.specs.declared.act.Continuation.{Continuation}

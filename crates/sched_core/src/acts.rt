@@ -1,6 +1,6 @@
 //! Advance, Answer and Inlet: what a procedure makes of a frame.
 ghost use Rattle.std.specs.Prelude.{◌≡◌, ◌≢◌, ◌==◌, ◌||◌, ◌∷◌, false, true, IfOk, MatchResult, IsSome, Some, ℕ, List, [], not};
-ghost use Rattle.frame_tree.specs.Frames.{Frame, name_of, parent_of};
+ghost use Rattle.frame_table.specs.Frames.{Frame, name_of, parent_of};
 ghost use Rattle.sched_rules.specs.Cores.{shared_refusal};
 ghost use Rattle.sched_rules.specs.Trees.{Tenant, left as left_for, has_child as has_child_in, is_outside as is_outside_of};
 ghost use Rattle.sched_rules.specs.Lone.{unless, act_tests, refusal_in, is_spendable as is_spendable_of, is_bad_inlet as is_bad_inlet_of, is_bad_then as is_bad_then_of};
@@ -13,7 +13,7 @@ ghost use Rattle.sched_core.specs.Seeing.{IsSeen, IsRunning, IsReturnedUnder};
 use crate::decide::{first_of_four, is_computed_by, is_outside, is_returned, is_run_by, may_act};
 use crate::engine::{Engine, Found, Seen, known, look_in, own};
 use cactus_stack::Words;
-use frame_tree::{FrameId, State};
+use frame_table::{FrameId, State};
 use sched_rules::{Act, Continuation, InletAct, Procedure, Refusal, Stores, Worker};
 use sched_store::Store;
 use std::alloc::Allocator;

@@ -2,12 +2,12 @@
 //! `specs/Lone.antt` of `sched_rules` gives, where there is one.
 ghost use Rattle.std.specs.Prelude.{◌≡◌, ◌+◌, ◌≤◌, ◌==◌, ◌||◌, ◌∷◌, [], not, ℕ, false, List, length};
 ghost use Rattle.cactus_stack.specs.Nodes.{charge as charge_for};
-ghost use Rattle.frame_tree.specs.Frames.{Frame};
+ghost use Rattle.frame_table.specs.Frames.{Frame};
 ghost use Rattle.sched_rules.specs.Trees.{Tenant, left as left_of, has_child as has_child_of, is_outside as is_outside_of};
 ghost use Rattle.sched_rules.specs.Lone.{unless, is_frame_size as is_frame_size_of, is_ready_at as is_ready_at_of, is_run_by as is_run_by_of, is_computed_by as is_computed_by_of, is_returned as is_returned_of, is_waiting as is_waiting_of, is_bad_then as is_bad_then_of, is_bad_act as is_bad_act_of, is_spawn as is_spawn_of, segments_for as segments_for_of, act_tests};
 
 use cactus_stack::Words;
-use frame_tree::State;
+use frame_table::State;
 use sched_rules::{Act, Continuation, Refusal};
 use tenant_quota::Left;
 

@@ -13,7 +13,7 @@ ghost use Rattle.sched_core.specs.StepResults.{FollowsResult};
 use crate::decide::{first_of, is_unfinished};
 use crate::engine::{Engine, look, own};
 use crate::steps::StepAnswer;
-use frame_tree::FrameId;
+use frame_table::FrameId;
 use sched_rules::{DidOf, Job, JobWords, Procedure, Refusal, Worker};
 use sched_store::Store;
 use std::alloc::Allocator;

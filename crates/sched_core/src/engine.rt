@@ -1,13 +1,13 @@
 //! A procedure and a store: what each step reads before it is decided.
 ghost use Rattle.std.specs.Prelude.{◌≡◌, ℕ, List, Some, None, IsSome, IfOk, MatchResult};
-ghost use Rattle.frame_tree.specs.Frames.{Frame};
+ghost use Rattle.frame_table.specs.Frames.{Frame};
 ghost use Rattle.sched_rules.specs.Trees.{Tenant};
 ghost use Rattle.sched_rules.specs.Views.{named};
 ghost use Rattle.sched_store.specs.Reads.{words_under, sight_of, AreTenantsRising};
 ghost use Rattle.sched_core.specs.Seeing.{IsSeen, missing};
 
 use cactus_stack::{Sight, Words};
-use frame_tree::{FrameId, State};
+use frame_table::{FrameId, State};
 use sched_rules::Refusal;
 use sched_store::{Sighted, Store};
 use std::alloc::{Allocator, Global};

@@ -1,6 +1,6 @@
 //! Take and Steal: a worker runs a ready frame.
 ghost use Rattle.std.specs.Prelude.{◌≡◌, true, false, IfOk, IsSome};
-ghost use Rattle.frame_tree.specs.declared.names.State.TheVariants.{Running};
+ghost use Rattle.frame_table.specs.declared.names.State.TheVariants.{Running};
 ghost use Rattle.sched_rules.specs.Changes.{on_tenant};
 ghost use Rattle.sched_rules.specs.Cores.{shared_refusal};
 ghost use Rattle.sched_rules.specs.Lone.{refusal_in, in_state, counted};
@@ -12,7 +12,7 @@ ghost use Rattle.sched_core.specs.StepResults.{FollowsResult};
 use crate::decide::{first_of_four, is_out_of_reach, is_ready_at};
 use crate::engine::{Engine, look};
 use crate::steps::StepAnswer;
-use frame_tree::{FrameId, State};
+use frame_table::{FrameId, State};
 use sched_rules::{DidOf, Procedure, Refusal, Worker};
 use std::alloc::Allocator;
 

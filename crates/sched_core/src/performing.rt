@@ -3,7 +3,7 @@
 //! `fitting` says that all frames are known to fit (the procedure's invariant holds of them), so that the procedure
 //! need not test their words (`Procedure::next_of`); the answers are the same either way.
 ghost use Rattle.std.specs.Prelude.{◌≡◌, ◌||◌, ◌&&◌, not, true, ℕ, List, Some};
-ghost use Rattle.frame_tree.specs.Frames.{Frame, frame_at};
+ghost use Rattle.frame_table.specs.Frames.{Frame, frame_at};
 ghost use Rattle.sched_rules.specs.Trees.{Tenant, has_child as has_child_in, is_root as is_root_path};
 ghost use Rattle.sched_rules.specs.Lone.{does_wait, then_done, aborted_beside};
 ghost use Rattle.sched_rules.specs.Cores.{tenant_in};
@@ -18,7 +18,7 @@ use crate::acts::{may_do, may_take_in};
 use crate::decide::is_waiting;
 use crate::engine::{Engine, Found, known, own};
 use crate::steps::StepAnswer;
-use frame_tree::{FrameId, State};
+use frame_table::{FrameId, State};
 use sched_rules::{Continuation, Did, DidOf, InletAct, Procedure, Worker};
 use sched_store::Store;
 use std::alloc::Allocator;

@@ -14,7 +14,7 @@ ghost use Rattle.sched_core.specs.Keeping.{IsKeptCore, IsRestOf, IsNewestReadyOf
 use crate::asking::stays_fitting;
 use crate::engine::Engine;
 use cactus_stack::Words;
-use frame_tree::{FrameId, State};
+use frame_table::{FrameId, State};
 use sched_rules::{Config, Did, Job, Procedure, Refusal, Step};
 use sched_store::Store;
 use std::alloc::{AllocError, Allocator, Global};

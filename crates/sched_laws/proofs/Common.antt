@@ -9,22 +9,22 @@ pub use Rattle.std.proofs.lemmas.List.Elements.{filter-append}
 pub use Rattle.std.proofs.lemmas.List.Sums.{sum_by-append, sum_by-cons}
 pub use Rattle.std.specs.List.{filter}
 pub use Rattle.std.specs.Prelude.{if◌then◌else◌, is_ok, ◌==◌}
-pub use Rattle.frame_tree.proofs.Forest.{AllBelow-append, EndsIn, has_frame-above, path_in-left, path_in-right}
-pub use Rattle.frame_tree.proofs.TreeChanges.{AllBelow-filter, aborted-itself, aborted-leaf, filter-found, frame_at-filter, frame_at-stays, frame_at-without}
-pub use Rattle.frame_tree.proofs.TreeChanges.{frame_at-other-without, rising-filter, tree-aborted, tree-without, tree-without_job}
-pub use Rattle.frame_tree.proofs.TreeLaws.{IsTop, IsUnder, above-missing, below-found, children-by-paths, each-found, found-each, found-ends, found-path}
-pub use Rattle.frame_tree.proofs.TreeLaws.{found-serial, found-there, frame_at-left, frame_at-push, frame_at-other-push, missing, named-under, placed}
-pub use Rattle.frame_tree.proofs.TreeLaws.{there-found, top-path, tree-rising, under-below, under-there, under-through}
-pub use Rattle.frame_tree.proofs.TreeValues.{AllBelow-alike, children_of-push, children_of-with_state, frame_at-with_state, frame_at-other-with_state}
-pub use Rattle.frame_tree.proofs.TreeValues.{new-frame-next, parent_of-path_under, path_in-alike, root-there, tree-alike, tree-new_frame, tree-push}
-pub use Rattle.frame_tree.proofs.TreeValues.{tree-with_state, values_of-with_state, with_state-alike}
-pub use Rattle.frame_tree.specs.Frames.{AllBelow, Frame, IsNextFrame, IsReadyAt, IsTree, aborted, children_of, children_under, first_of_two, frame_at}
-pub use Rattle.frame_tree.specs.Frames.{frames_without, goes_under, has_frame, is_ready, new_frame, newest_ready_of, parent_of, path_in, ready_name, root_of}
-pub use Rattle.frame_tree.specs.Frames.{values_of, with_state}
-pub use Rattle.frame_tree.specs.TreeLaws.{AllAboveSerial, AreAlike, AreSerialsRising, Each, if_kept, is_child_of, is_that}
-pub use Rattle.frame_tree.specs.declared.names.FrameId.{FrameId}
-pub use Rattle.frame_tree.specs.declared.names.State.{State}
-pub use Rattle.frame_tree.specs.declared.names.State.TheVariants.{Computing, Ready, Returned, Running}
+pub use Rattle.frame_table.proofs.Forest.{AllBelow-append, EndsIn, has_frame-above, path_in-left, path_in-right}
+pub use Rattle.frame_table.proofs.TreeChanges.{AllBelow-filter, aborted-itself, aborted-leaf, filter-found, frame_at-filter, frame_at-stays, frame_at-without}
+pub use Rattle.frame_table.proofs.TreeChanges.{frame_at-other-without, rising-filter, tree-aborted, tree-without, tree-without_job}
+pub use Rattle.frame_table.proofs.TreeLaws.{IsTop, IsUnder, above-missing, below-found, children-by-paths, each-found, found-each, found-ends, found-path}
+pub use Rattle.frame_table.proofs.TreeLaws.{found-serial, found-there, frame_at-left, frame_at-push, frame_at-other-push, missing, named-under, placed}
+pub use Rattle.frame_table.proofs.TreeLaws.{there-found, top-path, tree-rising, under-below, under-there, under-through}
+pub use Rattle.frame_table.proofs.TreeValues.{AllBelow-alike, children_of-push, children_of-with_state, frame_at-with_state, frame_at-other-with_state}
+pub use Rattle.frame_table.proofs.TreeValues.{new-frame-next, parent_of-path_under, path_in-alike, root-there, tree-alike, tree-new_frame, tree-push}
+pub use Rattle.frame_table.proofs.TreeValues.{tree-with_state, values_of-with_state, with_state-alike}
+pub use Rattle.frame_table.specs.Frames.{AllBelow, Frame, IsNextFrame, IsReadyAt, IsTree, aborted, children_of, children_under, first_of_two, frame_at}
+pub use Rattle.frame_table.specs.Frames.{frames_without, goes_under, has_frame, is_ready, new_frame, newest_ready_of, parent_of, path_in, ready_name, root_of}
+pub use Rattle.frame_table.specs.Frames.{values_of, with_state}
+pub use Rattle.frame_table.specs.TreeLaws.{AllAboveSerial, AreAlike, AreSerialsRising, Each, if_kept, is_child_of, is_that}
+pub use Rattle.frame_table.specs.declared.names.FrameId.{FrameId}
+pub use Rattle.frame_table.specs.declared.names.State.{State}
+pub use Rattle.frame_table.specs.declared.names.State.TheVariants.{Computing, Ready, Returned, Running}
 pub use Rattle.sched_rules.proofs.Isolation.{above, found, more-there, shared-after-taken, step-taken, step_result-step, there}
 pub use Rattle.sched_rules.proofs.Tenants.{known-number, tenant_in-with_outcome, tenant_in-other-with_outcome}
 pub use Rattle.sched_rules.specs.Cores.{CoreState, accounts_in, admit_tests, charged_in, is_beyond, is_full, meets_busy, newest_after, reservations_in}

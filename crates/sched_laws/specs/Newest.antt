@@ -1,7 +1,7 @@
 -- Representation: the ready frame of the greatest serial.
 use Rattle.std.specs.Prelude.{◌≡◌, ℕ, ◌≤◌, true, List, Some}
-use Rattle.frame_tree.specs.declared.names.FrameId.{FrameId}
-use Rattle.frame_tree.specs.Frames.{Frame, frame_at, is_ready, IsReadyAt}
+use Rattle.frame_table.specs.declared.names.FrameId.{FrameId}
+use Rattle.frame_table.specs.Frames.{Frame, frame_at, is_ready, IsReadyAt}
 use Rattle.sched_rules.specs.Trees.{Tree}
 
 -- the name and the home of a ready frame of this tenant, and no ready frame of it has a greater serial

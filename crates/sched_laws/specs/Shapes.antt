@@ -1,6 +1,6 @@
 -- Representation: the shape of a tenant, which every step keeps: its tree, its jobs, and what it used of what it reserved.
 use Rattle.std.specs.Prelude.{◌≡◌, ℕ, ◌+◌, ◌*◌, ◌≤◌, ◌⊎◌, true, false, List, [], ◌∷◌, length, filter}
-use Rattle.frame_tree.specs.Frames.{Frame, path_in, AllBelow, IsTree}
+use Rattle.frame_table.specs.Frames.{Frame, path_in, AllBelow, IsTree}
 use Rattle.tenant_quota.specs.Accounts.{reserved_segments, reserved_nodes}
 use Rattle.sched_rules.specs.declared.job.Job.{Job}
 use Rattle.sched_rules.specs.declared.job.Job.TheVariants.{Live, Done, Spent, Cancelled}

@@ -1,6 +1,6 @@
 -- Representation: when a job may be given up, in terms of what its frame's steps would be refused.
 use Rattle.std.specs.Prelude.{◌≡◌, ℕ, ◌⊎◌, Some}
-use Rattle.frame_tree.specs.declared.names.FrameId.{FrameId}
+use Rattle.frame_table.specs.declared.names.FrameId.{FrameId}
 use Rattle.sched_rules.specs.declared.refusal.Refusal.{Refusal}
 use Rattle.sched_rules.specs.declared.refusal.Refusal.TheVariants.{BadAct, NoNodes, NoSegments}
 use Rattle.sched_rules.specs.declared.step.StepOf.TheVariants.{Advance, Inlet}

@@ -2,8 +2,8 @@
 ghost use Rattle.std.specs.Prelude.{◌≡◌, ℕ, ◌≤◌, List, [], ◌∷◌, ◌++◌, Some, Result, length, true};
 ghost use Rattle.tenant_quota.specs.Quota.{Quota, IsWithinLimits};
 ghost use Rattle.tenant_quota.specs.Accounts.{IsWithinReserve};
-ghost use Rattle.frame_tree.specs.declared.names.State.TheVariants.{Computing, Returned};
-ghost use Rattle.frame_tree.specs.Frames.{Frame, frame_at, path_in, root_of, children_of};
+ghost use Rattle.frame_table.specs.declared.names.State.TheVariants.{Computing, Returned};
+ghost use Rattle.frame_table.specs.Frames.{Frame, frame_at, path_in, root_of, children_of};
 ghost use Rattle.sched_rules.specs.declared.job.Job.TheVariants.{Live};
 ghost use Rattle.sched_rules.specs.declared.refusal.Refusal.{Refusal};
 ghost use Rattle.sched_rules.specs.declared.step.StepOf.{StepOf};

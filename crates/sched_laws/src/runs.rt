@@ -1,8 +1,8 @@
 //! Lists of steps in parts, the numbers of jobs, and the newest ready frame.
 ghost use Rattle.std.specs.Prelude.{◌≡◌, ℕ, ◌+◌, List, ◌++◌, Option, Some, None, Result, Ok, length, false};
 ghost use Rattle.tenant_quota.specs.Quota.{Quota};
-ghost use Rattle.frame_tree.specs.declared.names.FrameId.{FrameId};
-ghost use Rattle.frame_tree.specs.Frames.{Frame, frame_at, is_ready, newest_ready_of};
+ghost use Rattle.frame_table.specs.declared.names.FrameId.{FrameId};
+ghost use Rattle.frame_table.specs.Frames.{Frame, frame_at, is_ready, newest_ready_of};
 ghost use Rattle.sched_rules.specs.declared.refusal.Refusal.{Refusal};
 ghost use Rattle.sched_rules.specs.declared.step.StepOf.{StepOf};
 ghost use Rattle.sched_rules.specs.declared.step.StepOf.TheVariants.{Submit};

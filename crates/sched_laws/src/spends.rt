@@ -1,7 +1,7 @@
 //! When a job may be given up.
 ghost use Rattle.std.specs.Prelude.{◌≡◌, ◌↔◌, ℕ, List, Some};
-ghost use Rattle.frame_tree.specs.declared.names.FrameId.{FrameId};
-ghost use Rattle.frame_tree.specs.Frames.{Frame, frame_at};
+ghost use Rattle.frame_table.specs.declared.names.FrameId.{FrameId};
+ghost use Rattle.frame_table.specs.Frames.{Frame, frame_at};
 ghost use Rattle.sched_rules.specs.Trees.{Tenant};
 ghost use Rattle.sched_rules.specs.Lone.{IsSpendable};
 ghost use Rattle.sched_laws.specs.Spends.{MayBeSpent};

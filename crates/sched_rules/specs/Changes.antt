@@ -1,7 +1,7 @@
 -- Representation: one tenant of a core changed, and all others as they were.
 use Rattle.std.specs.Prelude.{ℕ, ◌==◌, List, [], ◌∷◌, ◌++◌, if◌then◌else◌}
 use Rattle.tenant_quota.specs.Quota.{Quota}
-use Rattle.frame_tree.specs.Frames.{aborted, frames_without}
+use Rattle.frame_table.specs.Frames.{aborted, frames_without}
 use Rattle.sched_rules.specs.declared.job.Job.{Job}
 use Rattle.sched_rules.specs.Trees.{Tenant, with_ended}
 use Rattle.sched_rules.specs.Cores.{CoreState}

@@ -1,9 +1,9 @@
 -- Meaning: what every lawful procedure keeps: that frames fit.
 use Rattle.std.specs.Prelude.{◌≡◌, ℕ, Bool, true, false, nat_lt, List, [], ◌∷◌, ◌++◌, if◌then◌else◌, length, replicate}
 use Rattle.cactus_stack.specs.Nodes.{padded}
-use Rattle.frame_tree.specs.declared.names.State.{State}
-use Rattle.frame_tree.specs.declared.names.State.TheVariants.{Computing, Returned}
-use Rattle.frame_tree.specs.Frames.{Frame, children_of, values_of}
+use Rattle.frame_table.specs.declared.names.State.{State}
+use Rattle.frame_table.specs.declared.names.State.TheVariants.{Computing, Returned}
+use Rattle.frame_table.specs.Frames.{Frame, children_of, values_of}
 use Rattle.sched_rules.specs.declared.act.Act.{Act}
 use Rattle.sched_rules.specs.declared.act.Continuation.{Continuation}
 use Rattle.sched_rules.specs.declared.act.Continuation.TheVariants.{Grow, Spawn, Go, Wait, Compute, Return}

@@ -6,9 +6,9 @@ use Rattle.tenant_quota.specs.Quota.{Quota}
 use Rattle.tenant_quota.specs.Accounts.{left_in}
 use Rattle.tenant_quota.specs.declared.account.Account.{Account}
 use Rattle.tenant_quota.specs.declared.account.Left.{Left}
-use Rattle.frame_tree.specs.declared.names.State.{State}
-use Rattle.frame_tree.specs.declared.names.State.TheVariants.{Ready, Running, Computing, Waiting, Returned}
-use Rattle.frame_tree.specs.Frames.{Frame, frame_at, aborted, frames_without, children_of}
+use Rattle.frame_table.specs.declared.names.State.{State}
+use Rattle.frame_table.specs.declared.names.State.TheVariants.{Ready, Running, Computing, Waiting, Returned}
+use Rattle.frame_table.specs.Frames.{Frame, frame_at, aborted, frames_without, children_of}
 use Rattle.sched_rules.specs.declared.job.Job.{Job}
 use Rattle.sched_rules.specs.declared.job.Job.TheVariants.{Live, Done, Spent, Cancelled}
 

@@ -1,9 +1,9 @@
 -- Meaning: what the calls that only read a core answer.
 use Rattle.std.specs.Prelude.{ℕ, ◌+◌, ◌-◌, List, [], ◌∷◌, Option, option_map, option_and_then, length, sum_by}
 use Rattle.tenant_quota.specs.declared.account.Left.{Left}
-use Rattle.frame_tree.specs.declared.names.State.{State}
-use Rattle.frame_tree.specs.declared.names.FrameId.{FrameId}
-use Rattle.frame_tree.specs.Frames.{Frame, frame_at, parent_of, name_of, newest_ready_of, ready_frames}
+use Rattle.frame_table.specs.declared.names.State.{State}
+use Rattle.frame_table.specs.declared.names.FrameId.{FrameId}
+use Rattle.frame_table.specs.Frames.{Frame, frame_at, parent_of, name_of, newest_ready_of, ready_frames}
 use Rattle.sched_rules.specs.declared.job.Job.{Job}
 use Rattle.sched_rules.specs.Trees.{Tenant, left, job_at}
 use Rattle.sched_rules.specs.Cores.{CoreState, tenant_in, charged_in}

@@ -5,7 +5,7 @@ ghost use Rattle.sched_rules.specs.Runs.{tenant_of};
 use crate::act::GivenWords;
 use crate::procedure::Procedure;
 use crate::worker::Worker;
-use frame_tree::FrameId;
+use frame_table::FrameId;
 use std::alloc::AllocError;
 use tenant_quota::Reserve;
 

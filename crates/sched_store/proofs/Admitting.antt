@@ -8,7 +8,7 @@ use Rattle.sched_store.proofs.Common.{cases_eq, ne_eqb, leb-false, ltb-false, or
 use Rattle.sched_store.proofs.Common.{reserved_by, is_beyond, owner_of_account, account_of, fresh, with_new, raised_to, IsStored, IsAccountFor}
 use Rattle.sched_store.proofs.Common.{AreFramesNodes, numbers_in, AreAtMost, frame_in_trees, node_of, Reservations, IsSoundBook, HasRoom, Admits}
 use Rattle.sched_store.proofs.Common.{KeepsOtherAccounts, HasRoomFor, CanRaise, Raises, empty_of}
-use Rattle.number_index.proofs.Edits.{said-inserted-own, said-inserted-other}
+use Rattle.numbered_list.proofs.Edits.{said-inserted-own, said-inserted-other}
 use Rattle.sched_store.proofs.Lookups.{agrees-still, its-account, nobodys, within-reserve, Frames, Trees, Owns, none-or-some, Entries, reservations-found, tenant-found, length-numbers, numbers-inserted, no-job_list}
 use Rattle.std.proofs.lemmas.Bool.Decides.{nat_tests}
 use Rattle.std.proofs.lemmas.List.Folds.{sum_by-replicate}

@@ -10,19 +10,19 @@ pub use Rattle.std.proofs.lemmas.List.Sums.{sum_by-cons}
 pub use Rattle.std.specs.List.{filter}
 pub use Rattle.cactus_stack.specs.Nodes.{HasAllChildren, HasNoChild, IsOpen, IsSight, IsUnused, Node, Nodes, charge, charge_of, growth_charge, node_at}
 pub use Rattle.cactus_stack.specs.Nodes.{node_parent, node_words, padded, parent_of_node, total_charge, with_node, with_node_words, without, words_of_node}
-pub use Rattle.frame_tree.proofs.TreeChanges.{AllBelow-filter, child-further-under, filter-found, frame_at-stays, tree-aborted, tree-without}
-pub use Rattle.frame_tree.proofs.TreeLaws.{IsPlaced, IsTop, IsUnder, above-missing, below-found, children-by-paths, found-each, found-path, found-serial}
-pub use Rattle.frame_tree.proofs.TreeLaws.{found-there, frame_at-left, frame_at-push, frame_at-other-push, placed, there-found, tree-induction, tree-rising}
-pub use Rattle.frame_tree.proofs.TreeLaws.{under-there}
-pub use Rattle.frame_tree.specs.Frames.{AllBelow, Frame, HasValue, IsReadyAt, IsTree, TenantTree, aborted, children_of, entry_of_frame, first_of_two, frame_at}
-pub use Rattle.frame_tree.specs.Frames.{frames_under, frames_without, goes_under, has_frame, has_parent, name_of, names_of, new_frame, newest_ready_of}
-pub use Rattle.frame_tree.specs.Frames.{parent_of, path_in, path_under, ready_frames, ready_name, root_of, values_of, with_state}
-pub use Rattle.frame_tree.specs.Tables.{IsParentIn, KeepsOtherFrames, KeepsOtherTenants, frames_of, places_of, serial_of, tenant_count}
-pub use Rattle.frame_tree.specs.TreeLaws.{AllAboveSerial, AreSerialsRising, Each, is_child_of, map_value, map_values}
-pub use Rattle.frame_tree.specs.declared.names.Entry.{Entry}
-pub use Rattle.frame_tree.specs.declared.names.FrameId.{FrameId}
-pub use Rattle.frame_tree.specs.declared.names.State.TheVariants.{Computing, Ready, Returned, Running, Waiting}
-pub use Rattle.number_index.specs.Places.{AreRising, change_by_number, find_by_number, has_by_number, inserted, remove_by_number}
+pub use Rattle.frame_table.proofs.TreeChanges.{AllBelow-filter, child-further-under, filter-found, frame_at-stays, tree-aborted, tree-without}
+pub use Rattle.frame_table.proofs.TreeLaws.{IsPlaced, IsTop, IsUnder, above-missing, below-found, children-by-paths, found-each, found-path, found-serial}
+pub use Rattle.frame_table.proofs.TreeLaws.{found-there, frame_at-left, frame_at-push, frame_at-other-push, placed, there-found, tree-induction, tree-rising}
+pub use Rattle.frame_table.proofs.TreeLaws.{under-there}
+pub use Rattle.frame_table.specs.Frames.{AllBelow, Frame, HasValue, IsReadyAt, IsTree, TenantTree, aborted, children_of, entry_of_frame, first_of_two, frame_at}
+pub use Rattle.frame_table.specs.Frames.{frames_under, frames_without, goes_under, has_frame, has_parent, name_of, names_of, new_frame, newest_ready_of}
+pub use Rattle.frame_table.specs.Frames.{parent_of, path_in, path_under, ready_frames, ready_name, root_of, values_of, with_state}
+pub use Rattle.frame_table.specs.Tables.{IsParentIn, KeepsOtherFrames, KeepsOtherTenants, frames_of, places_of, serial_of, tenant_count}
+pub use Rattle.frame_table.specs.TreeLaws.{AllAboveSerial, AreSerialsRising, Each, is_child_of, map_value, map_values}
+pub use Rattle.frame_table.specs.declared.names.Entry.{Entry}
+pub use Rattle.frame_table.specs.declared.names.FrameId.{FrameId}
+pub use Rattle.frame_table.specs.declared.names.State.TheVariants.{Computing, Ready, Returned, Running, Waiting}
+pub use Rattle.numbered_list.specs.Places.{AreRising, change_by_number, find_by_number, has_by_number, inserted, remove_by_number}
 pub use Rattle.sched_rules.specs.Changes.{on_tenant, with_change, with_reserve, without_frame, without_under}
 pub use Rattle.sched_rules.specs.Cores.{CoreState, accounts_in, charged_in, is_beyond, is_full, reservations_in, reserved_by, tenant_in, without_tenant}
 pub use Rattle.sched_rules.specs.Trees.{Tenant, Tree, account_in, admitted_with, charged_for, frame_words, has_child, is_busy_in, is_held_by, is_live_at}

@@ -6,7 +6,7 @@ use Rattle.sched_store.proofs.Common.{owner_of_jobs, jobs_of, with_jobs, find_by
 use Rattle.std.proofs.Math.Bool.{or-true}
 use Rattle.std.specs.Prelude.{Option, IfSome, IfNone, option_copied}
 use Rattle.std.specs.Borrow.{Bor}
-use Rattle.number_index.proofs.Edits.{said-found, put-changed, found-said, found-none}
+use Rattle.numbered_list.proofs.Edits.{said-found, put-changed, found-said, found-none}
 use Rattle.sched_store.proofs.Common.{drop_all}
 
 abbrev pub Jobs : Type 0

@@ -6,7 +6,7 @@ use Rattle.sched_store.proofs.Common.{Tenant, charged_for, CoreState, without_te
 use Rattle.sched_store.proofs.Common.{without_jobs, Parts, with_words_of_nodes, tenants_from, shared_of, IsStored, IsAccountFor, numbers_in}
 use Rattle.sched_store.proofs.Common.{AreAtMost, remove_by_number}
 use Rattle.tenant_quota.specs.Accounts.{owner_of_account, account_of, without as without_account, AllEntries, IsRising, charged_segments}
-use Rattle.number_index.proofs.Edits.{said-without-other, all-without}
+use Rattle.numbered_list.proofs.Edits.{said-without-other, all-without}
 use Rattle.sched_store.proofs.Steps.{SameOthers}
 use Rattle.sched_store.proofs.Lookups.{agrees-still, its-account, within-reserve, Frames, Trees, tree_in, Owns, numbers-without}
 use Rattle.sched_store.proofs.Closing.{IsCut, closed, closing, cut-belongs, cut-places, cut-words, cut-trees, TakesChildren, closing-open, closing-once, closing-children, cut-frees}

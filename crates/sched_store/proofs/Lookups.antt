@@ -10,10 +10,10 @@ use Rattle.sched_store.proofs.Common.{account_in, job_at, sight, words_in, tenan
 use Rattle.sched_store.proofs.Common.{with_words_of_nodes, tenant_from, tenants_from, shared_of, tree_of, jobs_kept, frames_in_core, jobs_in, AreAfter}
 use Rattle.sched_store.proofs.Common.{AreTenantsRising, AgreesWith, IsAccountFor, places_of, CoreState, AreRising, path_of, sight_of, Quota, Entry, found-there, IsTop, IsUnder, tree-induction, found-serial}
 use Rattle.sched_store.proofs.Common.{AllEntries-of, IsWithinReserve, reverse-append, map-append, Each, found-each, tree-rising}
-use Rattle.number_index.specs.Places.{AreAbove}
-use Rattle.number_index.proofs.Edits.{said-lacks, has-above, has-found, lacks-said}
+use Rattle.numbered_list.specs.Places.{AreAbove}
+use Rattle.numbered_list.proofs.Edits.{said-lacks, has-above, has-found, lacks-said}
 use Rattle.tenant_quota.proofs.Places.{entry-of}
-use Rattle.frame_tree.proofs.TreeValues.{frame_at-map_values, tree-map_values}
+use Rattle.frame_table.proofs.TreeValues.{frame_at-map_values, tree-map_values}
 use Rattle.sched_rules.specs.Headline.{AreNumbersTaken, AreNumbersGiven}
 use Rattle.sched_rules.specs.Views.{left_in_core, job_of, named, free_in, frame_in_core, newest_ready_in}
 use Rattle.tenant_quota.specs.declared.book.Rest.{Rest}

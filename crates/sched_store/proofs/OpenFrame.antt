@@ -8,7 +8,7 @@ use Rattle.sched_store.proofs.Common.{frame_in_trees, node_of, node_above, Frame
 use Rattle.sched_store.proofs.Common.{new_frame, name_of, found-there, below-found, frame_at-push, frame_at-other-push, frame_at-left}
 use Rattle.sched_store.proofs.Common.{under-there, there-found, Nodes, Node, node_at, node_words, words_of_node, parent_of_node as node_parent_of, with_node}
 use Rattle.sched_store.proofs.Common.{IsOpen, IsUnused, padded, charge, charge_of, total_charge}
-use Rattle.frame_tree.proofs.TreeValues.{tree-new_frame, parent_of-path_under, append-map_values, path_in-map_values, has_frame-map_values}
+use Rattle.frame_table.proofs.TreeValues.{tree-new_frame, parent_of-path_under, append-map_values, path_in-map_values, has_frame-map_values}
 use Rattle.sched_rules.specs.Lone.{opened, is_frame_size}
 use Rattle.std.proofs.lemmas.List.Sums.{sum_by-set}
 use Rattle.sched_store.proofs.Words.{with_words_of_nodes-same}

@@ -13,7 +13,7 @@ use Rattle.sched_store.proofs.Closing.{IsCut, closing, cut-belongs, cut-places, 
 use Rattle.sched_store.proofs.OpenFrame.{node-frame}
 use Rattle.sched_store.proofs.States.{frame-account}
 use Rattle.sched_store.proofs.Steps.{TenantStep, Stepped, stepped, other-tenants, length-with_words_of_nodes}
-use Rattle.frame_tree.proofs.TreeValues.{frames_without-map_values, children_of-map_values, aborted-map_values, frames_under-map_values}
+use Rattle.frame_table.proofs.TreeValues.{frames_without-map_values, children_of-map_values, aborted-map_values, frames_under-map_values}
 use Rattle.sched_store.proofs.Lookups.{Frames, Trees, family, there-frame, framed, tree_in, entry_in, Owns, its-account, frames-found, named-found, found, nothing-found}
 use Rattle.cactus_stack.proofs.LawFacts.{charge-without}
 use Rattle.sched_rules.specs.Views.{named, words_of_frame}

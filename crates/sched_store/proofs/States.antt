@@ -8,8 +8,8 @@ use Rattle.sched_store.proofs.Common.{frame_in_trees, AreFramesNodes, ArePlaces,
 use Rattle.sched_store.proofs.Common.{or_cases, or_left, or_right, false_from_ne_true, cases_eq}
 use Rattle.sched_rules.specs.Views.{named}
 use Rattle.sched_store.proofs.Lookups.{Frames, Trees, family, framed, tree_in, with_words, entry_in, Owns, its-account, nobodys, none-or-some, named-found, found, nothing-found, there-frame}
-use Rattle.frame_tree.specs.declared.names.State.{State}
-use Rattle.frame_tree.proofs.TreeValues.{tree-with_state, with_state-alike, AllBelow-alike, with_state-map_values, frame_at-with_state, frame_at-other-with_state}
+use Rattle.frame_table.specs.declared.names.State.{State}
+use Rattle.frame_table.proofs.TreeValues.{tree-with_state, with_state-alike, AllBelow-alike, with_state-map_values, frame_at-with_state, frame_at-other-with_state}
 use Rattle.sched_rules.specs.Lone.{in_state}
 use Rattle.sched_store.proofs.Steps.{TenantStep, other-tenants, changed-nothing, Stepped, stepped}
 

@@ -8,13 +8,13 @@ use Rattle.sched_store.proofs.Common.{KeepsOtherTenants, Reservations, changed, 
 use Rattle.sched_store.proofs.Common.{tenants_from, shared_of, jobs_of, numbers_of, JobListOf, owner_of_jobs, is_there, with_jobs, IsStored, IsAccountFor}
 use Rattle.sched_store.proofs.Common.{AreFramesNodes, ArePlaces, numbers_in, frame_in_trees, owner_of_account, account_of, with_changed}
 use Rattle.sched_store.proofs.Common.{charged_segments, AllEntries, IsRising, ticked, left_in}
-use Rattle.number_index.proofs.Edits.{with-same, said-with-own, said-with-other, length-with, all-with}
+use Rattle.numbered_list.proofs.Edits.{with-same, said-with-own, said-with-other, length-with, all-with}
 use Rattle.sched_store.proofs.Lookups.{agrees-still, its-account, nobodys, within-reserve, Frames, Trees, tree_in, with_words, Owns, Entries, none-or-some, numbers-with, job_list-there, tenant-there, left-found, named-found, tenant-found}
 use Rattle.sched_store.proofs.Common.{find_by_number, change_by_number}
 use Rattle.sched_store.proofs.Jobs.{found-changed}
 use Rattle.sched_rules.specs.Lone.{counted}
 use Rattle.tenant_quota.proofs.Standing.{some-of}
-use Rattle.frame_tree.proofs.Finds.{none-of-length}
+use Rattle.frame_table.proofs.Finds.{none-of-length}
 
 -- a number, and what is beside it changed
 abbrev with_second : {X : Type 0} → (X → X) → ℕ × X → ℕ × X

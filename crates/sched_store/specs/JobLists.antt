@@ -1,6 +1,6 @@
 -- Representation: the jobs of each tenant: a list of tenants, each with its jobs, in the order of their numbers.
 use Rattle.std.specs.Prelude.{◌≡◌, ℕ, Bool, true, false, ◌||◌, List, [], ◌∷◌}
-use Rattle.number_index.specs.Places.{read_by_number, has_by_number, change_by_number, remove_by_number}
+use Rattle.numbered_list.specs.Places.{read_by_number, has_by_number, change_by_number, remove_by_number}
 use Rattle.sched_rules.specs.declared.job.Job.{Job}
 use Rattle.sched_rules.specs.declared.job.Job.TheVariants.{Live, Done, Spent, Cancelled}
 use Rattle.sched_rules.specs.Trees.{is_live_at}

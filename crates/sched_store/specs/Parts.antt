@@ -4,10 +4,10 @@ use Rattle.std.specs.Prelude.{ℕ, List, [], ◌∷◌, Option}
 use Rattle.cactus_stack.specs.Nodes.{Nodes, node_words}
 use Rattle.tenant_quota.specs.declared.account.Account.{Account}
 use Rattle.tenant_quota.specs.Reservations.{Reservations}
-use Rattle.frame_tree.specs.declared.names.FrameId.{FrameId}
-use Rattle.frame_tree.specs.Frames.{Frame, TenantTree}
-use Rattle.frame_tree.specs.TreeLaws.{map_values}
-use Rattle.frame_tree.specs.Tables.{frames_of}
+use Rattle.frame_table.specs.declared.names.FrameId.{FrameId}
+use Rattle.frame_table.specs.Frames.{Frame, TenantTree}
+use Rattle.frame_table.specs.TreeLaws.{map_values}
+use Rattle.frame_table.specs.Tables.{frames_of}
 use Rattle.sched_rules.specs.Trees.{Tree, Tenant}
 use Rattle.sched_rules.specs.Cores.{CoreState}
 use Rattle.sched_store.specs.JobLists.{JobListOf, jobs_of}

@@ -1,10 +1,10 @@
 -- Representation: what a store tells of its core, beside the views of a core.
 use Rattle.std.specs.Prelude.{◌≡◌, ℕ, ◌+◌, ◌≤◌, Bool, true, false, not, ◌||◌, List, [], ◌∷◌, Option, Some, None, IsSomeAnd}
 use Rattle.tenant_quota.specs.Quota.{Quota}
-use Rattle.frame_tree.specs.declared.names.FrameId.{FrameId}
-use Rattle.frame_tree.specs.declared.names.State.{State}
-use Rattle.frame_tree.specs.declared.names.State.TheVariants.{Running, Computing}
-use Rattle.frame_tree.specs.Frames.{Frame, IsReadyAt}
+use Rattle.frame_table.specs.declared.names.FrameId.{FrameId}
+use Rattle.frame_table.specs.declared.names.State.{State}
+use Rattle.frame_table.specs.declared.names.State.TheVariants.{Running, Computing}
+use Rattle.frame_table.specs.Frames.{Frame, IsReadyAt}
 use Rattle.sched_rules.specs.declared.job.Job.{Job}
 use Rattle.sched_rules.specs.Trees.{Tree, Tenant, frame_words, sight, is_held_by, is_busy_in}
 use Rattle.sched_rules.specs.Lone.{is_lower}

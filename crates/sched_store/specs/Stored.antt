@@ -5,9 +5,9 @@ use Rattle.cactus_stack.specs.Nodes.{Nodes, IsOpen, node_parent, total_charge}
 use Rattle.tenant_quota.specs.Accounts.{owner_of_account, account_of, charged_segments}
 use Rattle.tenant_quota.specs.declared.account.Account.{Account}
 use Rattle.tenant_quota.specs.Reservations.{IsSoundBook}
-use Rattle.frame_tree.specs.declared.names.FrameId.{FrameId}
-use Rattle.frame_tree.specs.Frames.{Frame, frame_at, parent_of, AllBelow, IsTree, TenantTree}
-use Rattle.frame_tree.specs.Tables.{frames_of, places_of, tenant_count}
+use Rattle.frame_table.specs.declared.names.FrameId.{FrameId}
+use Rattle.frame_table.specs.Frames.{Frame, frame_at, parent_of, AllBelow, IsTree, TenantTree}
+use Rattle.frame_table.specs.Tables.{frames_of, places_of, tenant_count}
 use Rattle.sched_rules.specs.Trees.{charged_for, is_held_by}
 use Rattle.sched_store.specs.JobLists.{numbers_of, numbers_by}
 use Rattle.sched_store.specs.Parts.{Parts, with_words_of_nodes}

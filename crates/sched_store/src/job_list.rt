@@ -3,7 +3,7 @@ ghost use Rattle.std.specs.Prelude.{◌≡◌, ◌+◌, ◌<◌, ◌≤◌, ℕ,
 ghost use Rattle.sched_rules.specs.Trees.{is_live_at, job_at, job_under, with_ended};
 ghost use Rattle.sched_store.specs.JobLists.{is_live};
 
-use number_index::Numbered;
+use numbered_list::Numbered;
 use sched_rules::Job;
 use std::alloc::{AllocError, Allocator, Global};
 use std::marker::Model;

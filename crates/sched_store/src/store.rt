@@ -1,7 +1,7 @@
 //! The store, and what it keeps.
 ghost use Rattle.std.specs.Prelude.{◌≡◌, IfOk, IsTrue};
-ghost use Rattle.frame_tree.specs.Frames.{frame_at, has_frame, HasValue};
-ghost use Rattle.frame_tree.specs.Tables.{frames_of};
+ghost use Rattle.frame_table.specs.Frames.{frame_at, has_frame, HasValue};
+ghost use Rattle.frame_table.specs.Tables.{frames_of};
 ghost use Rattle.sched_rules.specs.Cores.{shared_by_nobody};
 
 mod opening;
@@ -12,8 +12,8 @@ mod writing;
 
 use crate::job_list::JobList;
 use cactus_stack::{NodeNo, Stack};
-use frame_tree::{FrameId, FrameTable};
-use number_index::NumberedList;
+use frame_table::{FrameId, FrameTable};
+use numbered_list::NumberedList;
 use sched_rules::Config;
 use std::alloc::{AllocError, Allocator, Global};
 use std::marker::Model;

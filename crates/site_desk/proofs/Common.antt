@@ -6,12 +6,12 @@ pub use Rattle.std.proofs.lemmas.List.Sums.{sum_by-cons}
 pub use Rattle.std.specs.Option.{is_some}
 pub use Rattle.desk_rules.proofs.Refused.{ask-refused}
 pub use Rattle.desk_rules.specs.Asked.{ask_refusals}
-pub use Rattle.frame_tree.specs.Frames.{IsReadyAt}
+pub use Rattle.frame_table.specs.Frames.{IsReadyAt}
 pub use Rattle.hall.specs.Halls.{HallOf, IsDecided}
 pub use Rattle.hall.specs.jamboree_rules.Procedure.{jamboree}
 pub use Rattle.hall.specs.jamboree_rules.declared.leaf.Leaf.{Leaf}
 pub use Rattle.hall.specs.jamboree_rules.declared.leaf.LeafAnswer.{LeafAnswer}
-pub use Rattle.number_index.specs.Places.{AreAbove, AreRising}
+pub use Rattle.numbered_list.specs.Places.{AreAbove, AreRising}
 pub use Rattle.pool_rules.specs.declared.task.Task.{Task}
 pub use Rattle.sched_laws.proofs.Shaped.{by-kinds, unless-passed}
 pub use Rattle.sched_rules.proofs.Isolation.{IsTaken, shared-after-taken, step-taken}

@@ -1,6 +1,6 @@
 -- Meaning: a hall with its book, and what each call does to both.
 use Rattle.std.specs.Prelude.{◌≡◌, ℕ, ◌+◌, ◌≤◌, ◌^◌, ◌⊎◌, Bool, true, false, Some, None, Result, Ok, Err, IsSome}
-use Rattle.number_index.specs.Places.{AreRising}
+use Rattle.numbered_list.specs.Places.{AreRising}
 use Rattle.tenant_quota.specs.Quota.{Quota}
 use Rattle.sched_rules.specs.declared.refusal.Refusal.{Refusal as HallRefusal}
 use Rattle.sched_rules.specs.declared.refusal.Refusal.TheVariants.{OldTenant as HallOldTenant, OutOfMemory as HallOutOfMemory}

@@ -1,7 +1,7 @@
 -- Meaning: what lies under a site's lock, and what each call does to it.
 use Rattle.std.specs.Prelude.{◌≡◌, ℕ, ◌+◌, ◌%◌, ◌^◌, ◌==◌, Bool, true, false, not, ◌&&◌, ◌||◌, ◌⊎◌, List, [], ◌∷◌, ◌++◌, map, is_none, Option, Some, None, Result, Ok, Err}
-use Rattle.frame_tree.specs.declared.names.FrameId.{FrameId}
-use Rattle.frame_tree.specs.Frames.{IsReadyAt}
+use Rattle.frame_table.specs.declared.names.FrameId.{FrameId}
+use Rattle.frame_table.specs.Frames.{IsReadyAt}
 use Rattle.tenant_quota.specs.Quota.{Quota}
 use Rattle.sched_rules.specs.declared.refusal.Refusal.{Refusal}
 use Rattle.sched_rules.specs.declared.step.StepOf.{StepOf}

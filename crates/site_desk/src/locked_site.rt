@@ -31,7 +31,7 @@ use crate::turned::Turned;
 use arrayvec::ArrayVec;
 use desk_rules::{JOBS, SeatAsked, seat_asked_at, shown};
 use fair_pool::{FairShare, charge, fair_task};
-use frame_tree::FrameId;
+use frame_table::FrameId;
 use hall::{Jamboree, Outcome, Refusal, Step, StepAnswer, StepOf, submit};
 use position_text::Position;
 use site_book::{

@@ -21,7 +21,7 @@ use crate::turned::Turned;
 use arrayvec::ArrayVec;
 use desk_rules::Backoff;
 use fair_pool::{FairShare, Hands, steps};
-use frame_tree::FrameId;
+use frame_table::FrameId;
 use hall::{Jamboree, Outcome, Refusal, Step, StepAnswer};
 use position_text::Position;
 use sched_rules::Worker;

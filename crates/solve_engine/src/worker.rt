@@ -8,7 +8,7 @@ ghost use Rattle.std.specs.Prelude.{IfSome};
 ghost use Rattle.solve_engine.specs.Asked.{IsWork, Keeps};
 
 use crate::job::TENANT;
-use frame_tree::FrameId;
+use frame_table::FrameId;
 use jamboree_core::jamboree::{Jamboree, Leaf, LeafAnswer};
 use jamboree_core::sched_core::Core;
 use jamboree_core::step_search;

@@ -1,6 +1,6 @@
 -- Meaning: what one act of a worker comes to: its turn is the table's, its badge counts the steps that were taken, and the turn's task is pushed.
 use Rattle.std.specs.Prelude.{◌≡◌, ◌⊎◌, ℕ, ◌+◌, Option, Some, None, Result, Ok, Err}
-use Rattle.frame_tree.specs.declared.names.FrameId.{FrameId}
+use Rattle.frame_table.specs.declared.names.FrameId.{FrameId}
 use Rattle.sched_rules.specs.declared.refusal.Refusal.{Refusal}
 use Rattle.sched_rules.specs.declared.step.DidOf.{DidOf}
 use Rattle.task_deques.specs.jamboree_rules.declared.leaf.Leaf.{Leaf}

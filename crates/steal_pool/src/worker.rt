@@ -14,7 +14,7 @@ use crate::gate::Gate;
 use crate::tasks::Tasks;
 use desk::jamboree::{Jamboree, Leaf, LeafAnswer};
 use desk::{Badge, Desk, DeskGuard, DeskLedger};
-use frame_tree::FrameId;
+use frame_table::FrameId;
 use sched_rules::{Step, Worker};
 use std::sync::Wait;
 use task_deques::pool_rules::{Action, Holding, Task};

@@ -1,6 +1,6 @@
 -- What an entered account leaves, and what the account of a tenant has.
 use Rattle.tenant_quota.proofs.Common.{◌≡◌, ℕ, ◌+◌, ◌-◌, ◌≤◌, List, Some, sum_by, Account, owner_of_account, account_of, AllEntries}
-use Rattle.number_index.proofs.Edits as edits
+use Rattle.numbered_list.proofs.Edits as edits
 use Rattle.tenant_quota.proofs.Places.{entry-of}
 
 abbrev Entries : Type 0

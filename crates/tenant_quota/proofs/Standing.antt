@@ -4,10 +4,10 @@ use Rattle.std.proofs.Common.{IsSomeAnd, IfSome}
 use Rattle.tenant_quota.proofs.Common.{Account, option_map, sum_by, Quota, IsWithinLimits, IsAbove, has_by_number, find_by_number, change_by_number}
 use Rattle.tenant_quota.proofs.Common.{owner_of_account, fresh, raised_to, account_of, IsWithinReserve, reserved_segments, reserved_nodes, Reservations}
 use Rattle.tenant_quota.proofs.Common.{admitted, changed, released, HasRoom, HasRoomFor, KeepsOtherAccounts, Admits, Raises, ChangesOnly, Releases, IsSoundBook}
-use Rattle.number_index.proofs.Edits.{has-found, lacks-said, said-with-own, said-with-other, all-with, rising-with, length-with, sum_by-with}
-use Rattle.number_index.proofs.Edits.{sum_by-with-same, said-without-own, said-without-other, all-without, rising-without, length-without, sum_by-without}
-use Rattle.number_index.proofs.Edits.{said-inserted-own, said-inserted-other, all-inserted, rising-inserted, length-inserted, sum_by-inserted, said-found}
-use Rattle.number_index.proofs.Edits.{put-changed, all-of}
+use Rattle.numbered_list.proofs.Edits.{has-found, lacks-said, said-with-own, said-with-other, all-with, rising-with, length-with, sum_by-with}
+use Rattle.numbered_list.proofs.Edits.{sum_by-with-same, said-without-own, said-without-other, all-without, rising-without, length-without, sum_by-without}
+use Rattle.numbered_list.proofs.Edits.{said-inserted-own, said-inserted-other, all-inserted, rising-inserted, length-inserted, sum_by-inserted, said-found}
+use Rattle.numbered_list.proofs.Edits.{put-changed, all-of}
 use Rattle.tenant_quota.proofs.Places.{entry-of}
 
 -- an entry with its account changed by f

@@ -1,7 +1,7 @@
 -- Meaning: what each tenant has reserved and used: a list of tenants with their accounts, in rising order of tenants.
 use Rattle.std.specs.Prelude.{ℕ, ◌+◌, ◌-◌, ◌*◌, ◌≤◌, List, Option, Some, None, sum_by}
 use Rattle.std.specs.List.{AllByRecursion}
-use Rattle.number_index.specs.Places.{read_by_number, inserted, change_by_number, remove_by_number, AreRising}
+use Rattle.numbered_list.specs.Places.{read_by_number, inserted, change_by_number, remove_by_number, AreRising}
 use Rattle.tenant_quota.specs.Quota.{Quota}
 use Rattle.tenant_quota.specs.declared.account.Account.{Account}
 use Rattle.tenant_quota.specs.declared.account.Left.{Left}

@@ -4,7 +4,7 @@ ghost use Rattle.tenant_quota.specs.Accounts.{account_of};
 use crate::account::{Account, Left};
 use crate::refusal::QuotaRefusal;
 use crate::reserve::Reserve;
-use number_index::NumberedList;
+use numbered_list::NumberedList;
 use std::alloc::{AllocError, Allocator, Global};
 use std::marker::Model;
 

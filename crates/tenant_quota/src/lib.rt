@@ -12,7 +12,7 @@
 //! segment that a tenant has left is there whatever others do, and each call leaves the accounts of
 //! all other tenants as they were. A reservation may be raised as far as the totals allow; what its
 //! tenant used stays used. Only [`Book::new`] takes memory. A tenant's account is found by an index of
-//! the accounts (`number_index`), which looks first where it is guessed to stand.
+//! the accounts (`numbered_list`), which looks first where it is guessed to stand.
 //!
 //! Why it is so:
 //!

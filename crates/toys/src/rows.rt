@@ -1,6 +1,6 @@
 //! The definitions, tried on worked examples: each contract is computed from the definitions alone.
 ghost use Rattle.std.specs.Prelude.{◌≡◌, [], ◌∷◌, ◌++◌, Some, None, Ok, Err, true, false, option_map, replicate};
-ghost use Rattle.frame_tree.specs.declared.names.State.TheVariants.{Ready, Running, Computing, Waiting, Returned};
+ghost use Rattle.frame_table.specs.declared.names.State.TheVariants.{Ready, Running, Computing, Waiting, Returned};
 ghost use Rattle.sched_rules.specs.declared.job.Job.TheVariants.{Live, Done};
 ghost use Rattle.sched_rules.specs.declared.refusal.Refusal.TheVariants.{NoFrame, NoSegments, NoNodes, NotSpent, Full, Lower};
 ghost use Rattle.sched_rules.specs.declared.step.StepOf.TheVariants.{Admit, AdmitMore, Take, Advance, Answer, Spend, Leave};

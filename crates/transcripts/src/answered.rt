@@ -2,7 +2,7 @@
 use crate::agreement::Done;
 use crate::values::DrawnInput;
 use crate::words::push_number;
-use frame_tree::FrameId;
+use frame_table::FrameId;
 use sched_core::{DidOf, Refusal};
 
 /// Appends an answer: what the step did, as `Spawned 1.5`, or why it was refused, as `Err 10 NoSegments`.

@@ -8,7 +8,7 @@ ghost use Rattle.std.specs.Prelude.{◌≡◌, true, IfSome};
 ghost use Rattle.hall.specs.Journals.{is_worker_step};
 
 use desk::{Badge, Desk, DeskLedger, Jamboree, LeafAnswer, Step, StepAnswer, Worker};
-use frame_tree::FrameId;
+use frame_table::FrameId;
 use pool_rules::{Action, Holding, Task};
 use std::alloc::{Allocator, Global};
 use std::sync::Wait;

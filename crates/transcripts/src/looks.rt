@@ -5,7 +5,7 @@ use crate::plain_core::Counting;
 use crate::reading::read_frame;
 use crate::words::{LineWords, push_number, push_numbers};
 use cactus_stack::Words as FrameWords;
-use frame_tree::{FrameId, State};
+use frame_table::{FrameId, State};
 use sched_core::{Job, Procedure};
 
 /// What is said where there is nothing.

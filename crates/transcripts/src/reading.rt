@@ -1,7 +1,7 @@
 //! Steps, read from texts.
 use crate::values::FromWords;
 use crate::words::LineWords;
-use frame_tree::FrameId;
+use frame_table::FrameId;
 use sched_core::{GivenWords, StepOf, Worker};
 use tenant_quota::Reserve;
 

@@ -1,8 +1,8 @@
 //! Frames are opened.
 ghost use Rattle.std.specs.Prelude.{◌≡◌, ◌+◌, ℕ, true, length, IsSome};
 ghost use Rattle.cactus_stack.specs.Nodes.{charge as charge_of_words};
-ghost use Rattle.frame_tree.specs.Frames.{has_parent, name_of};
-ghost use Rattle.frame_tree.specs.Tables.{frames_of};
+ghost use Rattle.frame_table.specs.Frames.{has_parent, name_of};
+ghost use Rattle.frame_table.specs.Tables.{frames_of};
 ghost use Rattle.sched_rules.specs.Lone.{opened, is_frame_size};
 ghost use Rattle.sched_rules.specs.Changes.{on_tenant};
 ghost use Rattle.sched_store.specs.Stored.{node_above};
@@ -10,7 +10,7 @@ ghost use Rattle.sched_store.specs.Reads.{frames_in_core, serials_in, TenantHasL
 
 use crate::store::{Store, node_of};
 use cactus_stack::{NodeNo, charge};
-use frame_tree::{FrameId, FrameTable};
+use frame_table::{FrameId, FrameTable};
 use std::alloc::Allocator;
 
 impl<A: Allocator> Store<A> {

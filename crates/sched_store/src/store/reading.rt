@@ -1,8 +1,8 @@
 //! The calls that only read: the tests by which steps are decided, and what a core shows. They may be called at any
 //! time, except those for a frame that must be there. None takes memory.
 ghost use Rattle.std.specs.Prelude.{◌≡◌, ◌↔◌, ◌+◌, ◌≤◌, ◌^◌, ℕ, [], length, not, is_some, IfSome, IfNone, IsSome, IsNone, Some, option_copied, option_map};
-ghost use Rattle.frame_tree.specs.declared.names.State.TheVariants.{Ready};
-ghost use Rattle.frame_tree.specs.Frames.{root_of, IsTree};
+ghost use Rattle.frame_table.specs.declared.names.State.TheVariants.{Ready};
+ghost use Rattle.frame_table.specs.Frames.{root_of, IsTree};
 ghost use Rattle.sched_rules.specs.Trees.{is_held_by, has_child as has_child_in, is_root as is_root_path, job_under as number_under};
 ghost use Rattle.sched_rules.specs.Cores.{tenant_in, reservations_in, is_full as is_full_for, is_beyond as is_beyond_for};
 ghost use Rattle.sched_rules.specs.Headline.{AreNumbersGiven};
@@ -12,7 +12,7 @@ ghost use Rattle.sched_store.specs.Reads.{frames_in_core, jobs_in, serials_in, p
 use crate::job_list::JobList;
 use crate::store::Store;
 use cactus_stack::{Sight, Words};
-use frame_tree::{FrameId, State};
+use frame_table::{FrameId, State};
 use sched_rules::{Job, Worker};
 use std::alloc::Allocator;
 use tenant_quota::{Left, Reserve};

@@ -1,13 +1,13 @@
 //! Frames are removed, and give their segments back.
 ghost use Rattle.std.specs.Prelude.{◌≡◌, false, length, IsSome};
-ghost use Rattle.frame_tree.specs.Frames.{frames_under};
+ghost use Rattle.frame_table.specs.Frames.{frames_under};
 ghost use Rattle.sched_rules.specs.Trees.{has_child as has_child_in};
 ghost use Rattle.sched_rules.specs.Changes.{on_tenant, without_frame, without_under};
 ghost use Rattle.sched_rules.specs.Views.{named};
 ghost use Rattle.sched_store.specs.Reads.{frames_in_core};
 
 use crate::store::Store;
-use frame_tree::FrameId;
+use frame_table::FrameId;
 use std::alloc::Allocator;
 
 impl<A: Allocator> Store<A> {

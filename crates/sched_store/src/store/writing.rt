@@ -9,7 +9,7 @@ ghost use Rattle.sched_store.specs.Reads.{words_under, is_held, holds, may_hold,
 
 use crate::store::{Store, node_of};
 use cactus_stack::{NodeNo, Stack, growth_charge};
-use frame_tree::{FrameId, State};
+use frame_table::{FrameId, State};
 use sched_rules::Worker;
 use std::alloc::Allocator;
 

@@ -3,7 +3,7 @@
 use super::holds;
 use super::sites::{amount, desk_of, seat_of};
 use desk_rules::Backoff;
-use frame_tree::FrameId;
+use frame_table::FrameId;
 use hall::{DidOf, LeafAnswer, Outcome, StepOf, Worker};
 use othello_board::Board;
 use position_text::{Position, Side};

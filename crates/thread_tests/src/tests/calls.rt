@@ -7,7 +7,7 @@ use desk::{
     Badge, Config, Desk, DeskGuard, DeskLedger, Hall, Jamboree, LeafAnswer, Outcome, Refusal, Seat,
     Step, StepAnswer, StepOf, Worker,
 };
-use frame_tree::FrameId;
+use frame_table::FrameId;
 use othello_board::Board;
 use othello_moves::Choice;
 use position_text::{Position, Side};

@@ -3,7 +3,7 @@ ghost use Rattle.std.specs.Prelude.{◌≡◌, ◌≤◌, ◌<◌, map, vec_len}
 ghost use Rattle.task_deques.specs.Deals.{posts, IsWhole};
 
 use super::{holds, holds_that};
-use frame_tree::FrameId;
+use frame_table::FrameId;
 use sched_rules::Worker;
 use std::alloc::{AllocError, Allocator, Global};
 use std::process::Abort;

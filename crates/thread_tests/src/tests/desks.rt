@@ -11,7 +11,7 @@ use desk::{
     Badge, Desk, DeskLedger, DidOf, Hall, Jamboree, LeafAnswer, Opened, PARTS, Refusal, Seat, Step,
     Worker,
 };
-use frame_tree::FrameId;
+use frame_table::FrameId;
 use std::alloc::Global;
 use std::marker::Brand;
 use std::process::Abort;

@@ -1,7 +1,7 @@
 ghost use Rattle.std.specs.Prelude.{◌≤◌, ◌<◌};
 
 use crate::tests::{heap_of, holds};
-use frame_tree::{Entry, FrameId, FrameTable, State};
+use frame_table::{Entry, FrameId, FrameTable, State};
 use linked_list_allocator::LocalHeap;
 use std::alloc::{AllocError, Allocator};
 use std::process::Abort;

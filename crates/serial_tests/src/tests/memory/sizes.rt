@@ -3,7 +3,7 @@ ghost use Rattle.std.specs.Prelude.{◌≤◌};
 
 use crate::tests::memory::frames::{add, make_places, name, table_of};
 use crate::tests::{heap_of, holds};
-use frame_tree::{FrameTable, PLACES};
+use frame_table::{FrameTable, PLACES};
 use linked_list_allocator::LocalHeap;
 use segment_region::Region;
 use std::alloc::Global;

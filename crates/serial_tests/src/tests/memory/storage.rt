@@ -1,10 +1,10 @@
 //! What a core's store stands on: the examples at the heads of its crates, and what is made where an allocator gives.
-ghost use Rattle.number_index.specs.Places.{AreRising};
+ghost use Rattle.numbered_list.specs.Places.{AreRising};
 
 use crate::tests::memory::reserve_of;
 use crate::tests::{holds, left_of};
 use cactus_stack::{Sight, Stack};
-use number_index::{Guesses, NumberedList};
+use numbered_list::{Guesses, NumberedList};
 use segment_region::Region;
 use std::alloc::{AllocError, Allocator};
 use std::process::Abort;

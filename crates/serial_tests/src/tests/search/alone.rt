@@ -2,7 +2,7 @@
 ghost use Rattle.std.specs.Prelude.{◌≤◌};
 
 use super::{heap_of, holds, holds_at, left_of, opening};
-use frame_tree::FrameId;
+use frame_table::FrameId;
 use othello_moves::{Choice, DEEPEST};
 use pool_rules::{Action, Holding};
 use position_text::{Position, read};

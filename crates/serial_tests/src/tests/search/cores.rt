@@ -1,7 +1,7 @@
 ghost use Rattle.jamboree_core.specs.Replies.{AreSearches};
 
 use super::{OPENING, holds, opening};
-use frame_tree::FrameId;
+use frame_table::FrameId;
 use jamboree::{Jamboree, Leaf, LeafAnswer};
 use jamboree_core::{run_searches, submit};
 use jamboree_rules::leaf_search::INF;

@@ -7,7 +7,7 @@ use crate::tests::calls::{At, Found, Turn};
 use crate::tests::signs::{add, comes, none, pass, reaches, value};
 use crate::tests::{holds, holds_of, holds_that};
 use desk::{Desk, DeskLedger, Seat};
-use frame_tree::FrameId;
+use frame_table::FrameId;
 use std::process::Abort;
 use std::sync::Wait;
 use std::sync::atomic::AtomicU64;

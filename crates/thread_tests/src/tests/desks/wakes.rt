@@ -6,7 +6,7 @@ use crate::tests::calls::{At, Turn, offer_held};
 use crate::tests::signs::{is_silent, others_work, pass, used_by_others};
 use crate::tests::{holds, holds_that};
 use desk::{Badge, DeskGuard, DeskLedger, DidOf};
-use frame_tree::FrameId;
+use frame_table::FrameId;
 use std::process::Abort;
 use std::sync::Wait;
 use std::time::{Clock, CpuClock};

@@ -2,7 +2,7 @@
 ghost use Rattle.jamboree_core.specs.Replies.{IsSearch};
 
 use super::*;
-use frame_tree::FrameId;
+use frame_table::FrameId;
 use hall::{LeafAnswer, Worker};
 
 /// A worker's last step: its frame, and what was answered. None where the worker is to take a ready frame next.

@@ -1,0 +1,299 @@
+-- A slot store of which some slots went.
+use Rattle.frame_table.proofs.Common.{◌≡◌, ◌≢◌, ℕ, zero, suc, ◌+◌, ◌<◌, ◌≤◌, Bool, true, false, not, eqb, List, [], ◌∷◌, ◌++◌, Option, Some, None, get_or}
+use Rattle.frame_table.proofs.Common.{slice_index, take, length, append-nil, map, refl, ap, sym, ◌∙◌, arith, subst, StoredSlot, has_number, filter-append}
+use Rattle.frame_table.proofs.Common.{filter, remove, Slot as TenantSlot, Slab, get, slab_len, false≢true, eq-eqb, ne_eqb, not-true, or_right, eqb-true}
+use Rattle.frame_table.proofs.Common.{IsLinked, kept_slots, gone_values, child_slots, AllAbove, Rises, serials_of, with_found, slots_in, AreApartKeys, HasSerial}
+use Rattle.frame_table.proofs.Common.{KnowsParent, IsHere, AllHere, IsSlotStore, AreThere, is_marked, swept_in, values_in, Marks, AreKeys, IsKeyAt, Updates}
+use Rattle.frame_table.proofs.Forest.{stays_in, IsClosed, serial-read, abort-closed}
+use Rattle.frame_table.proofs.Places.{length-filter-le, rises-by-filter}
+use Rattle.frame_table.proofs.SlotStores.{has_number-append, has_number-at, here-read, slots_in-length, slot-read, here-found, here-contains}
+use Rattle.frame_table.proofs.Keys.{key-found, knows-key}
+use Rattle.frame_table.proofs.Changes.{parent-below, remove-filter, leaf-closed}
+use Rattle.std.proofs.Math.Bool.{not-not}
+
+-- the slot of a serial
+pub named-slot : {T : Type 0} (p : ℕ) (o : Option (StoredSlot T)) → HasSerial p o → (y : StoredSlot T) × (o ≡ Some y) × (y.slot.serial ≡ p)
+named-slot p None h = absurd h
+named-slot p (Some y) h = (y, refl, h)
+
+pub all-there : {T : Type 0} (slab : Slab (StoredSlot T)) (before keys : List ℕ) → AllHere slab before keys → AreThere slab keys
+all-there slab before [] h = tt
+all-there slab before (k ∷ keys) h = (here-contains slab before k h.0, all-there slab (before ++ k ∷ []) keys h.1)
+
+-- a filter leaves the keys that pass it
+module _ (keep : ℕ → Bool) where
+  has_number-filter : (keys : List ℕ) (a : ℕ) → has_number keys a ≡ true → keep a ≡ true → has_number (filter keep keys) a ≡ true
+  has_number-filter [] a has kept = absurd (false≢true has)
+  has_number-filter (k ∷ keys) a has kept = grind (arith, has_number-filter keys a)
+
+  no-key-filter : (keys : List ℕ) (a : ℕ) → has_number keys a ≡ false → has_number (filter keep keys) a ≡ false
+  no-key-filter [] a none = refl
+  no-key-filter (k ∷ keys) a none = grind (arith, no-key-filter keys a)
+
+  pub apart-filter : (keys : List ℕ) → AreApartKeys keys → AreApartKeys (filter keep keys)
+  apart-filter [] a = tt
+  apart-filter (k ∷ keys) a = grind (arith, apart-filter keys, no-key-filter)
+
+-- a list of keys with one more in front
+module _ (k : ℕ) where
+  pub head-key : (keys : List ℕ) → has_number (k ∷ keys) k ≡ true
+  head-key keys = rw (eq-eqb k k refl) refl
+
+  pub tail-key : (j : ℕ) (keys : List ℕ) → has_number keys j ≡ true → has_number (k ∷ keys) j ≡ true
+  tail-key j keys h = or_right (eqb k j) (has_number keys j) h
+
+-- all of these keys are among those
+abbrev pub AreAmong : List ℕ → List ℕ → Type 0
+AreAmong some all = (k : ℕ) → has_number some k ≡ true → has_number all k ≡ true
+
+-- P holds of each of these keys and the slot under it
+abbrev pub OfEach : {T : Type 0} → Slab (StoredSlot T) → List ℕ → (ℕ → StoredSlot T → Type 0) → Type 0
+OfEach slab keys P = (k : ℕ) (x : StoredSlot _) → has_number keys k ≡ true → get slab k ≡ Some x → P k x
+
+-- which keys a sweep passes, and which it leaves
+abbrev pub is_gone : {T : Type 0} → Slab (StoredSlot T) → ℕ → Bool
+is_gone slab key = is_marked (get slab key)
+
+abbrev pub is_left : {T : Type 0} → Slab (StoredSlot T) → ℕ → Bool
+is_left slab key = not (is_gone slab key)
+
+-- another number than this
+abbrev pub is_not : ℕ → ℕ → Bool
+is_not n k = not (eqb k n)
+
+-- which slots stay, by key and by serial, and how those are kept
+pub record Stays {T : Type 0} (old new : Slab (StoredSlot T)) (by_key by_serial : ℕ → Bool) (keys : List ℕ) : Type 0 where
+  pub agree : OfEach old keys (λ k x. by_key k ≡ by_serial x.slot.serial)
+  pub renew : OfEach old keys (λ k x. by_key k ≡ true → get new k ≡ Some (record x { marked = false }))
+
+among-more : (some all : List ℕ) (k : ℕ) → AreAmong some all → has_number all k ≡ true → AreAmong (some ++ k ∷ []) all
+among-more some all k a there j has = grind (arith, has_number-append, eqb-true)
+
+-- those slots are the chosen ones
+slots-filter : {T : Type 0} (old new : Slab (StoredSlot T)) (by_key by_serial : ℕ → Bool) (all before keys : List ℕ) →
+    OfEach old all (λ k x. by_key k ≡ by_serial x.slot.serial) →
+    OfEach old all (λ k x. by_key k ≡ true → with_found (get new k) [] ≡ x.slot ∷ []) → AreAmong keys all → AllHere old before keys →
+    slots_in new (filter by_key keys) ≡ filter (λ slot. by_serial slot.serial) (slots_in old keys)
+slots-filter old new by_key by_serial all before [] agree same w h = refl
+slots-filter old new by_key by_serial all before (k ∷ keys) agree same w h =
+    let found = here-found old before (get old k) h.0 in
+    let there = w k (head-key k keys) in
+    let chosen = agree k found.0 there found.1 in
+    let one = same k found.0 there found.1 in
+    let rest = slots-filter old new by_key by_serial all (before ++ k ∷ []) keys agree same (λ j has. w j (tail-key k j keys has)) h.1 in
+    grind (arith, found.1, chosen, one, rest)
+
+-- those that stay are here as before, and stand for the same slots
+module _ {T : Type 0} {old new : Slab (StoredSlot T)} {by_key by_serial : ℕ → Bool} {all : List ℕ} (s : Stays old new by_key by_serial all) where
+  parent-stays : (before : List ℕ) (parent above : Option ℕ) → AreAmong before all → ((p : ℕ) → parent ≡ Some p → by_serial p ≡ true) →
+      KnowsParent old before parent above → KnowsParent new (filter by_key before) parent above
+  parent-stays before None None b up k = tt
+  parent-stays before None (Some a) b up k = absurd k
+  parent-stays before (Some p) None b up k = absurd k
+  parent-stays before (Some p) (Some a) b up k =
+      let y = named-slot p (get old a) k.1 in
+      let stays : by_key a ≡ true = s.agree a y.0 (b a k.0) y.1 ∙ (ap by_serial y.2 ∙ up p refl) in
+      (has_number-filter by_key before a k.0 stays, rw (s.renew a y.0 (b a k.0) y.1 stays) y.2)
+
+  here-filter : (before keys : List ℕ) → AreAmong before all → AreAmong keys all → IsClosed by_serial (slots_in old keys) → AllHere old before keys →
+      AllHere new (filter by_key before) (filter by_key keys)
+  here-filter before [] b w c h = tt
+  here-filter before (k ∷ keys) b w c h =
+      let found = here-found old before (get old k) h.0 in
+      let x = found.0 in
+      let closed : IsClosed by_serial (x.slot ∷ slots_in old keys) = subst (λ o. IsClosed by_serial (with_found o (slots_in old keys))) found.1 c in
+      let here : IsHere old before (Some x) = subst (λ o. IsHere old before o) found.1 h.0 in
+      let there = w k (head-key k keys) in
+      let agree = s.agree k x there found.1 in
+      let renew = s.renew k x there found.1 in
+      let knows : by_key k ≡ true → KnowsParent new (filter by_key before) x.slot.parent x.above =
+      λ stays. parent-stays before x.slot.parent x.above b (λ p is. closed.0 p is (sym agree ∙ stays)) here.1 in
+      let rest = here-filter (before ++ k ∷ []) keys (among-more before all k b there) (λ j has. w j (tail-key k j keys has)) closed.1 h.1 in
+      let more = filter-append by_key before (k ∷ []) in
+      grind (arith, renew, knows, rest, more, append-nil)
+
+  pub stays-here : IsClosed by_serial (slots_in old all) → AllHere old [] all → AllHere new [] (filter by_key all)
+  stays-here closed h = here-filter [] all (λ k has. absurd (false≢true has)) (λ k has. has) closed h
+
+  pub stays-slots : AllHere old [] all → slots_in new (filter by_key all) ≡ filter (λ slot. by_serial slot.serial) (slots_in old all)
+  stays-slots h = slots-filter old new by_key by_serial all [] all s.agree (λ k x has is stays. rw (s.renew k x has is stays) refl) (λ k has. has) h
+
+-- what an abort leaves of a slot store
+pub record HasCut {T : Type 0} (under : ℕ) (old marked new : Slab (StoredSlot T)) (order left : List ℕ) : Type 0 where
+  pub marks : Marks under (slots_in old order) order old marked
+  pub kept : left ≡ filter (is_left marked) order
+  pub swept : (key : ℕ) → get new key ≡ swept_in marked order key
+
+-- what a cut leaves: the slots that don't stay are marked, and the others are as before
+module _ {T : Type 0} {under : ℕ} {old marked new : Slab (StoredSlot T)} {order left : List ℕ} (c : HasCut under old marked new order left) where
+  pub cut-marks : OfEach old order (λ k x. get marked k ≡ Some (record x { marked = not (stays_in under (slots_in old order) x.slot.serial) }))
+  cut-marks k x has is = c.marks k ∙ (rw (is, has) refl)
+
+  pub cut-stays : Stays old new (is_left marked) (stays_in under (slots_in old order)) order
+  cut-stays = grind (arith, cut-marks, not-not, not-true)
+
+  -- the slots that stay
+  pub cut-slots : AllHere old [] order → slots_in new left ≡ kept_slots under (slots_in old order)
+  cut-slots h = ap (slots_in new) c.kept ∙ stays-slots cut-stays h
+
+  -- the values of those that went
+  pub cut-values : AllHere old [] order → values_in marked (filter (is_gone marked) order) ≡ gone_values under (slots_in old order)
+  cut-values h =
+      let goes : ℕ → Bool = λ serial. not (stays_in under (slots_in old order) serial) in
+      ap (map (λ slot. slot.value)) (slots-filter old marked (is_gone marked) goes order [] order
+      (λ k x has is. rw (cut-marks k x has is) refl) (λ k x has is goes. rw (cut-marks k x has is) refl) (λ k has. has) h)
+
+  -- the slot store
+  pub cut-store : {room places : ℕ} → IsSlotStore old order room places → IsLinked [] (slots_in old order) →
+      slab_len new + length order ≡ slab_len old + length left → new.capacity ≡ old.capacity → IsSlotStore new left room places
+  cut-store s l len capacity =
+      let fewer : length left ≤ length order = omega (arith, ap length c.kept, length-filter-le (is_left marked) order) in
+      record {
+        here = rw c.kept (stays-here cut-stays (abort-closed under (slots_in old order) l) s.here);
+        apart = rw c.kept (apart-filter (is_left marked) order s.apart);
+        counted = omega (arith, len, s.counted);
+        within = omega (arith, fewer, s.within);
+        slab_room = omega (arith, s.slab_room, capacity);
+        order_room = s.order_room;
+      }
+
+-- each key has a slot, marked or not
+module _ {T : Type 0} (under : ℕ) (slots : List (TenantSlot T)) (all : List ℕ) (old marked : Slab (StoredSlot T)) (m : Marks under slots all old marked) where
+  pub marked-there : (keys : List ℕ) → AreThere old keys → AreThere marked keys
+  marked-there [] t = tt
+  marked-there (k ∷ keys) t = let is = m k in grind (arith, is, marked-there keys)
+
+-- what is there is one slot
+by-one : {T : Type 0} (o : Option (StoredSlot T)) (x y : StoredSlot T) → o ≡ Some x → o ≡ Some y → x.slot.serial ≡ y.slot.serial
+by-one o x y a b = grind arith
+
+-- a slot was taken away under its key, which was no slot's parent
+pub record HasTaken {T : Type 0} (old new : Slab (StoredSlot T)) (order : List ℕ) (at key : ℕ) (kept : StoredSlot T) : Type 0 where
+  pub within : at < length order
+  pub read : key ≡ get_or order at key
+  pub was : get old key ≡ Some kept
+  pub others : (k : ℕ) → k ≢ key → get new k ≡ get old k
+
+-- the list without the key at a place
+pub remove-key : (keys : List ℕ) (i d : ℕ) → AreApartKeys keys → i < length keys → remove keys i ≡ filter (λ k. not (eqb k (get_or keys i d))) keys
+remove-key [] i d a lt = absurd (omega arith)
+remove-key (k ∷ keys) zero d a lt = rw (eq-eqb k k refl) (sym (all-stay keys a.0))
+  where
+    all-stay : (keys : List ℕ) → has_number keys k ≡ false → filter (λ j. not (eqb j k)) keys ≡ keys
+    all-stay [] none = refl
+    all-stay (j ∷ keys) none = grind (arith, all-stay keys)
+remove-key (k ∷ keys) (suc i) d a lt =
+    let other : k ≢ get_or keys i d = λ e. false≢true (sym a.0 ∙ (ap (has_number keys) e ∙ has_number-at keys i d (omega arith))) in
+    rw (ne_eqb k (get_or keys i d) other) (ap (λ ks. k ∷ ks) (remove-key keys i d a.1 (omega arith)))
+
+pub has-taken : {T : Type 0} {old new : Slab (StoredSlot T)} {order : List ℕ} {at key : ℕ} {kept : StoredSlot T} → at < length order →
+    key ≡ get_or order at key → get old key ≡ Some kept → Updates old new key None → HasTaken old new order at key kept
+has-taken within read was u = record { within = within; read = read; was = was; others = u.others }
+
+-- no slot is marked
+module _ {T : Type 0} (slab : Slab (StoredSlot T)) where
+  pub unmarked : (before keys : List ℕ) → AllHere slab before keys → OfEach slab keys (λ k x. x.marked ≡ false)
+  unmarked before [] h k x has is = absurd (false≢true has)
+  unmarked before (j ∷ keys) h k x has is = grind (arith, unmarked (before ++ j ∷ []) keys)
+
+  -- a serial above another, by its key
+  above-key : (before keys : List ℕ) (n : ℕ) → AllHere slab before keys → AllAbove n (slots_in slab keys) → OfEach slab keys (λ k x. n < x.slot.serial)
+  above-key before [] n h above k x has is = absurd (false≢true has)
+  above-key before (j ∷ keys) n h above k x has is = grind (arith, above-key (before ++ j ∷ []) keys n, here-found)
+
+  -- slots of one serial stand under one key
+  pub same-key : (before keys : List ℕ) (k j : ℕ) (x y : StoredSlot T) → AllHere slab before keys → Rises (slots_in slab keys) → has_number keys k ≡ true →
+      has_number keys j ≡ true → get slab k ≡ Some x → get slab j ≡ Some y → x.slot.serial ≡ y.slot.serial → k ≡ j
+  same-key before [] k j x y h rise has_k has_j is_k is_j same = absurd (false≢true has_k)
+  same-key before (i ∷ keys) k j x y h rise has_k has_j is_k is_j same =
+      let found = here-found slab before (get slab i) h.0 in
+      let both : Rises (found.0.slot ∷ slots_in slab keys) = subst (λ o. Rises (with_found o (slots_in slab keys))) found.1 rise in
+      let above = above-key (before ++ i ∷ []) keys found.0.slot.serial h.1 both.0 in
+      grind (arith, found.1, both, above j y, above k x, same-key (before ++ i ∷ []) keys k j x y)
+
+-- what is left when a leaf is taken away
+module _ {T : Type 0} {old new : Slab (StoredSlot T)} {order : List ℕ} {at key : ℕ} {kept : StoredSlot T} (t : HasTaken old new order at key kept)
+    (h : AllHere old [] order) where
+  pub taken-stays : Rises (slots_in old order) → Stays old new (is_not key) (is_not kept.slot.serial) order
+  taken-stays rise = grind (arith, has_number-at, by-one, eq-eqb, ne_eqb, same-key, false≢true, unmarked)
+
+  within : at < length (slots_in old order)
+  within = rw (slots_in-length old [] order h) t.within
+
+  pub taken-read : kept.slot ≡ get_or (slots_in old order) at kept.slot
+  taken-read = sym (slot-read old order at key kept kept.slot h t.within t.read t.was)
+
+  named : slice_index (serials_of (slots_in old order)) at ≡ kept.slot.serial
+  named = serial-read (slots_in old order) at kept.slot within taken-read
+
+  left-keys : AreApartKeys order → remove order at ≡ filter (is_not key) order
+  left-keys a = remove-key order at key a t.within ∙ ap (λ j. filter (λ k. not (eqb k j)) order) (sym t.read)
+
+  pub taken-slots : AreApartKeys order → Rises (slots_in old order) → slots_in new (remove order at) ≡ remove (slots_in old order) at
+  taken-slots a rise =
+      let s = taken-stays rise in
+      ap (slots_in new) (left-keys a) ∙ (stays-slots s h ∙ sym (remove-filter (slots_in old order) at kept.slot.serial rise within named))
+
+  pub taken-store : {room places : ℕ} → IsSlotStore old order room places → Rises (slots_in old order) →
+      child_slots (slice_index (serials_of (slots_in old order)) at) (slots_in old order) ≡ [] →
+      length (remove order at) + 1 ≡ length order → slab_len new + 1 ≡ slab_len old → new.capacity ≡ old.capacity → IsSlotStore new (remove order at) room places
+  taken-store s rise leaf long len capacity =
+      let none : child_slots kept.slot.serial (slots_in old order) ≡ [] = ap (λ n. child_slots n (slots_in old order)) (sym named) ∙ leaf in
+      let closed = leaf-closed kept.slot.serial (slots_in old order) none in
+      record {
+        here = rw (left-keys s.apart) (stays-here (taken-stays rise) closed h);
+        apart = rw (left-keys s.apart) (apart-filter (is_not key) order s.apart);
+        counted = omega (arith, len, s.counted, long);
+        within = omega (arith, long, s.within);
+        slab_room = omega (arith, s.slab_room, capacity);
+        order_room = s.order_room;
+      }
+
+  -- the parent of a slot that was taken away is known as before
+  pub taken-knows : IsLinked [] (slots_in old order) → AreKeys new (remove order at) → KnowsParent new (remove order at) kept.slot.parent kept.above
+  taken-knows linked are =
+      let here : IsHere old (take at order) (Some kept) = subst (λ o. IsHere old (take at order) o) t.was (here-read old order at key h t.within t.read) in
+      still (take at order) kept.slot.parent kept.above (λ p is. (parent-below [] (slots_in old order) at kept.slot p linked within taken-read is).0) here.1
+    where
+      still : (before : List ℕ) (parent above : Option ℕ) → ((p : ℕ) → parent ≡ Some p → p < kept.slot.serial) → KnowsParent old before parent above →
+          KnowsParent new (remove order at) parent above
+      still before None None below k = tt
+      still before None (Some a) below k = absurd k
+      still before (Some p) None below k = absurd k
+      still before (Some p) (Some a) below k =
+          let y = named-slot p (get old a) k.1 in
+          let other : a ≢ key = λ e. omega (arith, below p refl, y.2, by-one (get old a) y.0 kept y.1 (ap (get old) e ∙ t.was)) in
+          let found : get new a ≡ Some y.0 = t.others a other ∙ y.1 in
+          let place = key-found are found y.2 in
+          knows-key new (remove order at) (Some p) p place.0 a refl are place.1
+
+-- what stands under a parent's key
+pub record IsParentKey {T : Type 0} (slab : Slab (StoredSlot T)) (keys : List ℕ) (parent : Option ℕ) (key : ℕ) : Type 0 where
+  pub name : ℕ
+  pub at : ℕ
+  pub kept : StoredSlot T
+  pub is : parent ≡ Some name
+  pub key_at : IsKeyAt slab keys name at key
+  pub found : get slab key ≡ Some kept
+
+-- the key of a slot's parent is the one that is known
+module _ {T : Type 0} (slab : Slab (StoredSlot T)) (keys : List ℕ) (parent above : Option ℕ) where
+  pub parent-key : (key : ℕ) → above ≡ Some key → AreKeys slab keys → KnowsParent slab keys parent above → IsParentKey slab keys parent key
+  parent-key key is are k = of parent are (rw is at k)
+    where
+      of : (parent : Option ℕ) → AreKeys slab keys → KnowsParent slab keys parent (Some key) → IsParentKey slab keys parent key
+      of None are k = absurd k
+      of (Some p) are k =
+          let y = named-slot p (get slab key) k.1 in
+          let place = key-found are y.1 y.2 in
+          record { name = p; at = place.0; kept = y.0; is = refl; key_at = place.1; found = y.1 }
+
+  -- no key is a root's
+  pub no-parent-key : above ≡ None → KnowsParent slab keys parent above → parent ≡ None
+  no-parent-key h5 h6 = grind arith
+
+-- slots rise without the one at a place
+pub rises-remove : {T : Type 0} (xs : List (TenantSlot T)) (i : ℕ) → Rises xs → i < length xs → Rises (remove xs i)
+rises-remove xs i rise lt =
+    let n = slice_index (serials_of xs) i in
+    rw (remove-filter xs i n rise lt refl) (rises-by-filter (λ x. x.serial) (λ x. not (eqb x.serial n)) xs rise)

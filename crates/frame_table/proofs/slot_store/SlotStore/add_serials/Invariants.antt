@@ -1,0 +1,9 @@
+use Rattle.frame_table.proofs.Common.{◌≡◌, ◌+◌, ◌≤◌, ◌++◌, length, drop, serials_of}
+use Rattle.frame_table.proofs.slot_store.SlotStore.add_serials.Given as goal
+
+abbrev pub invariant-loop-at : goal.invariant-loop-at
+invariant-loop-at g l = record {
+  left : l.serials.list ++ serials_of (drop l.at l.self.slots) ≡ l.initial.serials.list ++ serials_of (drop l.from l.self.slots);
+  places : l.serials.places ≡ l.initial.serials.places;
+  room : length l.serials.list + length l.self.slots ≤ l.serials.places + l.at;
+}

@@ -1,0 +1,32 @@
+use Rattle.frame_table.proofs.Common.{[], refl, arith, IsSlotStore}
+use Rattle.frame_table.proofs.SlotStores.{slots_in-length, push-store, push-slots}
+use Rattle.frame_table.proofs.slot_store.SlotStore.push.Goals as goal
+
+pub insert_reserved-key-requires : goal.insert_reserved-key-requires
+insert_reserved-key-requires g c =
+    let less = rw (← c.self.view_is) at c.requires.room in
+    let long = slots_in-length c.self.inside.slab [] c.self.inside.order.list c.self.invariant.here in
+    omega (arith, less, long, c.adopt-root.ensures.keys.counted, c.self.invariant.slab_room, c.adopt-root.ensures.capacity)
+
+pub invariant_of-self : goal.invariant_of-self
+invariant_of-self g c =
+    let slab = c.adopt-root.new.slab in
+    let order = c.self.inside.order.list in
+    let less = rw (← c.self.view_is, slots_in-length c.self.inside.slab [] order c.self.invariant.here) at c.requires.room in
+    let keys = c.adopt-root.ensures.keys in
+    let store : IsSlotStore slab order c.self.inside.order.places c.self.inside.places = record {
+      here = keys.here;
+      apart = keys.apart;
+      counted = keys.counted;
+      within = c.self.invariant.within;
+      slab_room = omega (arith, c.self.invariant.slab_room, c.adopt-root.ensures.capacity);
+      order_room = c.self.invariant.order_room;
+    } in
+    let put = c.insert_reserved-key.ensures in
+    rw c.push.ensures (push-store order put.was_vacant put.updates _ _ store less c.adopt-root.ensures.above put.len put.capacity)
+
+pub returns : goal.returns
+returns g c =
+    let put = c.insert_reserved-key.ensures in
+    let slots = push-slots c.self.inside.order.list put.was_vacant put.updates c.adopt-root.ensures.keys.here in
+    rw (← c.self.view_is, c.push.ensures, slots, c.adopt-root.ensures.slots, c.adopt-root.ensures.root) refl

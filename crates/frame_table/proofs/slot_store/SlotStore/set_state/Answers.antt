@@ -1,0 +1,37 @@
+use Rattle.frame_table.proofs.Keys.{key-searched, state-store, state-changes}
+use Rattle.frame_table.proofs.SlotStores.{contains_read}
+use Rattle.frame_table.proofs.slot_store.SlotStore.set_state.Goals as goal
+
+pub put_state-requires : goal.put_state-requires
+put_state-requires g c =
+    let k = c.in-Some.ensures in
+    contains_read c.self.inside.slab c.self.inside.order.list k.0 c.in-Some.key c.self.invariant.here k.1.within k.1.read
+
+pub put_state-requires-in-None : goal.put_state-requires-in-None
+put_state-requires-in-None g c =
+    let k = c.search_key-key.ensures in
+    contains_read c.self.inside.slab c.self.inside.order.list k.0 c.search_key-key.result c.self.invariant.here k.1 k.2
+
+pub invariant_of-self : goal.invariant_of-self
+invariant_of-self g c =
+    let put = c.put_state.ensures in
+    state-store _ _ c.in-Some.key c.put_state.result c.args.state c.self.invariant c.in-Some.ensures.1 put.len put.put put.capacity
+
+pub invariant_of-self-in-None : goal.invariant_of-self-in-None
+invariant_of-self-in-None g c =
+    let k = c.search_key-key.ensures in
+    let at = key-searched (rw (← c.self.view_is) at c.requires.index) k.1 k.2 k.3 in
+    let put = c.put_state-in-None.ensures in
+    state-store _ _ c.search_key-key.result c.put_state-in-None.result c.args.state c.self.invariant at put.len put.put put.capacity
+
+pub returns-in-Some : goal.returns-in-Some
+returns-in-Some g c =
+    let put = c.put_state.ensures in
+    rw (← c.self.view_is) (state-changes _ _ c.in-Some.key c.put_state.result c.args.state c.self.invariant c.in-Some.ensures.1 put.len put.put put.was)
+
+pub returns-in-None : goal.returns-in-None
+returns-in-None g c =
+    let k = c.search_key-key.ensures in
+    let at = key-searched (rw (← c.self.view_is) at c.requires.index) k.1 k.2 k.3 in
+    let put = c.put_state-in-None.ensures in
+    rw (← c.self.view_is) (state-changes _ _ c.search_key-key.result c.put_state-in-None.result c.args.state c.self.invariant at put.len put.put put.was)

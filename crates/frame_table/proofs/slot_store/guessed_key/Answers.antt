@@ -1,0 +1,6 @@
+use Rattle.std.proofs.Common.{sym}
+use Rattle.frame_table.proofs.Keys.{key-found}
+use Rattle.frame_table.proofs.slot_store.guessed_key.Goals as goal
+
+pub returns-then-kept-serial : goal.returns-then-kept-serial
+returns-then-kept-serial g c = key-found c.requires (sym c.in-Some.ensures) c.if-kept-serial.true

@@ -1,0 +1,10 @@
+use Rattle.std.proofs.Common.{refl}
+use Rattle.frame_table.proofs.Places.{removed-back, place-within}
+use Rattle.frame_table.proofs.window.ListWindow.remove.Goals as goal
+
+pub returns-clause-left : goal.returns-clause-left
+returns-clause-left g c =
+    let items = c.self.inside.items.items in
+    let start = c.self.inside.start in
+    let within = place-within items start c.args.at c.self.invariant.within (rw (← c.self.view_is) at c.requires) in
+    rw (← c.self.view_is, c.remove.ensures.items, removed-back items start c.args.at within) refl

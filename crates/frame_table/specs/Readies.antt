@@ -1,0 +1,51 @@
+-- Representation: the ready frames of one tenant, by rising serial.
+use Rattle.std.specs.Prelude.{◌≡◌, ℕ, ◌≤◌, ◌==◌, not, filter, if◌then◌else◌, length, List, [], ◌∷◌, Option, Some, None}
+use Rattle.frame_table.specs.declared.names.State.{State}
+use Rattle.frame_table.specs.declared.names.State.TheVariants.{Ready as ReadyAt, Running, Computing, Waiting, Returned}
+use Rattle.frame_table.specs.declared.slot.Slot.{Slot}
+use Rattle.frame_table.specs.declared.ready.ReadyFrame.{ReadyFrame}
+use Rattle.frame_table.specs.Frames.{first_of_two, is_ready}
+use Rattle.numbered_list.specs.Places.{inserted}
+use Rattle.frame_table.specs.Slots.{AreSoundSlots, serials_of}
+use Rattle.frame_table.specs.Windows.{PlacedList}
+
+-- these ready frames, with the one of this serial in front if its state is Ready
+abbrev pub with_ready : ℕ → State → List ReadyFrame → List ReadyFrame
+with_ready serial (ReadyAt home) frames = record { serial = serial; home = home } ∷ frames
+with_ready serial (Running worker) frames = frames
+with_ready serial (Computing worker) frames = frames
+with_ready serial Waiting frames = frames
+with_ready serial Returned frames = frames
+
+-- the ready frames among slots
+abbrev pub ready_in : {T : Type 0} → List (Slot T) → List ReadyFrame
+ready_in [] = []
+ready_in (slot ∷ slots) = with_ready slot.serial slot.state (ready_in slots)
+
+-- these ready frames without the one of this serial, if the state that it leaves is Ready; else all of them
+abbrev pub without_ready : ℕ → State → List ReadyFrame → List ReadyFrame
+without_ready serial was frames = if is_ready was then filter (λ frame. not (frame.serial == serial)) frames else frames
+
+-- these ready frames, with the one of this serial inserted in order if its new state is Ready
+abbrev pub put_ready : ℕ → State → List ReadyFrame → List ReadyFrame
+put_ready serial (ReadyAt home) frames = inserted (λ frame. frame.serial) (record { serial = serial; home = home }) frames
+put_ready serial (Running worker) frames = frames
+put_ready serial (Computing worker) frames = frames
+put_ready serial Waiting frames = frames
+put_ready serial Returned frames = frames
+
+-- the last of these ready frames, if there is one
+abbrev pub last_ready : List ReadyFrame → Option ReadyFrame
+last_ready [] = None
+last_ready (frame ∷ frames) = first_of_two (last_ready frames) (Some frame)
+
+-- the invariant of TenantFrames (src/tree.rt): serials and ready are those of the slots, which are sound and no more
+-- than places, and all lists have room for as many
+pub record AreTenantFrames {T : Type 0} (slots : List (Slot T)) (places : ℕ) (serials : PlacedList ℕ) (ready : PlacedList ReadyFrame) : Type 0 where
+  pub sound : AreSoundSlots slots (length ready.list)
+  pub index : serials.list ≡ serials_of slots
+  pub ready_frames : ready.list ≡ ready_in slots
+  pub within : length slots ≤ places
+  pub few : places ≤ 4096
+  pub serial_places : places ≤ serials.places
+  pub ready_places : places ≤ ready.places

@@ -1,0 +1,159 @@
+-- Representation: how a tenant's slots are kept: in a slab, with an index of their keys by rising serial.
+use Rattle.std.specs.Prelude.{◌≡◌, ℕ, ◌<◌, ◌≤◌, Bool, true, false, not, if◌then◌else◌, ◌||◌, ◌&&◌, ◌==◌, List, [], ◌∷◌, ◌++◌, Option, Some, None, IsSome, length, slice_index, get_or, set, map, drop}
+use Rattle.std.specs.Borrow.{Bor}
+use Rattle.slab.specs.Slab.{Slab, get, slab_len}
+use Rattle.frame_table.specs.declared.slot.Slot.{Slot as TenantSlot}
+use Rattle.frame_table.specs.Places.{has_number}
+use Rattle.frame_table.specs.declared.names.State.TheVariants.{Ready}
+use Rattle.frame_table.specs.Slots.{frames_from, is_kept, serials_of, root_under}
+use Rattle.frame_table.specs.declared.slot_store.StoredSlot.{StoredSlot}
+
+-- a slot store as contracts see it: its number of places, and its slots by rising serial
+pub record SlotStoreOf (T : Type 0) : Type 0 where
+  pub places : ℕ
+  pub slots : List (TenantSlot T)
+
+-- these slots, with the one that was found in front, if one was
+abbrev pub with_found : {T : Type 0} → Option (StoredSlot T) → List (TenantSlot T) → List (TenantSlot T)
+with_found None slots = slots
+with_found (Some kept) slots = kept.slot ∷ slots
+
+-- the slots under these keys, in this order
+abbrev pub slots_in : {T : Type 0} → Slab (StoredSlot T) → List ℕ → List (TenantSlot T)
+slots_in slab [] = []
+slots_in slab (key ∷ keys) = with_found (get slab key) (slots_in slab keys)
+
+-- no key is in the list twice
+abbrev pub AreApartKeys : List ℕ → Type 0
+AreApartKeys [] = Unit {0}
+AreApartKeys (key ∷ keys) = (has_number keys key ≡ false) × AreApartKeys keys
+
+-- a slot was found, and it has this serial
+abbrev pub HasSerial : {T : Type 0} → ℕ → Option (StoredSlot T) → Type 0
+HasSerial serial None = ⊥
+HasSerial serial (Some kept) = kept.slot.serial ≡ serial
+
+-- a slot with this parent keeps the right key of it: one of these keys, under which the slot has the parent's serial; a
+-- root keeps none
+abbrev pub KnowsParent : {T : Type 0} → Slab (StoredSlot T) → List ℕ → Option ℕ → Option ℕ → Type 0
+KnowsParent slab keys None None = Unit {0}
+KnowsParent slab keys None (Some above) = ⊥
+KnowsParent slab keys (Some parent) None = ⊥
+KnowsParent slab keys (Some parent) (Some above) = (has_number keys above ≡ true) × HasSerial parent (get slab above)
+
+-- a slot was found, it isn't marked, and it keeps the right key of its parent, which is one of these keys
+abbrev pub IsHere : {T : Type 0} → Slab (StoredSlot T) → List ℕ → Option (StoredSlot T) → Type 0
+IsHere slab keys None = ⊥
+IsHere slab keys (Some kept) = (kept.marked ≡ false) × KnowsParent slab keys kept.slot.parent kept.above
+
+-- each key has an unmarked slot, and the key of its parent, if it has one, stands before it
+abbrev pub AllHere : {T : Type 0} → Slab (StoredSlot T) → List ℕ → List ℕ → Type 0
+AllHere slab before [] = Unit {0}
+AllHere slab before (key ∷ keys) = IsHere slab before (get slab key) × AllHere slab (before ++ key ∷ []) keys
+
+-- the invariant of a slot store (src/slot_store.rt): order has the key of each slot once, those of parents before
+-- their children's, and no slot is marked (as an abort marks those that it is about to remove); there are no more than
+-- places, and the slab and the order (of so much room) can hold as many
+pub record IsSlotStore {T : Type 0} (slab : Slab (StoredSlot T)) (order : List ℕ) (room places : ℕ) : Type 0 where
+  pub here : AllHere slab [] order
+  pub apart : AreApartKeys order
+  pub counted : slab_len slab ≡ length order
+  pub within : length order ≤ places
+  pub slab_room : places ≤ slab.capacity
+  pub order_room : places ≤ room
+
+-- the parent, if there is one, is the slot at this place; a root has no such place
+abbrev pub StandsUnder : {T : Type 0} → List (TenantSlot T) → Option ℕ → Option ℕ → Type 0
+StandsUnder slots None None = Unit {0}
+StandsUnder slots None (Some at) = ⊥
+StandsUnder slots (Some parent) None = ⊥
+StandsUnder slots (Some parent) (Some at) = (at < length slots) × (slice_index (serials_of slots) at ≡ parent)
+
+-- a slot is there under the key of a parent, if there is one
+abbrev pub HasAbove : {T : Type 0} → Slab (StoredSlot T) → Option ℕ → Type 0
+HasAbove slab None = Unit {0}
+HasAbove slab (Some above) = IsSome (get slab above)
+
+-- a slot was found, and its parent's is there, if it has one
+abbrev pub HasLink : {T : Type 0} → Slab (StoredSlot T) → Option (StoredSlot T) → Type 0
+HasLink slab None = ⊥
+HasLink slab (Some kept) = HasAbove slab kept.above
+
+-- whether a slot is there and marked
+abbrev pub is_marked : {T : Type 0} → Option (StoredSlot T) → Bool
+is_marked None = false
+is_marked (Some kept) = kept.marked
+
+-- whether an abort at under removes a slot with this parent, kept under this key: it is that frame, or marked
+abbrev pub is_taken_by : {T : Type 0} → Slab (StoredSlot T) → ℕ → Option ℕ → Option ℕ → Bool
+is_taken_by slab under None above = false
+is_taken_by slab under (Some parent) None = false
+is_taken_by slab under (Some parent) (Some above) = (parent == under) || is_marked (get slab above)
+
+-- whether a slot was found that an abort at under removes: its parent is that frame, or is marked
+abbrev pub is_taken_in : {T : Type 0} → Slab (StoredSlot T) → ℕ → Option (StoredSlot T) → Bool
+is_taken_in slab under None = false
+is_taken_in slab under (Some kept) = is_taken_by slab under kept.slot.parent kept.above
+
+-- what marking leaves under a key: what was there, and if the key is one of these, marked exactly where an abort at
+-- under removes the frame
+abbrev pub marked_in : {T : Type 0} → ℕ → List (TenantSlot T) → List ℕ → ℕ → Option (StoredSlot T) → Option (StoredSlot T)
+marked_in under slots keys key None = None
+marked_in under slots keys key (Some kept) = Some (record kept { marked = if has_number keys key then not (is_kept under (frames_from [] slots) kept.slot.serial) else kept.marked })
+
+-- now is old with the slots under these keys marked exactly where an abort at under removes them
+abbrev pub Marks : {T : Type 0} → ℕ → List (TenantSlot T) → List ℕ → Slab (StoredSlot T) → Slab (StoredSlot T) → Type 0
+Marks under slots keys old now = (key : ℕ) → get now key ≡ marked_in under slots keys key (get old key)
+
+-- no slot under these keys is marked
+abbrev pub NoneMarked : {T : Type 0} → Slab (StoredSlot T) → List ℕ → Type 0
+NoneMarked slab [] = Unit {0}
+NoneMarked slab (key ∷ keys) = (is_marked (get slab key) ≡ false) × NoneMarked slab keys
+
+-- each key has a slot
+abbrev pub AreThere : {T : Type 0} → Slab (StoredSlot T) → List ℕ → Type 0
+AreThere slab [] = Unit {0}
+AreThere slab (key ∷ keys) = IsSome (get slab key) × AreThere slab keys
+
+-- what is under a key once the marked slots under these keys are removed
+abbrev pub swept_in : {T : Type 0} → Slab (StoredSlot T) → List ℕ → ℕ → Option (StoredSlot T)
+swept_in slab keys key = if has_number keys key && is_marked (get slab key) then None else get slab key
+
+-- the values of the slots under these keys
+abbrev pub values_in : {T : Type 0} → Slab (StoredSlot T) → List ℕ → List T
+values_in slab keys = map (λ slot. slot.value) (slots_in slab keys)
+
+-- the slots of a slot store from a place on; none where there is none
+abbrev pub slots_after : {T : Type 0} → ℕ → Option (Bor (SlotStoreOf T)) → List (TenantSlot T)
+slots_after at None = []
+slots_after at (Some store) = drop at store.now.slots
+
+-- this is the slot at this place, and it has this serial
+pub record IsSeenAt {T : Type 0} (slots : List (TenantSlot T)) (serial at : ℕ) (slot : TenantSlot T) : Type 0 where
+  pub within : at < length slots
+  pub named : slice_index (serials_of slots) at ≡ serial
+  pub read : slot ≡ get_or slots at slot
+
+-- the slot with this serial is changed by change, nothing else is, and Told holds of the slot as it was before
+pub record ChangesSlot {T : Type 0} (old new : SlotStoreOf T) (serial : ℕ) (change : TenantSlot T → TenantSlot T) (Told : TenantSlot T → Type 0) : Type 0 where
+  pub at : ℕ
+  pub slot : TenantSlot T
+  pub seen : IsSeenAt old.slots serial at slot
+  pub changed : new ≡ record old { slots = set old.slots at (change slot) }
+  pub told : Told slot
+
+-- these are the keys of all slots of a slab, of which none is marked, each once, those of parents before their children's
+pub record AreKeys {T : Type 0} (slab : Slab (StoredSlot T)) (keys : List ℕ) : Type 0 where
+  pub here : AllHere slab [] keys
+  pub apart : AreApartKeys keys
+  pub counted : slab_len slab ≡ length keys
+
+-- this is the key at this place, and the slot there has this serial
+pub record IsKeyAt {T : Type 0} (slab : Slab (StoredSlot T)) (keys : List ℕ) (serial at key : ℕ) : Type 0 where
+  pub within : at < length keys
+  pub read : key ≡ get_or keys at key
+  pub named : slice_index (serials_of (slots_in slab keys)) at ≡ serial
+
+-- the slot of a new frame, ready at this home and without a child
+abbrev pub new_slot : {T : Type 0} → List (TenantSlot T) → ℕ → Option ℕ → ℕ → T → TenantSlot T
+new_slot slots serial parent home value = record { serial = serial; parent = parent; root = root_under slots parent serial; state = Ready home; children = 0; value = value }

@@ -1,9 +1,0 @@
-use Rattle.frame_tree.proofs.Common.{◌≡◌, ◌+◌, ◌≤◌, ◌++◌, length, drop, ready_in}
-use Rattle.frame_tree.proofs.slot_store.SlotStore.add_ready.Given as goal
-
-abbrev pub invariant-loop-at : goal.invariant-loop-at
-invariant-loop-at g l = record {
-  left : l.ready.list ++ ready_in (drop l.at l.self.slots) ≡ l.initial.ready.list ++ ready_in (drop l.from l.self.slots);
-  places : l.ready.places ≡ l.initial.ready.places;
-  room : length l.ready.list + length l.self.slots ≤ l.ready.places + l.at;
-}

@@ -1,9 +1,0 @@
-use Rattle.frame_tree.proofs.Common.{◌≡◌, ◌+◌, ◌++◌, take, vec_len, vec_capacity, slot_values}
-use Rattle.frame_tree.proofs.slot_store.SlotStore.add_values.Given as goal
-
-abbrev pub invariant-loop-at : goal.invariant-loop-at
-invariant-loop-at g l = record {
-  items : l.values.items ≡ l.initial.values.items ++ slot_values (take l.at l.self.slots);
-  len : vec_len l.values ≡ vec_len l.initial.values + l.at;
-  capacity : vec_capacity l.values ≡ vec_capacity l.initial.values;
-}

@@ -1,6 +1,0 @@
-use Rattle.std.proofs.Common.{sym}
-use Rattle.frame_tree.proofs.Keys.{key-found}
-use Rattle.frame_tree.proofs.slot_store.guessed_key.Goals as goal
-
-pub returns-then-kept-serial : goal.returns-then-kept-serial
-returns-then-kept-serial g c = key-found c.requires (sym c.in-Some.ensures) c.if-kept-serial.true

@@ -1,9 +1,0 @@
-use Rattle.std.proofs.Common.{[], sym, ◌∙◌}
-use Rattle.frame_tree.proofs.Forest.{has_frame-frames_from}
-use Rattle.frame_tree.proofs.Keys.{found-there}
-use Rattle.frame_tree.proofs.tree.TenantFrames.contains.Goals as goal
-
-pub returns : goal.returns
-returns g c =
-    let there = found-there c.self.inside.store.slots _ c.self.invariant.index c.args.serial c.place_of.result c.place_of.ensures.found c.place_of.ensures.none in
-    rw (← c.self.view_is) (c.is_some.ensures ∙ (there ∙ sym (has_frame-frames_from [] c.self.inside.store.slots c.args.serial)))
