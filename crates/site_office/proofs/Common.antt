@@ -16,8 +16,8 @@ pub use Rattle.protocol.specs.Words.{split_at_space}
 pub use Rattle.sched_rules.specs.Refusals.{refusal_number}
 pub use Rattle.sched_rules.specs.declared.refusal.Refusal.{Refusal}
 pub use Rattle.sched_rules.specs.declared.refusal.Refusal.TheVariants.{NoJob}
-pub use Rattle.session.specs.Asks.{Asked, IsJobReply, KeepsAsks, SaysTrue, asked_at}
-pub use Rattle.session.specs.Calls.{Call, Cancel, Ended, Get, Gone, Hello, Leave, OfficeReply, Refused, Reserve, Reserved, Told, Wait, reply_of}
+pub use Rattle.session.specs.Asks.{IsJobReply, KeepsAsks, SaysTrue, asked_at}
+pub use Rattle.session.specs.Calls.{Call, Cancel, Ended, Get, Gone, Hello, Leave, OfficeReply, Refused, Reserve, Told, Wait, reply_of}
 pub use Rattle.session.specs.Requests.{Ends, Fault, Makes, Request, Tabulates}
 pub use Rattle.session.specs.Sessions.{LeavesIf, Turned}
 pub use Rattle.session.specs.Turns.{seated_after}
@@ -27,7 +27,6 @@ pub use Rattle.site_desk.specs.Seats.{SiteSeatOf}
 pub use Rattle.tenant_quota.specs.Quota.{Quota}
 pub use Rattle.site_office.specs.Lines.{Greets, Informs, Plain, Raises, SiteRequest, site_request}
 pub use Rattle.site_office.specs.Offices.{asks_of_seat}
-pub use Rattle.site_office.specs.Refusing.{raise_refusals}
 pub use Rattle.site_office.specs.Tokens.{last_word, token_after, token_by, token_of, word_after, word_after_two}
 pub use Rattle.site_office.specs.Turns.{IsGreeted, IsRaised, IsRefused, IsWelcomed, SiteTurned}
 pub use Rattle.site_office.specs.declared.clerk.SiteClerk.{SiteClerk}

@@ -1,5 +1,5 @@
 -- What a seat shows of its jobs, as a session has it.
-use Rattle.site_office.proofs.Common.{◌≡◌, ℕ, map, false, Option, Some, None, refl, sym, subst, ap, ◌∙◌, Result, Ok, Err, Contains, IfErr, is_some, Outcome, Refusal, NoJob, refusal_number, Quota, Cancel, Reserve, Reserved, Ended, Told as ToldOf, Refused, reply_of, Asked, asked_at, IsJobReply, KeepsAsks, SaysTrue, Standing, SeatAsked, cancel_refusals, IsShown, seat_asked_at, ask_of, told_answer, asked_at-map, told-of, says, refused-by, unasked, SiteSeatOf, raise_refusals, asks_of_seat}
+use Rattle.site_office.proofs.Common.{◌≡◌, ℕ, map, false, Option, Some, None, refl, sym, subst, ap, ◌∙◌, Result, Ok, Err, Contains, IfErr, is_some, Outcome, Refusal, NoJob, refusal_number, Cancel, Ended, Told as ToldOf, Refused, reply_of, asked_at, IsJobReply, KeepsAsks, SaysTrue, Standing, SeatAsked, cancel_refusals, IsShown, seat_asked_at, ask_of, told_answer, asked_at-map, told-of, says, refused-by, unasked, SiteSeatOf, asks_of_seat}
 use Rattle.std.specs.Prelude.{List}
 
 -- what the seat that is there shows of a job
@@ -24,12 +24,6 @@ pub seat-cancels : (here : Option SiteSeatOf) (seat : SiteSeatOf) (job : ℕ) (a
     → (seat_asked_at seat.asked job ≡ None → answer ≡ Err NoJob) → IfErr answer (Contains cancel_refusals) → KeepsAsks (asks_of_seat here) (Cancel job) (reply_of (λ _. Ended job) answer) (asks_of_seat here)
 seat-cancels here seat job answer is none refused =
     subst (λ o. KeepsAsks (asks_of_seat o) (Cancel job) (reply_of (λ _. Ended job) answer) (asks_of_seat o)) (sym is) (cancels seat.asked job answer none refused)
-
--- asks stay where a reservation is raised, or refused
-pub raises : (asks : List Asked) (quota : Quota) (answer : Result (Unit {0}) Refusal) → IfErr answer (Contains raise_refusals)
-    → KeepsAsks asks (Reserve quota) (reply_of (λ _. Reserved quota) answer) asks
-raises asks quota (Ok done) refused = (refl, tt, tt, refl)
-raises asks quota (Err refusal) refused = (refl, tt, refused-by raise_refusals refusal refused, tt)
 
 -- nothing is there
 pub none-of : {X : Type 0} (o : Option X) → is_some o ≡ false → o ≡ None

@@ -27,7 +27,3 @@ raise_refusal OutOfMemory = no_memory
 -- the refusals of HELLO where no tenant is there
 abbrev pub comer_refusals : List Refusal
 comer_refusals = Full ∷ no_number ∷ no_memory ∷ []
-
--- the refusals of RESERVE
-abbrev pub raise_refusals : List Refusal
-raise_refusals = NoTenant ∷ Lower ∷ Full ∷ no_memory ∷ []

@@ -5,8 +5,7 @@ use Rattle.sched_rules.specs.declared.act.InletAct.{InletAct}
 use Rattle.sched_rules.specs.declared.act.Continuation.{Continuation}
 use Rattle.sched_rules.specs.declared.act.Continuation.TheVariants.{Grow, Spawn, Go, Wait, Compute, Return}
 use Rattle.transcripts.specs.declared.reader.ReaderAnswer.{ReaderAnswer}
-use Rattle.sched_rules.specs.Functions.{Functions}
-use Rattle.toys.specs.Toys.{word_at, toy}
+use Rattle.toys.specs.Toys.{word_at}
 
 -- the act that stores this and then does that
 abbrev pub act_with_stores : List (ℕ × ℕ) → Continuation → Act
@@ -47,7 +46,3 @@ reader_inlet own child =
 -- what a frame stores of an answer: its number, in word 2
 abbrev pub reader_stored : ReaderAnswer → List (ℕ × ℕ)
 reader_stored answer = (2, answer.0) ∷ []
-
--- the procedure Reader: an answer is to the input of its own number
-abbrev pub reader : Functions ℕ ReaderAnswer
-reader = toy reader_act reader_inlet (λ answer. answer.0) reader_stored
