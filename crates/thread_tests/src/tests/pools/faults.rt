@@ -3,7 +3,7 @@ ghost use Rattle.std.specs.Prelude.{◌≡◌};
 
 use super::run_sized;
 use crate::tests::calls::{At, end, hall_of};
-use crate::tests::{holds, holds_of, holds_that};
+use crate::tests::{holds, holds_of, holds_that, says};
 use desk::{Desk, DeskLedger, Hall, Jamboree, Opened, PARTS, Step};
 use sched_rules::Worker;
 use std::alloc::Global;

@@ -4,13 +4,13 @@ ghost use Rattle.std.specs.Prelude.{◌≡◌};
 use super::{Scenario, Table, play};
 use crate::tests::calls::At;
 use crate::tests::signs::{add, is_set, none, reaches, set, unset};
-use crate::tests::{holds, holds_that, says};
+use crate::tests::{holds, holds_that};
 use desk::DeskLedger;
 use sched_rules::Worker;
 use std::alloc::Global;
 use std::sync::Wait;
 use std::sync::atomic::{AtomicBool, AtomicU64, Ordering};
-use steal_pool::{BeginFault, Gate, PoolFault, Task};
+use steal_pool::{Gate, Task};
 
 /// How many workers there are.
 const WORKERS: u8 = 12;
