@@ -236,9 +236,9 @@ def raises_to_the_most(met):
 
 # a session's lines, of which the second name's is refused memory and tried again, and the growths that are its own
 WANTING = [
-    (range(1, 11), [("", "HELLO 4 16"), ("", "ASK"), ("", "WAIT 1"), ("", "QUOTA")], 0),
-    (range(11, 20), [("one", "HELLO 4 16"), ("one", "ASK"), ("two", "HELLO 60 48"), ("two", "QUOTA"), ("one", "WAIT 1")], 2),
-    (range(11, 19), [("", "HELLO 4 16"), ("", "ASK"), ("", "RESERVE 60 48"), ("", "WAIT 1"), ("", "QUOTA")], 2),
+    (range(1, 10), [("", "HELLO 4 16"), ("", "ASK"), ("", "WAIT 1"), ("", "QUOTA")], 0),
+    (range(10, 19), [("one", "HELLO 4 16"), ("one", "ASK"), ("two", "HELLO 60 48"), ("two", "QUOTA"), ("one", "WAIT 1")], 2),
+    (range(10, 18), [("", "HELLO 4 16"), ("", "ASK"), ("", "RESERVE 60 48"), ("", "WAIT 1"), ("", "QUOTA")], 2),
 ]
 
 
