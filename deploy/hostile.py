@@ -268,3 +268,4 @@ def main(port, customers, seconds, kind=None):
 
 if __name__ == "__main__":
     main(*map(int, sys.argv[1:4]), *(each for each in KINDS if each.__name__ in sys.argv[4:]))
+    os._exit(0)  # (threads that are still in TLS while Python takes itself down have crashed it)
