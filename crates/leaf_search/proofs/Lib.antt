@@ -1,3 +1,5 @@
 mod Common
 pub mod EvalLemmas
 pub mod WindowLemmas
+pub mod RankingLemmas
+pub mod ListLemmas

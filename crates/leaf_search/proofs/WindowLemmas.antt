@@ -1,5 +1,5 @@
 -- The steps of a window search at one position, over any choices and what each is worth.
-use Rattle.leaf_search.proofs.Common.{◌↔◌, append-nil, append_assoc, ◌≡◌, ◌<◌, length, ℤ, pos, negsuc, neg_ℤ, List, [], ◌∷◌, ◌++◌, map, Option, Some, refl, sym, ◌∙◌, ap, subst, arith, find, ◌≤ℤ◌, ◌<ℤ◌, IsSome, IfSome, All, Contains, ℕ, ◌-◌, Bool, IsTrue, true, false, int_max, ints, clamps, by_lt_z, All-nil, All-cons, All-append, All-weaker, Contains-append_right, common_steps, choices, after, plies, Choice, Cell, greatest_or, int_equal, minimax, choice_value, IsBound, IsWithin, find-kept, find-new, greatest_or-upper, greatest_or-lower, found-below-greatest}
+use Rattle.leaf_search.proofs.Common.{◌↔◌, append-nil, append_assoc, ◌≡◌, ◌<◌, length, ℤ, pos, negsuc, neg_ℤ, ◌+ℤ◌, List, [], ◌∷◌, ◌++◌, map, Option, Some, refl, sym, ◌∙◌, ap, subst, arith, find, ◌≤ℤ◌, ◌<ℤ◌, IsSome, IfSome, All, Contains, ℕ, ◌-◌, Bool, IsTrue, true, false, int_max, ints, clamps, by_lt_z, All-nil, All-cons, All-append, All-weaker, Contains-append_right, common_steps, choices, after, plies, Choice, Cell, greatest_or, int_equal, minimax, choice_value, IsBound, IsWithin, find-kept, find-new, greatest_or-upper, greatest_or-lower, found-below-greatest}
 
 -- what is known once these choices were searched, none of which ended the search: no value is above the
 -- best score, and where that is above alpha it is the value of the first choice that attains it
@@ -56,7 +56,7 @@ module _ {X : Type 0} (alpha beta : ℤ) (v : X → ℤ) (other : ℤ) where
       }
 
   -- a choice with a score of at least beta that is a lower bound of its value ends the search
-  cut-bound : (before : List X) (c : X) (later : List X) (score : ℤ) → alpha <ℤ beta → beta ≤ℤ score → score ≤ℤ v c →
+  pub cut-bound : (before : List X) (c : X) (later : List X) (score : ℤ) → alpha <ℤ beta → beta ≤ℤ score → score ≤ℤ v c →
       IsBound alpha beta score (greatest_or other (map v (before ++ c ∷ later)))
   cut-bound before c later score window high under =
       let least : v c ≤ℤ greatest_or other (map v (before ++ c ∷ later)) = greatest_or-lower v other before c later in
@@ -75,13 +75,13 @@ pub record IsChild {X : Type 0} (v : X → ℤ) (beta floor : ℤ) (c : X) (scor
 
 -- what a child's score says of the choice that leads to it
 module _ {X : Type 0} {v : X → ℤ} {beta floor : ℤ} {c : X} {score : ℤ} (child : IsChild v beta floor c score) where
-  child-under : neg_ℤ score ≤ℤ floor → v c ≤ℤ neg_ℤ score
+  pub child-under : neg_ℤ score ≤ℤ floor → v c ≤ℤ neg_ℤ score
   child-under small = let under : score ≤ℤ child.value = child.bound.lower (omega (arith, ints)) in omega (arith, ints, child.worth)
 
-  child-over : beta ≤ℤ neg_ℤ score → neg_ℤ score ≤ℤ v c
+  pub child-over : beta ≤ℤ neg_ℤ score → neg_ℤ score ≤ℤ v c
   child-over great = let over : child.value ≤ℤ score = child.bound.upper (omega (arith, ints)) in omega (arith, ints, child.worth)
 
-  child-exact : floor <ℤ neg_ℤ score → neg_ℤ score <ℤ beta → v c ≡ neg_ℤ score
+  pub child-exact : floor <ℤ neg_ℤ score → neg_ℤ score <ℤ beta → v c ≡ neg_ℤ score
   child-exact higher lower = child.worth ∙ ap neg_ℤ (child.bound.exact (omega (arith, ints)) (omega (arith, ints)))
 
 -- the best score and its choice after a child's score: its, where that is better, and else what they were
@@ -200,6 +200,22 @@ module _ {X : Type 0} {alpha beta : ℤ} {v : X → ℤ} {all left : List X} {be
 -- the value itself is a bound of it, whatever the window
 pub exact-bound : (alpha beta score value : ℤ) → value ≡ score → IsBound alpha beta score value
 exact-bound alpha beta score value same = grind arith
+
+-- what a test by the last part of a window says: outside the window its score is a bound as a search of the whole gives it
+module _ {low high alpha beta score value : ℤ} (test : IsBound low high score value) (last : low +ℤ pos 1 ≡ beta) (same : high ≡ beta) (window : alpha <ℤ beta) where
+  pub test-low : score ≤ℤ alpha → IsBound alpha beta score value
+  test-low under = record {
+    upper = λ _. test.upper (omega (arith, ints));
+    lower = λ (great : beta ≤ℤ score). absurd (omega (arith, ints));
+    exact = λ (higher : alpha <ℤ score) _. absurd (omega (arith, ints));
+  }
+
+  pub test-high : beta ≤ℤ score → IsBound alpha beta score value
+  test-high over = record {
+    upper = λ (small : score ≤ℤ alpha). absurd (omega (arith, ints));
+    lower = λ _. test.lower (omega (arith, ints));
+    exact = λ _ (lower : score <ℤ beta). absurd (omega (arith, ints));
+  }
 
 -- the child, by the plies of the choice, the board after it and the window that it was searched with
 module _ {beta floor low high score : ℤ} (d : ℕ) {p : ℕ} {b : List Cell} (board : List Cell) (c : Choice) where

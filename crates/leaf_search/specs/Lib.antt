@@ -1,2 +1,3 @@
 pub use Rattle.othello_eval.specs as othello_eval
 pub mod Bounds
+pub mod Ranking

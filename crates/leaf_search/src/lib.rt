@@ -1,4 +1,4 @@
-//! Serial window search of an Othello position: alpha-beta, fail-soft, choices in order.
+//! Serial window search of an Othello position: alpha-beta, fail-soft, choices in order, or in the order of a key.
 //!
 //! [`search`] looks at a board to a depth of 0 to 12 plies through a window from `alpha` to `beta`. The
 //! values that it stands on are those of `othello_eval`: `minimax`, the plain recursion over the choices
@@ -11,7 +11,15 @@
 //! the fail-soft one, which may say more than alpha or beta would, and the count of positions entered
 //! is that of such a search, which leaves out what can't change the window's answer.
 //!
-//! What makes it true, between two choices of a position: no choice taken so far is worth more than the
+//! [`search_ordered`] promises the same, and enters far fewer positions: from a depth of 3 on it takes the choices by a key
+//! that the boards after them give (`src/ranking.rt`), the first through the window and each other first through a window
+//! of width one, where most turn out to be no better. Of equal choices the first in the rules' order is still found: at the
+//! first position a choice that comes earlier than the best so far is tested from one below the best score, so that a tie counts.
+//! How much is entered no contract says; a test compares it with kept numbers. Between two choices `IsRanking` of
+//! `proofs/RankingLemmas.antt` holds: as below, but what is known of the choice is that it attains the best score and that none
+//! at an earlier place does; as the list is a rearrangement of the choices, none of them is left out.
+//!
+//! What makes [`search`] true, between two choices of a position: no choice taken so far is worth more than the
 //! best score, and where that is above alpha, it is just what the first choice that has it is worth
 //! (`IsBestOf` of `proofs/WindowLemmas.antt`). Below the first position nobody asks for the choice, so it isn't kept
 //! there: two functions, one for the first position and one for all below it, with one invariant. The position after a choice is searched through the
@@ -26,11 +34,14 @@
 
 pub use othello_eval;
 
+mod ordered;
+mod ranking;
 pub mod rows;
 mod scored;
 mod tree;
 mod window;
 
+pub use ordered::{search_ordered, search_ordered_full};
 pub use scored::Scored;
 pub use tree::{search, search_full};
 pub use window::INF;

@@ -30,6 +30,17 @@ impl Scored {
         }
     }
 
+    /// The result without its choice.
+    #[inline(always)]
+    pub(crate) fn counted(self) -> Counted
+        ensures { result ≡ record { score = self.score; visited = self.visited } }
+    {
+        Counted {
+            score: self.score,
+            visited: self.visited,
+        }
+    }
+
     /// Adds the result of searching the position after `choice`, seen by the opponent. Where its negated score is
     /// above the score here, that and the choice replace the ones here. The counts of positions are added.
     pub(crate) fn take_in(&mut self, choice: Choice, child: Counted)
@@ -75,6 +86,18 @@ impl Counted {
         Counted {
             score: self.score.max(-child.score),
             visited: self.visited.saturating_add(child.visited),
+        }
+    }
+
+    /// The result of a search of a position that was tested before: this score, and the sum of the counts.
+    #[inline(always)]
+    pub(crate) fn after(self, test: Counted) -> Counted
+        ensures score { result.score ≡ self.score }
+        ensures visited { result.visited ≡ min (test.visited + self.visited) (2 ^ 64 - 1) }
+    {
+        Counted {
+            score: self.score,
+            visited: test.visited.saturating_add(self.visited),
         }
     }
 }

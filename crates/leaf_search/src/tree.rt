@@ -91,7 +91,7 @@ fn best_of(weighed: Weighed, depth: u8, window: Window) -> Scored
 /// positions are leaves, which have none below them.
 #[cycle(search)]
 #[inline(always)]
-fn search_below(weighed: Weighed, depth: u8, window: Window) -> Counted
+pub(crate) fn search_below(weighed: Weighed, depth: u8, window: Window) -> Counted
     ensures bound { IsBound window.alpha window.beta result.score (minimax depth (cells weighed.board)) }
     ensures within { IsWithin 128000 result.score }
 {

@@ -1,5 +1,5 @@
 //! The window that a search looks through.
-ghost use Rattle.std.specs.Prelude.{◌≡◌, ◌<ℤ◌, ◌≤ℤ◌, neg_ℤ};
+ghost use Rattle.std.specs.Prelude.{◌≡◌, ◌<ℤ◌, ◌≤ℤ◌, ◌+ℤ◌, neg_ℤ, pos};
 ghost use Rattle.std.specs.Int.{int_max};
 ghost use Rattle.leaf_search.specs.declared.window.TheConstants.{INF};
 
@@ -29,6 +29,18 @@ impl Window {
         Window {
             alpha: -self.beta,
             beta: -self.alpha.max(best),
+        }
+    }
+
+    /// The last part of the window, of width one: by its scores a value is below beta, or at least beta.
+    #[inline(always)]
+    pub(crate) fn last(self) -> Window
+        ensures alpha { result.alpha +ℤ pos 1 ≡ self.beta }
+        ensures beta { result.beta ≡ self.beta }
+    {
+        Window {
+            alpha: self.beta - 1,
+            beta: self.beta,
         }
     }
 }
