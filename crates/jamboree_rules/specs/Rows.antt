@@ -1,5 +1,8 @@
--- Representation: words on which the acts are tried: the opening, Black to move, searched to depth 1 with grain 0.
-use Rattle.std.specs.Prelude.{ℕ, ◌+◌, ◌*◌, List, [], ◌∷◌}
+-- Representation: words and frames on which acts and definitions are tried: the opening, Black to move, searched to depth 1 with grain 0.
+use Rattle.std.specs.Prelude.{ℕ, ◌+◌, ◌*◌, ℤ, pos, List, [], ◌∷◌}
+use Rattle.leaf_search.specs.othello_eval.declared.bound.BoundKind.{BoundKind}
+use Rattle.jamboree_rules.specs.Frames.{Frame, role_root, status_settled, status_not_spawned, least, greatest}
+use Rattle.jamboree_rules.specs.Places.{rest_with}
 
 -- the entry of a choice with this status and this word of a score (1,000,000 more than the score), which by its
 -- kind bounds the choice's value: 1 from above, 2 from below, 3 exactly
@@ -34,3 +37,41 @@ tests_with spawned c4 = 34628173824 ∷ 68853694464 ∷ 1 ∷ 800000 ∷ 1200000
 -- (all as words)
 abbrev pub returned : ℕ → ℕ → ℕ → ℕ → ℕ → List ℕ
 returned alpha beta role number best = 68719476736 ∷ 34762915840 ∷ 0 ∷ alpha ∷ beta ∷ role ∷ number ∷ 4 ∷ best ∷ 65 ∷ 0 ∷ 0 ∷ []
+
+-- the root with this window, phase, best score and code of a choice, and with these statuses and rests of its
+-- entries; each of its choices (d3, c4, f5, e6) is worth -3
+abbrev pub root_with : ℤ → ℤ → ℕ → ℤ → ℕ → List ℕ → List ℕ → Frame
+root_with alpha beta phase best choice statuses rests = record { own = 34628173824; opp = 68853694464; depth = 1; alpha = alpha; beta = beta; role = role_root; number = 0; phase = phase; best = best; choice = choice; count = 4; spawned = 4; statuses = statuses; rests = rests }
+
+-- the statuses of the four choices where none is settled
+abbrev pub none_settled : List ℕ
+none_settled = status_not_spawned ∷ status_not_spawned ∷ status_not_spawned ∷ status_not_spawned ∷ []
+
+-- the statuses where d3 alone is settled
+abbrev pub d3_settled : List ℕ
+d3_settled = status_settled ∷ status_not_spawned ∷ status_not_spawned ∷ status_not_spawned ∷ []
+
+-- the statuses where d3 and c4 are settled
+abbrev pub two_settled : List ℕ
+two_settled = status_settled ∷ status_settled ∷ status_not_spawned ∷ status_not_spawned ∷ []
+
+-- the rests of the four entries where nothing is known of any choice
+abbrev pub nothing_found : List ℕ
+nothing_found = 0 ∷ 0 ∷ 0 ∷ 0 ∷ []
+
+-- the rests where a bound of c4, of this kind and this score, is all that is known
+abbrev pub found_of_c4 : BoundKind → ℤ → List ℕ
+found_of_c4 kind score = 0 ∷ rest_with kind score ∷ 0 ∷ 0 ∷ []
+
+-- the root with the full window, where nothing is known of any choice
+abbrev pub full_root : ℕ → ℤ → ℕ → List ℕ → Frame
+full_root phase best choice statuses = root_with least greatest phase best choice statuses nothing_found
+
+-- a child of the root, with the words of a board, a depth, a window, its role, the number of its choice and its
+-- phase
+abbrev pub child_of_root : ℕ → ℕ → ℕ → ℤ → ℤ → ℕ → ℕ → ℕ → Frame
+child_of_root own opp depth alpha beta role number phase = record { own = own; opp = opp; depth = depth; alpha = alpha; beta = beta; role = role; number = number; phase = phase; best = pos 0; choice = 65; count = 0; spawned = 0; statuses = []; rests = [] }
+
+-- the child of the root that searches d3, and is computed on the board after it
+abbrev pub after_d3 : ℕ → ℤ → ℤ → ℕ → Frame
+after_d3 depth alpha beta role = child_of_root 68719476736 34762915840 depth alpha beta role 0 1
