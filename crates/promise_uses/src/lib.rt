@@ -17,6 +17,7 @@ mod runs;
 mod seen;
 mod sessions;
 mod solving;
+mod soundness;
 
 pub use customers::{
     a_customer_and_the_guests, a_customer_at_its_limits, a_guest_at_its_limits, nobody_is_left,
@@ -35,3 +36,4 @@ pub use runs::{
 pub use seen::{a_spent_ask, hello_and_bye, quota_after_hello};
 pub use sessions::third_answer;
 pub use solving::three_lines;
+pub use soundness::third_frame_of_nine;
