@@ -45,7 +45,7 @@ pub use Rattle.othello_board.specs.declared.boards.Board.{Board}
 pub use Rattle.othello_board.specs.declared.cells.Cell.{Cell}
 pub use Rattle.othello_eval.specs.Minimax.{best_choice, minimax}
 pub use Rattle.othello_eval.specs.Tables.{IsTable}
-pub use Rattle.othello_eval.specs.othello_moves.declared.choices.TheConstants.{DEEPEST}
+pub use Rattle.othello_eval.specs.othello_moves.Depths.{greatest_depth}
 pub use Rattle.position_text.specs.declared.positions.Side.{Side}
 pub use Rattle.sched_laws.specs.Fitted.{origins_of, submits}
 pub use Rattle.sched_rules.proofs.Tenants.{tenant_in-with_outcome, tenant_in-other-with_outcome}

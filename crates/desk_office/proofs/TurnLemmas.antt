@@ -1,5 +1,5 @@
 -- What a call of the office is, by what the desk's call has done.
-use Rattle.desk_office.proofs.Common.{◌≡◌, ◌≢◌, ℕ, ◌+◌, ◌≤◌, [], ◌∷◌, map, length, Bool, true, false, Option, Some, None, Result, Ok, Err, refl, sym, ap, subst, ◌∙◌, inl, inr, arith, Contains, IfErr, MatchResult, nat_tests, length-append, length-map, map-append, Board, cells, Side, Quota, Refusal, NoJob, NoJobsLeft, refusal_number, AdmitMore, Submit, root_words, frame_size, HallOf, Outcome, SeatAsked, ask_refusals, cancel_refusals, seat_asked_at, IsShown, SeatOf, reserve_refusals, seeing, stepped, IsAsked, lone_tenant, IsLook, IsShownAt, IsToldOf, Standing, KeepsAsks, Call, Reserve, Ask, Get, Wait, Cancel, OfficeReply, Reserved, Job, Told, Ended, Refused, reply_of, ask_of, told_answer, OfficeOf, with_seat, IsJobTold, IsStepBy, IsTurnAt, IsTurnOf, DEEPEST}
+use Rattle.desk_office.proofs.Common.{◌≡◌, ◌≢◌, ℕ, ◌+◌, ◌≤◌, [], ◌∷◌, map, length, Bool, true, false, Option, Some, None, Result, Ok, Err, refl, sym, ap, subst, ◌∙◌, inl, inr, arith, Contains, IfErr, MatchResult, nat_tests, length-append, length-map, map-append, Board, cells, Side, Quota, Refusal, NoJob, NoJobsLeft, refusal_number, AdmitMore, Submit, root_words, frame_size, HallOf, Outcome, SeatAsked, ask_refusals, cancel_refusals, seat_asked_at, IsShown, SeatOf, reserve_refusals, seeing, stepped, IsAsked, lone_tenant, IsLook, IsShownAt, IsToldOf, Standing, KeepsAsks, Call, Reserve, Ask, Get, Wait, Cancel, OfficeReply, Reserved, Job, Told, Ended, Refused, reply_of, ask_of, told_answer, OfficeOf, with_seat, IsJobTold, IsStepBy, IsTurnAt, IsTurnOf, greatest_depth}
 use Rattle.std.specs.Prelude.{◌==◌}
 use Rattle.sched_rules.specs.declared.step.StepOf.TheVariants.{Cancel as CancelStep}
 use Rattle.desk_office.proofs.SeatLemmas.{cancels, job-kept, refused-by, reserves}
@@ -24,7 +24,7 @@ reserve-step begun before after quota (Err refusal) share told =
     record { words = no_words; board = tt; step = AdmitMore before.tenant quota; asks = refl; came = inr (inl (record { refusal = refusal; saw = told.0; right = told.1; seat = share; said = refl })) }
 
 -- the seat asks
-ask-step : (begun : HallOf) (before after : SeatOf) (words : Board) (depth : ℕ) (side : Side) (answer : Result ℕ Refusal) → depth ≤ DEEPEST → IsAsked (record { board = words; depth = depth }) before answer after →
+ask-step : (begun : HallOf) (before after : SeatOf) (words : Board) (depth : ℕ) (side : Side) (answer : Result ℕ Refusal) → depth ≤ greatest_depth → IsAsked (record { board = words; depth = depth }) before answer after →
     (length before.asked ≡ 256 → after ≡ before) →
     (length before.asked ≢ 256 → IsToldOf begun before.known (Submit before.tenant (root_words words.own words.opp depth) frame_size) answer after.known) →
     IsStepBy begun before (Ask depth (cells words) side) (reply_of Job answer) after
@@ -80,7 +80,7 @@ pub reserve-turn : (begun : HallOf) (from : OfficeOf) (before after : SeatOf) (q
 reserve-turn begun from before after quota answer is share told refused =
     turn begun from (Reserve quota) (reply_of (λ _. Reserved quota) answer) before after is (after, refl, reserve-step begun before after quota answer share told) (reserves before after quota answer share refused)
 
-pub ask-turn : (begun : HallOf) (from : OfficeOf) (before after : SeatOf) (words : Board) (depth : ℕ) (side : Side) (answer : Result ℕ Refusal) → from.seat ≡ Some before → depth ≤ DEEPEST → IsAsked (record { board = words; depth = depth }) before answer after →
+pub ask-turn : (begun : HallOf) (from : OfficeOf) (before after : SeatOf) (words : Board) (depth : ℕ) (side : Side) (answer : Result ℕ Refusal) → from.seat ≡ Some before → depth ≤ greatest_depth → IsAsked (record { board = words; depth = depth }) before answer after →
     (length before.asked ≡ 256 → after ≡ before) →
     (length before.asked ≢ 256 → IsToldOf begun before.known (Submit before.tenant (root_words words.own words.opp depth) frame_size) answer after.known) → IfErr answer (Contains ask_refusals) →
     IsTurnAt begun from (Ask depth (cells words) side) (reply_of Job answer) (with_seat after from)

@@ -5,7 +5,7 @@ use Rattle.tenant_quota.specs.Quota.{Quota}
 use Rattle.line_io.specs.Streams.{ReadAnswer, WriteAnswer}
 use Rattle.othello_board.specs.declared.boards.Board.{Board}
 use Rattle.othello_board.specs.Words.{cells, cells_of}
-use Rattle.othello_eval.specs.othello_moves.declared.choices.TheConstants.{DEEPEST}
+use Rattle.othello_eval.specs.othello_moves.Depths.{greatest_depth}
 use Rattle.othello_eval.specs.Minimax.{minimax, best_choice}
 use Rattle.othello_eval.specs.declared.bound.Bound.{Bound}
 use Rattle.sched_rules.specs.declared.job.Job.{Job as JobOf}
@@ -106,7 +106,7 @@ IsReplyAt begun number history call reply =
 
 -- these are the words of the board that a call asks for, to at most 12 plies, if it is an Ask
 abbrev pub IsBoardIn : Board → Call → Type 0
-IsBoardIn words (Ask depth board side) = (board ≡ cells words) × (depth ≤ DEEPEST)
+IsBoardIn words (Ask depth board side) = (board ≡ cells words) × (depth ≤ greatest_depth)
 IsBoardIn words _ = Unit {0}
 
 -- the step that a call asks of the desk for its tenant, None where it only looks; these are the words of an Ask's board

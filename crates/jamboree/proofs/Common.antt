@@ -39,9 +39,9 @@ pub use Rattle.othello_board.specs.Words.{cells, cells_of}
 pub use Rattle.othello_board.specs.declared.cells.Cell.{Cell}
 pub use Rattle.othello_moves.proofs.AllowedLemmas.{choices_allowed, choices_fit}
 pub use Rattle.othello_moves.specs.Choices.{IsAllowed, after, choices, plies}
+pub use Rattle.othello_moves.specs.Depths.{greatest_depth}
 pub use Rattle.othello_moves.specs.declared.choices.Choice.{Choice}
 pub use Rattle.othello_moves.specs.declared.choices.Choice.TheVariants.{Pass, Square}
-pub use Rattle.othello_moves.specs.declared.choices.TheConstants.{DEEPEST}
 pub use Rattle.jamboree.specs.Codes.{decoded}
 pub use Rattle.jamboree.specs.InletPlans.{inlet_for}
 pub use Rattle.jamboree.specs.Knowledge.{bound_by, bounds_by, known_of}

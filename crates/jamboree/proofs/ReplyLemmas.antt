@@ -1,5 +1,5 @@
 -- What a job keeps of a returned root.
-use Rattle.jamboree.proofs.Common.{◌≡◌, ℕ, zero, suc, ◌<◌, ◌≤◌, ◌==◌, Bool, true, false, List, [], ◌∷◌, length, drop, Option, Some, None, find, All, IfSome, cond, if◌then◌else◌, refl, sym, ◌∙◌, ap, subst, arith, lt-ltb, length-map, length-drop, take_all, All-head, All-tail, Cell, Choice, Square, Pass, choices, IsAllowed, choices_allowed, minimax, best_choice, choice_value, int_equal, best_choice-leaf, best_choice-deeper, HasReturned, entered, IsTable, Frame, board, coded, entry_rest, frame_of, are_entries, is_formed, bounds_of, AreFitting, IsRoot, IsKeptRoot, IsFormed, formed-told, entered-few, root_value, root-whole, decoded, nat_le, map, slice_index, slice_index_or, slice_get, and_parts, length-take, Bound, status_of, is_rest, is_entry, bounds_in, KnownBound, known_of, bound_by, bounds_by, cells, rests_in, table_of, Reply, DEEPEST}
+use Rattle.jamboree.proofs.Common.{◌≡◌, ℕ, zero, suc, ◌<◌, ◌≤◌, ◌==◌, Bool, true, false, List, [], ◌∷◌, length, drop, Option, Some, None, find, All, IfSome, cond, if◌then◌else◌, refl, sym, ◌∙◌, ap, subst, arith, lt-ltb, length-map, length-drop, take_all, All-head, All-tail, Cell, Choice, Square, Pass, choices, IsAllowed, choices_allowed, minimax, best_choice, choice_value, int_equal, best_choice-leaf, best_choice-deeper, HasReturned, entered, IsTable, Frame, board, coded, entry_rest, frame_of, are_entries, is_formed, bounds_of, AreFitting, IsRoot, IsKeptRoot, IsFormed, formed-told, entered-few, root_value, root-whole, decoded, nat_le, map, slice_index, slice_index_or, slice_get, and_parts, length-take, Bound, status_of, is_rest, is_entry, bounds_in, KnownBound, known_of, bound_by, bounds_by, cells, rests_in, table_of, Reply, greatest_depth}
 use Rattle.std.specs.Prelude.{take}
 
 found-by : {A : Type 0} (P : A → Type 0) (passes : Bool) (c : A) (more : Option A) → P c → IfSome more P → IfSome (cond passes (Some c) more) P
@@ -30,7 +30,7 @@ best-allowed (suc depth) b =
 pub record AreKept (words : List ℕ) : Type 0 where
   pub formed : is_formed words ≡ true
   pub few : length words ≤ 76
-  pub shallow : (frame_of words).depth ≤ DEEPEST
+  pub shallow : (frame_of words).depth ≤ greatest_depth
   pub value : (frame_of words).best ≡ minimax (frame_of words).depth (board (frame_of words))
   pub choice : decoded (frame_of words).choice ≡ best_choice (frame_of words).depth (board (frame_of words))
   pub entries : are_entries (drop 12 words) ≡ true

@@ -1,10 +1,10 @@
 -- The numbers of the first words, where they have the form of a frame.
-use Rattle.jamboree.proofs.Common.{◌≡◌, ℕ, ◌+◌, ◌<◌, ◌≤◌, Bool, true, ℤ, pos, negsuc, ◌≤ℤ◌, ◌<ℤ◌, List, [], drop, length, slice_index, ◌==◌, ◌&&◌, bit_and, to_z, of_z, w32, sym, ap, ◌∙◌, subst, take, arith, ⊎_elim, get_or-take, ints, cases_lt, and_parts, eqb-true, eq-eqb, least, greatest, unscored, is_frame, score_of, frame_of, are_entries, is_formed, IsFrame, frame-told, Head, head_of, frame_from, DEEPEST}
+use Rattle.jamboree.proofs.Common.{◌≡◌, ℕ, ◌+◌, ◌<◌, ◌≤◌, Bool, true, ℤ, pos, negsuc, ◌≤ℤ◌, ◌<ℤ◌, List, [], drop, length, slice_index, ◌==◌, ◌&&◌, bit_and, to_z, of_z, w32, sym, ap, ◌∙◌, subst, take, arith, ⊎_elim, get_or-take, ints, cases_lt, and_parts, eqb-true, eq-eqb, least, greatest, unscored, is_frame, score_of, frame_of, are_entries, is_formed, IsFrame, frame-told, Head, head_of, frame_from, greatest_depth}
 
 -- the ranges of these words
 pub record AreRanged (h : Head) : Type 0 where
   pub disjoint : bit_and h.own h.opp ≡ 0
-  pub depth : h.depth ≤ DEEPEST
+  pub depth : h.depth ≤ greatest_depth
   pub alpha_low : 800000 ≤ h.alpha
   pub alpha_high : h.alpha ≤ 1200000
   pub beta_low : 800000 ≤ h.beta

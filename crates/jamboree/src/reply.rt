@@ -3,7 +3,7 @@ ghost use Rattle.std.specs.Prelude.{◌≡◌, ◌≤◌, length, take};
 ghost use Rattle.std.proofs.Props.{props};
 ghost use Rattle.othello_board.specs.Words.{cells};
 ghost use Rattle.othello_moves.specs.Choices.{choices};
-ghost use Rattle.othello_moves.specs.declared.choices.TheConstants.{DEEPEST};
+ghost use Rattle.othello_moves.specs.Depths.{greatest_depth};
 ghost use Rattle.jamboree_rules.specs.othello_eval.Minimax.{minimax, best_choice};
 ghost use Rattle.jamboree_rules.specs.othello_eval.Tables.{entered, IsTable};
 ghost use Rattle.jamboree_rules.proofs.EvalLemmas.TableProps.{table-prop};
@@ -28,7 +28,7 @@ pub struct Reply {
     pub(crate) count: usize,
     /// What is known of these, in their order. The places after them hold a filler.
     pub(crate) known: [KnownBound; MOST],
-    ghost shallow: { depth ≤ DEEPEST },
+    ghost shallow: { depth ≤ greatest_depth },
     ghost is_value: { value ≡ minimax depth (cells board) } by { Prim.hlevel props },
     ghost is_best: { choice ≡ best_choice depth (cells board) } by { Prim.hlevel props },
     ghost counted: { count ≡ length (entered depth (cells board)) },

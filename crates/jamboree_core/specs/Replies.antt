@@ -2,7 +2,7 @@
 use Rattle.std.specs.Prelude.{◌≡◌, ℕ, ◌≤◌, bit_and, List, [], ◌∷◌, map, slice_index}
 use Rattle.frame_table.specs.Frames.{Frame, children_of, values_of}
 use Rattle.othello_board.specs.Words.{cells_of}
-use Rattle.othello_moves.specs.declared.choices.TheConstants.{DEEPEST}
+use Rattle.othello_moves.specs.Depths.{greatest_depth}
 use Rattle.jamboree_rules.specs.othello_eval.Minimax.{minimax, best_choice}
 use Rattle.jamboree_rules.specs.othello_eval.Tables.{IsTable}
 use Rattle.sched_rules.specs.declared.job.Job.{Job}
@@ -23,7 +23,7 @@ pub record AreRootWords (words : List ℕ) : Type 0 where
   pub depth : ℕ
   pub are : words ≡ root_words own opp depth
   pub apart : bit_and own opp ≡ 0
-  pub shallow : depth ≤ DEEPEST
+  pub shallow : depth ≤ greatest_depth
 
 -- a step, if it submits a job, asks for a search
 abbrev pub IsSearch : {A : Type 0} → StepOf A → Type 0

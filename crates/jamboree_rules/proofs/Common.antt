@@ -37,10 +37,10 @@ pub use Rattle.othello_moves.proofs.AllowedLemmas.{choices_allowed, choices_fit,
 pub use Rattle.othello_moves.proofs.BitLemmas.{is_among-filter, is-square}
 pub use Rattle.othello_moves.proofs.LeadLemmas.{no-square}
 pub use Rattle.othello_moves.specs.Choices.{IsAllowed, after, choices, choices_without_move, legal_squares, plies}
+pub use Rattle.othello_moves.specs.Depths.{greatest_depth}
 unfoldable pub use Rattle.othello_moves.specs.Choices.{in_order}
 pub use Rattle.othello_moves.specs.declared.choices.Choice.{Choice}
 pub use Rattle.othello_moves.specs.declared.choices.Choice.TheVariants.{Pass, Square}
-pub use Rattle.othello_moves.specs.declared.choices.TheConstants.{DEEPEST}
 pub use Rattle.sched_rules.proofs.StoreLemmas.{length-stored}
 pub use Rattle.sched_rules.specs.Functions.{Functions}
 pub use Rattle.sched_rules.specs.Laws.{AcceptKeeps, ActFits, Computes, HasReturned, InletKeeps, Mark, Neither, NewChildFits, NextKeeps, ParentFits}

@@ -8,8 +8,8 @@ use Rattle.othello_board.specs.Rules.{squares, cell_at, is_own_cell, is_opp_cell
 use Rattle.othello_board.specs.Words.{cells_of, bits_of}
 use Rattle.othello_moves.specs.declared.choices.Choice.{Choice}
 use Rattle.othello_moves.specs.declared.choices.Choice.TheVariants.{Square, Pass}
-use Rattle.othello_moves.specs.declared.choices.TheConstants.{DEEPEST}
 use Rattle.othello_moves.specs.Choices.{choices}
+use Rattle.othello_moves.specs.Depths.{greatest_depth}
 use Rattle.leaf_search.specs.othello_eval.Minimax.{minimax, choice_value}
 
 -- the phase of a frame that was opened and has done nothing yet
@@ -153,7 +153,7 @@ opp_word b = bits_of (filter (λ s. is_opp_cell (cell_at b s)) squares)
 -- whether these numbers are in the ranges of a leaf: no square has two discs, the depth is at most 12, and
 -- -200,000 <= alpha < beta <= 200,000
 abbrev pub is_leaf : ℕ → ℕ → ℕ → ℤ → ℤ → Bool
-is_leaf own opp depth alpha beta = (bit_and own opp == 0) && (nat_le depth DEEPEST && (int_le least alpha && (int_lt alpha beta && int_le beta greatest)))
+is_leaf own opp depth alpha beta = (bit_and own opp == 0) && (nat_le depth greatest_depth && (int_le least alpha && (int_lt alpha beta && int_le beta greatest)))
 
 -- whether a score is in range: from -200,000 to 200,000
 abbrev pub is_score : ℤ → Bool

@@ -5,7 +5,7 @@ use Rattle.std.proofs.Common.{lit≤}
 use Rattle.std.proofs.lemmas.Bool.{and_parts, eqb-true, leb-true}
 use Rattle.std.proofs.lemmas.Float.{T_from_true}
 use Rattle.othello_moves.specs.declared.choices.Choice.{Choice}
-use Rattle.othello_moves.specs.declared.choices.TheConstants.{DEEPEST}
+use Rattle.othello_moves.specs.Depths.{greatest_depth}
 use Rattle.jamboree_rules.specs.declared.leaf.Leaf.{Leaf}
 use Rattle.jamboree_rules.specs.declared.leaf.LeafAnswer.{LeafAnswer}
 use Rattle.jamboree_rules.specs.Frames.{Frame, phase_done, least, greatest, is_leaf, coded}
@@ -14,7 +14,7 @@ use Rattle.jamboree_rules.specs.Places.{Change, Best, Chosen, Phase, pairs_of, f
 -- the two words of a board, a depth and a window are in the ranges of a leaf
 pub record IsLeaf (own opp depth : ℕ) (alpha beta : ℤ) : Type 0 where
   pub disjoint : bit_and own opp ≡ 0
-  pub shallow : depth ≤ DEEPEST
+  pub shallow : depth ≤ greatest_depth
   pub low : least ≤ℤ alpha
   pub window : alpha <ℤ beta
   pub high : beta ≤ℤ greatest
@@ -22,13 +22,13 @@ pub record IsLeaf (own opp depth : ℕ) (alpha beta : ℤ) : Type 0 where
 -- where the test `is_leaf` is true, the numbers are in the ranges of a leaf
 pub leaf-told : (own opp depth : ℕ) (alpha beta : ℤ) → is_leaf own opp depth alpha beta ≡ true → IsLeaf own opp depth alpha beta
 leaf-told own opp depth alpha beta h =
-    let a = and_parts (bit_and own opp == 0) (nat_le depth DEEPEST && (int_le least alpha && (int_lt alpha beta && int_le beta greatest))) h in
-    let b = and_parts (nat_le depth DEEPEST) (int_le least alpha && (int_lt alpha beta && int_le beta greatest)) a.1 in
+    let a = and_parts (bit_and own opp == 0) (nat_le depth greatest_depth && (int_le least alpha && (int_lt alpha beta && int_le beta greatest))) h in
+    let b = and_parts (nat_le depth greatest_depth) (int_le least alpha && (int_lt alpha beta && int_le beta greatest)) a.1 in
     let c = and_parts (int_le least alpha) (int_lt alpha beta && int_le beta greatest) b.1 in
     let d = and_parts (int_lt alpha beta) (int_le beta greatest) c.1 in
     record {
       disjoint = eqb-true (bit_and own opp) 0 a.0;
-      shallow = leb-true depth DEEPEST b.0;
+      shallow = leb-true depth greatest_depth b.0;
       low = record { le = T_from_true (int_le least alpha) c.0 };
       window = record { lt = T_from_true (int_lt alpha beta) d.0 };
       high = record { le = T_from_true (int_le beta greatest) d.1 };

@@ -1,7 +1,7 @@
 //! What holds of every Jamboree search: each contract is a law.
 ghost use Rattle.std.specs.Prelude.{◌≡◌, ◌≢◌, ℕ, ◌<◌, ◌≤◌, List, [], ◌∷◌, ◌++◌, true, false, bit_and, length, map};
 ghost use Rattle.sched_rules.specs.cactus_stack.Nodes.{padded};
-ghost use Rattle.othello_moves.specs.declared.choices.TheConstants.{DEEPEST};
+ghost use Rattle.othello_moves.specs.Depths.{greatest_depth};
 ghost use Rattle.leaf_search.specs.othello_eval.Minimax.{best_choice};
 ghost use Rattle.leaf_search.specs.othello_eval.Tables.{entered, IsTable};
 ghost use Rattle.sched_rules.specs.Trees.{is_outside, kept_words};
@@ -53,8 +53,8 @@ pub fn same_leaves_are_equal()
 /// board, the depth and the full window of the words that it was submitted with (`rooted`).
 #[tactic(auto, using(crate::proofs::Rooted::root_fits))]
 pub fn a_new_root_fits()
-    ensures fits { (own opp depth : ℕ) → bit_and own opp ≡ 0 → depth ≤ DEEPEST → AreFitting (padded (root_words own opp depth) frame_size) [] Neither }
-    ensures rooted { (own opp depth : ℕ) → bit_and own opp ≡ 0 → depth ≤ DEEPEST → IsRoot (root_words own opp depth) (padded (root_words own opp depth) frame_size) }
+    ensures fits { (own opp depth : ℕ) → bit_and own opp ≡ 0 → depth ≤ greatest_depth → AreFitting (padded (root_words own opp depth) frame_size) [] Neither }
+    ensures rooted { (own opp depth : ℕ) → bit_and own opp ≡ 0 → depth ≤ greatest_depth → IsRoot (root_words own opp depth) (padded (root_words own opp depth) frame_size) }
 {}
 
 /// A root that has returned holds the minimax value of its board to its depth, and the code of the best choice

@@ -3,7 +3,7 @@ ghost use Rattle.std.specs.Prelude.{◌≡◌, ◌≤◌, ◌<ℤ◌, ◌≤ℤ�
 ghost use Rattle.std.proofs.Props.{props};
 ghost use Rattle.othello_board.specs.Words.{cells};
 ghost use Rattle.othello_moves.specs.Choices.{choices};
-ghost use Rattle.othello_moves.specs.declared.choices.TheConstants.{DEEPEST};
+ghost use Rattle.othello_moves.specs.Depths.{greatest_depth};
 ghost use Rattle.leaf_search.specs.othello_eval.Minimax.{minimax, best_choice};
 ghost use Rattle.leaf_search.specs.Bounds.{IsBound};
 
@@ -23,7 +23,7 @@ pub struct Leaf {
     pub alpha: i32,
     /// The upper end of the window, at most 200,000.
     pub beta: i32,
-    ghost shallow: { depth ≤ DEEPEST },
+    ghost shallow: { depth ≤ greatest_depth },
     ghost least: { negsuc 199999 ≤ℤ alpha },
     ghost window: { alpha <ℤ beta },
     ghost greatest: { beta ≤ℤ pos 200000 },

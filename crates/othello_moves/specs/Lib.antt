@@ -1,4 +1,5 @@
 pub mod Choices
+pub mod Depths
 pub mod Sequence
 pub mod Rows
 pub mod Lanes

@@ -7,6 +7,8 @@ ghost use Rattle.othello_board.specs.Rules.{is_nil};
 ghost use Rattle.othello_moves.specs.declared.choices.Choice.{Choice};
 ghost use Rattle.othello_moves.specs.declared.choices.Choice.TheVariants.{Pass};
 ghost use Rattle.othello_moves.specs.Choices.{choices, legal_squares, after, IsAllowed};
+ghost use Rattle.othello_moves.specs.Depths.{greatest_depth};
+ghost use Rattle.othello_moves.specs.declared.choices.TheConstants.{DEEPEST};
 
 /// A choice that is a square lies on the board and is legal.
 #[tactic(auto, using(crate::proofs::AllowedLemmas::choices_allowed))]
@@ -31,4 +33,9 @@ pub fn choices_are_few()
 pub fn boards_keep_their_size()
     ensures board { (b : Board) → length (cells b) ≡ 64 }
     ensures after { (board : List Cell) (c : Choice) → length board ≡ 64 → length (after board c) ≡ 64 }
+{}
+
+/// The code's greatest depth is that of the definitions.
+pub fn deepest_is_the_greatest_depth()
+    ensures { DEEPEST ≡ greatest_depth }
 {}

@@ -22,7 +22,7 @@ pub use Rattle.othello_eval.specs.Minimax.{best_choice, minimax}
 pub use Rattle.othello_eval.specs.Tables.{IsExactIfBest, IsTable, IsTrueBound, entered}
 pub use Rattle.othello_eval.specs.declared.bound.Bound.{Bound}
 pub use Rattle.othello_eval.specs.othello_moves.declared.choices.Choice.{Choice}
-pub use Rattle.othello_eval.specs.othello_moves.declared.choices.TheConstants.{DEEPEST}
+pub use Rattle.othello_eval.specs.othello_moves.Depths.{greatest_depth}
 pub use Rattle.promises.specs.Replies.{IsAskedBy, IsEntryOfSubmit, IsValueOfSubmit, SearchStep}
 pub use Rattle.promises.specs.Tenants.{AreAdmissionsTaken, AreRefusedForThese, IsForBusyWorker, IsForOwnState, free_worker, own_steps, stands}
 pub use Rattle.sched_rules.proofs.Isolation.{headline, shared-after-taken, step-taken}

@@ -1,5 +1,5 @@
 -- What explains a tenant of a hall, and what its replies are to.
-use Rattle.promises.proofs.Common.{◌≡◌, ℕ, ◌≤◌, ℤ, ◌==◌, ◌-◌, true, false, List, [], ◌∷◌, map, Option, Some, None, refl, sym, ap, ◌∙◌, subst, arith, IfSome, if◌then◌else◌, get_or, slice_get, slice_index, slice_get-map, slice_get_within, get_or_from_slice_get, cells_of, Cell, Choice, Bound, minimax, best_choice, IsTable, IsTrueBound, IsExactIfBest, entered, Tenant, alone_from, tenant_in, jamboree, Reply, board_of, depth_of, origins_of, Done, AreRootWords, AreSearches, AreAllRootWords, origin_at, AnswersTo, searches-asked, journal_in, HallOf, Explains, IsExplained, SearchStep, IsAskedBy, IsValueOfSubmit, IsEntryOfSubmit, DEEPEST}
+use Rattle.promises.proofs.Common.{◌≡◌, ℕ, ◌≤◌, ℤ, ◌==◌, ◌-◌, true, false, List, [], ◌∷◌, map, Option, Some, None, refl, sym, ap, ◌∙◌, subst, arith, IfSome, if◌then◌else◌, get_or, slice_get, slice_index, slice_get-map, slice_get_within, get_or_from_slice_get, cells_of, Cell, Choice, Bound, minimax, best_choice, IsTable, IsTrueBound, IsExactIfBest, entered, Tenant, alone_from, tenant_in, jamboree, Reply, board_of, depth_of, origins_of, Done, AreRootWords, AreSearches, AreAllRootWords, origin_at, AnswersTo, searches-asked, journal_in, HallOf, Explains, IsExplained, SearchStep, IsAskedBy, IsValueOfSubmit, IsEntryOfSubmit, greatest_depth}
 
 -- a reply is one to what was submitted under this number in the journal
 abbrev pub Answered : List SearchStep → ℕ → Reply → Type 0
@@ -51,7 +51,7 @@ module _ (journal : List SearchStep) (job : ℕ) (reply : Reply) (searches : Are
           let root = root-at (origins_of journal) job origin (searches-asked journal searches) at in
           let places = root-places origin (board_of reply).own (board_of reply).opp (depth_of reply) root to.own to.opp to.depth in
           record {
-            shallow = (let P : ℕ → Type 0 = λ d. d ≤ DEEPEST in subst P places.2 root.shallow);
+            shallow = (let P : ℕ → Type 0 = λ d. d ≤ greatest_depth in subst P places.2 root.shallow);
             words = at ∙ ap (λ (ws : List ℕ). Some ws) (root.are ∙ rw (places.0, places.1, places.2) refl);
           }
 

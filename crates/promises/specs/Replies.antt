@@ -2,7 +2,7 @@
 use Rattle.std.specs.Prelude.{◌≡◌, ℕ, ◌≤◌, ℤ, List, Option, Some, slice_get}
 use Rattle.othello_board.specs.Words.{cells_of}
 use Rattle.othello_eval.specs.othello_moves.declared.choices.Choice.{Choice}
-use Rattle.othello_eval.specs.othello_moves.declared.choices.TheConstants.{DEEPEST}
+use Rattle.othello_eval.specs.othello_moves.Depths.{greatest_depth}
 use Rattle.othello_eval.specs.declared.bound.Bound.{Bound}
 use Rattle.othello_eval.specs.Minimax.{minimax, best_choice}
 use Rattle.othello_eval.specs.Tables.{entered, IsTrueBound, IsExactIfBest}
@@ -19,7 +19,7 @@ SearchStep = StepOf LeafAnswer
 -- among a tenant's steps, the Submit of this number, from 1 on, asked for the search of a board (its two words)
 -- to a depth of at most 12
 pub record IsAskedBy (steps : List SearchStep) (job own opp depth : ℕ) : Type 0 where
-  pub shallow : depth ≤ DEEPEST
+  pub shallow : depth ≤ greatest_depth
   pub words : origin_at (origins_of steps) job ≡ Some (root_words own opp depth)
 
 -- a value and a choice are the minimax value and the best choice of what the Submit of this number asked for

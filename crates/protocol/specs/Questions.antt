@@ -2,7 +2,7 @@
 -- the length of the position's text, 25 for a cell and 26 for the side.
 use Rattle.std.specs.Prelude.{ℕ, ◌==◌, if◌then◌else◌, nat_le, List, map, length, Option, Some, None, Result, Ok, Err}
 use Rattle.othello_board.specs.declared.cells.Cell.{Cell}
-use Rattle.othello_moves.specs.declared.choices.TheConstants.{DEEPEST}
+use Rattle.othello_moves.specs.Depths.{greatest_depth}
 use Rattle.position_text.specs.declared.positions.Side.{Side}
 use Rattle.position_text.specs.declared.marks.Mark.{Mark}
 use Rattle.position_text.specs.Readings.{marks_of, mover_of, seen_by}
@@ -37,7 +37,7 @@ position_question depth text =
 -- 12
 abbrev pub depth_question : Option ℕ → List ℕ → Result QuestionOf ProtocolFault
 depth_question None text = Err NoNumber
-depth_question (Some depth) text = if nat_le depth DEEPEST then position_question depth text else Err TooDeep
+depth_question (Some depth) text = if nat_le depth greatest_depth then position_question depth text else Err TooDeep
 
 -- what a depth's word and a position's text ask for, or their first fault
 abbrev pub question : List ℕ → List ℕ → Result QuestionOf ProtocolFault

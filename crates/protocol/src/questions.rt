@@ -1,6 +1,6 @@
 //! What is asked of a position.
 ghost use Rattle.std.specs.Prelude.{◌≤◌};
-ghost use Rattle.othello_moves.specs.declared.choices.TheConstants.{DEEPEST};
+ghost use Rattle.othello_moves.specs.Depths.{greatest_depth};
 
 use position_text::Position;
 
@@ -11,5 +11,5 @@ pub struct Question {
     pub depth: u8,
     /// The position.
     pub position: Position,
-    ghost shallow: { depth ≤ DEEPEST },
+    ghost shallow: { depth ≤ greatest_depth },
 }

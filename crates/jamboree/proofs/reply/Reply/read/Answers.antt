@@ -1,4 +1,4 @@
-use Rattle.jamboree.proofs.Common.{take, sym, ◌∙◌, ap, subst, arith, length-drop, choices, minimax, best_choice, entered, IsTable, Frame, board, frame_of, are_entries, bounds_of, decoded, bounds_by, DEEPEST}
+use Rattle.jamboree.proofs.Common.{take, sym, ◌∙◌, ap, subst, arith, length-drop, choices, minimax, best_choice, entered, IsTable, Frame, board, frame_of, are_entries, bounds_of, decoded, bounds_by, greatest_depth}
 use Rattle.std.proofs.Common.{◌≡◌, ◌≤◌, ℕ, List, length}
 use Rattle.jamboree.proofs.ActLemmas.{best-wide}
 use Rattle.jamboree.proofs.ReplyLemmas.{kept-root, table-read}
@@ -27,7 +27,7 @@ invariant_of-result c =
     let entries = c.kept_entries-entries.result.now in
     let len = ap (λ (es : List ℕ). length es) c.kept_entries-entries.ensures in
     record {
-      shallow = subst (λ (f : Frame). f.depth ≤ DEEPEST) e k.shallow;
+      shallow = subst (λ (f : Frame). f.depth ≤ greatest_depth) e k.shallow;
       is_value = best-wide c.kept_view-root.result ∙ subst (λ (f : Frame). f.best ≡ minimax f.depth (board f)) e k.value;
       is_best = c.decoded.ensures ∙ subst (λ (f : Frame). decoded f.choice ≡ best_choice f.depth (board f)) e k.choice;
       counted = subst (λ (f : Frame). length entries ≡ length (entered f.depth (board f))) e (len ∙ k.counted);
