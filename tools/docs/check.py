@@ -22,6 +22,8 @@ import sys
 HERE = pathlib.Path(__file__).resolve().parent
 TOP = HERE.parent.parent
 sys.path.insert(0, str(HERE))
+import promises
+import sums
 WORD = re.compile(r"[A-Za-z_][A-Za-z0-9_]*")
 FIGURE = re.compile(r"<!--n:([\w:.-]+)-->(.*?)<!---->")
 LIST = re.compile(r"(<!--made:([\w:,-]+)-->\n).*?(<!--/made-->)", re.S)
@@ -40,7 +42,6 @@ VERSIONED = {  # where the version stands beside VERSION itself; in documents it
     "CITATION.cff": r"^version: (.*)$",
     "crates/site_office/specs/Turns.antt": r'codes " (\d+\.\d+\.\d+)"',
 }
-MADE = [["tools/docs/promises.py"]]
 # Names of the toolchain, its library, the system and other tools, which the tree need not say.
 FOREIGN = set("""A B N T P Q S D K k n s t d r w x y z f g j rt sh check try lib gate test doc fmt lemma tidy must plant fail core
     callgrind valgrind perf compare_exchange venv site packages strace nice syscall nc logic rattle13b rattle13f
@@ -86,9 +87,7 @@ def lines_of(files, *patterns):
 
 def figures(files):
     """The figures that documents state, by name."""
-    from promises import Pages
-    pages = Pages()
-    pages.make()
+    pages = promises.made()
     crates = [line for line in (TOP / "crates.txt").read_text().splitlines() if line and not line.startswith("#")]
     lower = {line.split(":")[0].split()[0]: line.split(":")[1].split() for line in crates}
 
@@ -213,9 +212,9 @@ def excerpt(page, names):
 
 
 def contract(crate, call):
-    """The contract of a call, as promises.py prints it."""
-    told = subprocess.run([HERE / "promises.py", "contracts", crate], check=True, capture_output=True, text=True).stdout
-    return chosen(re.search(rf"^`{call}` .*?```rust\n(.*?)```", told, re.M | re.S)[1], "")
+    """The contract of a public call."""
+    part = next(part for part in sums.parts_of(TOP, crate) if part.is_public and part.calls == call)
+    return chosen("\n".join([*part.lines, ""]), "")
 
 
 def chosen(text, names):
@@ -341,6 +340,20 @@ def lemma_faults(files):
                     yield f"{name}: {word.replace('_', '-')}, as lemmas are spelled, for {word}"
 
 
+def proved_faults():
+    """The names in PROVED's column of contracts that are neither a crate nor, of the crate named last, a public call with a promise or
+    a clause of one; nor a definition."""
+    pages, crate = promises.made(), None
+    defined = {name for _, _, name in pages.specs.definitions}
+    for row in re.findall(r"^\|.* \| (.*) \|$", (TOP / "docs/PROVED.md").read_text(), re.M):
+        for name in re.findall(r"`([^`]+)`", row):
+            crate = name if name in pages.specs.crates else crate
+            calls = [call for (home, _), call in pages.code.calls.items() if home == crate and call.promised]
+            known = {word for call in calls for word in (call.title, call.owner, call.name, *(clause[1] for clause in call.promised))}
+            if name != crate and name not in known | defined:
+                yield f"docs/PROVED.md: {name} is no public contract of {crate}"
+
+
 def documents():
     found = [TOP / "README.md", TOP / "CONTRIBUTING.md", TOP / "CHANGELOG.md", TOP / "SECURITY.md", TOP / "clients/README.md", *sorted((TOP / "docs").glob("*.md")), *BY_HAND]
     return [path for path in found if path.exists()]
@@ -364,8 +377,7 @@ def count_words():
 
 
 def write(counted):
-    for script in MADE:  # first, as documents quote what they make
-        subprocess.run([TOP / script[0], *script[1:]], check=True)
+    promises.write(promises.made())  # first, as documents quote them
     for document in documents():
         text = document.read_text()
         new = with_lists(FIGURE.sub(lambda match: f"<!--n:{match[1]}-->{counted.get(match[1], match[2])}<!---->", text))
@@ -397,11 +409,10 @@ def main():
     if not words:
         others = [TOP / name for name in files if name.endswith(".md") and not name.startswith("docs/") and TOP / name not in documents()]
         linked = [f"{other.relative_to(TOP)}: {fault}" for other in others for fault in link_faults(other, other.read_text())]
-        for fault in sorted({*head_faults(files, names), *name_faults(files), *lemma_faults(files), *linked, *version_faults(), *count_words()[2]}):
+        for fault in sorted({*head_faults(files, names), *name_faults(files), *lemma_faults(files), *proved_faults(), *linked, *version_faults(), *count_words()[2]}):
             print(fault)
             bad += 1
-        for script in MADE:
-            bad += subprocess.run([TOP / script[0], *script[1:], "check"], check=False).returncode != 0
+        bad += promises.told(promises.made())
     print(f"documents: {bad} faults")
     sys.exit(1 if bad else 0)
 

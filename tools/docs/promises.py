@@ -6,18 +6,24 @@ usage: tools/docs/promises.py                     writes the pages
        tools/docs/promises.py check               prints what differs from the committed pages; status 1 where anything does
        tools/docs/promises.py count               prints each page's call with its numbers of definitions and lines
        tools/docs/promises.py whole PAGE          prints a page with all its definitions in place, for one who reads it from end to end
-       tools/docs/promises.py contracts CRATE..   prints every public contract of these crates
+       tools/docs/promises.py contracts CRATE..   prints all that these crates say to others: contracts, types, definitions
+       tools/docs/promises.py since REVISION      prints each clause, type, invariant, ghost member, constant and definition that differs
+                                                  from a revision's, the words old and new, and what names were and are imported as
 
 Names are resolved: each file's definitions and each call are shown with what their names are imported as, from where; so two that
 are exchanged in an import are a difference. `pages.txt` beside this script names the promises, `words.txt` the meaning of each word
 of the toolchain's library. HOW-TO-READ.md and WHAT-IS-ASSUMED.md in docs/promises are written by hand; all else there is made.
 """
 import difflib
-import hashlib
+import functools
+import itertools
 import pathlib
 import re
+import subprocess
 import sys
+import tempfile
 
+import sums
 from calls import Calls
 from statements import NAME, TESTING, TOP, Code, Specs
 from uses import uses_by_clause
@@ -43,11 +49,6 @@ def rows(name, fields):
                 fail(f"{name}: {line}")
             found.append(row)
     return found
-
-
-def crates_in_order():
-    """The crates of crates.txt, lowest first."""
-    return [line.split(":")[0].split()[0] for line in (TOP / "crates.txt").read_text().splitlines() if line and not line.startswith("#")]
 
 
 def fenced(kind, lines):
@@ -94,6 +95,7 @@ class Pages:
         self.promises = rows("pages.txt", 3)
         self.pages = {}
         self.counts = []
+        self.unclear = []  # names that can't be followed, or have no meaning in words.txt
         self.uses = uses_by_clause()
 
     def call(self, name):
@@ -130,11 +132,16 @@ class Pages:
             elif shown.kind == "trait" and any(re.search(rf"\.{name}\b", text) for name in re.findall(r"ghost (\w+)[:=\s]", "\n".join(shown.lines))):
                 yield key
 
+    @staticmethod
+    def fields_that_say(shown):
+        """The ghost fields of a type: what holds of each of its values. How that is proved is left out."""
+        return [re.sub(r" by \{.*\}", "", line) for line in shown.lines if line.strip().startswith("ghost")]
+
     def values_of(self, keys):
-        """What the values that contracts see of these types, and the contracts of these traits, name."""
+        """What the values that contracts see of these types, what holds of them, and the contracts of these traits, name."""
         for key in keys:
             shown = self.code.types[key]
-            text = "\n".join(shown.model[:1]) if shown.model else "\n".join(shown.lines) if shown.kind == "trait" else ""
+            text = "\n".join(shown.model[:1]) if shown.model else "\n".join(shown.lines) if shown.kind == "trait" else "\n".join(self.fields_that_say(shown))
             for name in dict.fromkeys(NAME.findall(text)):
                 if meaning := self.specs.resolve(name, shown.imports):
                     yield meaning
@@ -143,8 +150,7 @@ class Pages:
         """What a call's clauses lead to: definitions, lowest first; types; words of the toolchain's library. The last part of the
         definitions is what the values of its types are."""
         order, types, words, unknown = self.specs.closure(self.code.meanings(call))
-        if unknown := [name for name in unknown if "contracts" not in name[0]]:
-            fail(f"{call.title}: can't follow {unknown}")
+        self.unclear += [f"{call.title}: can't follow {name[1]} of {name[0]}" for name in unknown if "contracts" not in name[0]]
         seen = list(self.seen_of(call))
         named = list(self.values_of(seen))
         more, more_types, more_words, _ = self.specs.closure(meaning for meaning in named if meaning[0] == "spec")
@@ -152,6 +158,19 @@ class Pages:
         words += more_words + [meaning[1:] for meaning in named if meaning[0] == "std"]
         types = self.types_of(dict.fromkeys(types))
         return [*order, *(key for key in more if key not in order)], list(dict.fromkeys([*seen, *types])), list(dict.fromkeys(words))
+
+    def with_fields(self, keys, types, words):
+        """These definitions, types and words with what the ghost fields of the types name."""
+        types, done = [*types], set()
+        while new := [key for key in types if key not in done and not self.code.types[key].model]:
+            done.update(new)
+            named = list(self.values_of(new))
+            more, more_types, more_words, _ = self.specs.closure(meaning for meaning in named if meaning[0] == "spec")
+            keys = [*keys, *(key for key in more if key not in keys)]
+            found = self.types_of(dict.fromkeys([*more_types, *(meaning[1:] for meaning in named if meaning[0] == "type")]))
+            types += [key for key in found if key not in types]
+            words = [*dict.fromkeys([*words, *more_words, *(meaning[1:] for meaning in named if meaning[0] == "std")])]
+        return keys, types, words
 
     # ---- how it is shown
 
@@ -172,8 +191,8 @@ class Pages:
     def type_lines(self, key):
         """A type as code: one with a model by what contracts see of it, a trait by its members without bodies."""
         shown = self.code.types[key]
-        if shown.kind == "struct" and not shown.model:  # its invariant is no part of what a statement says
-            return on_one_line([line for line in shown.lines if not line.strip().startswith(("ghost", "///", "//"))])
+        if shown.kind == "struct" and not shown.model:
+            return on_one_line([re.sub(r" by \{.*\}", "", line) for line in shown.lines if not line.strip().startswith(("///", "//"))])
         if shown.kind == "enum" and not shown.model:
             return on_one_line(with_notes_behind(shown.lines))
         if shown.model:
@@ -205,7 +224,7 @@ class Pages:
     def definitions_text(self, keys, types, level="##"):
         """All these definitions and types, crate by crate, lowest first."""
         out, place = [], {key: at for at, key in enumerate(self.specs.definitions)}
-        for crate in crates_in_order():
+        for crate in sums.crates_of(TOP):
             files = {}
             for key in sorted((key for key in keys if key[0] == crate), key=place.get):
                 files.setdefault(key[1], []).append(key)
@@ -241,10 +260,9 @@ class Pages:
         found = {}
         for path, name in words:
             found.setdefault(name, set()).add(path.removeprefix("Rattle."))
-        if missing := [name for name in found if name not in self.words]:
-            fail(f"words.txt has no line for {', '.join(sorted(missing))}")
+        self.unclear += [f"words.txt has no line for {name}" for name in sorted(found) if name not in self.words]
         for name in sorted(found, key=lambda name: (not name[0].isalpha(), name.lower())):
-            yield f"- `{name.replace('◌', '_')}` ({', '.join(sorted(found[name]))}): {self.words[name]}"
+            yield f"- `{name.replace('◌', '_')}` ({', '.join(sorted(found[name]))}): {self.words.get(name)}"
 
     def page(self, page, name, sentence):
         call = self.call(name)
@@ -258,12 +276,12 @@ class Pages:
         out = [MADE, f"# {page.replace('-', ' ').capitalize()}", "", sentence, "", GUIDES, "",
                f"## The call `{call.title}`, in `{call.path}`", "", *([" ".join(call.comment), ""] if call.comment else []),
                *fenced("rust", self.clause_lines(call)), *([f"Names: {imported_names}.", ""] if imported_names else [])]
-        cited = [f"`{clause}` by {', '.join(f'`{use}`' for use in self.uses[name, clause])}" for _, clause, _, _ in call.promised if (name, clause) in self.uses]
+        cited = [(f"`{clause}` by " if clause else "") + f"{', '.join(f'`{use}`' for use in self.uses[name, clause])}" for _, clause, _, _ in call.promised if (name, clause) in self.uses]
         if cited:
             out += [f"Proofs from this contract alone, at particular values (`crates/promise_uses`): {'; '.join(cited)}.", ""]
         if order:
             out += ["## What it rests on", "", f"{len(order)} definitions, {lines} lines in {len(files)} files; `tools/docs/promises.py whole {page}` prints them all in place.", ""]
-            for crate in crates_in_order():
+            for crate in sums.crates_of(TOP):
                 here = [(file, names) for (home, file), names in files.items() if home == crate]
                 if here:
                     out.append(f"- [{crate}](definitions.md#{crate}): " + "; ".join(f"{file}: {', '.join(f'`{name}`' for name in names)}" for file, names in sorted(here)))
@@ -290,6 +308,7 @@ class Pages:
         for page, name, sentence in self.promises:
             for found, more in zip((keys, types, words), self.page(page, name, sentence)):
                 found += [it for it in more if it not in found]
+        keys, types, words = self.with_fields(keys, types, words)
         named = {name for _, name, _ in self.promises}
         for key, call in self.code.calls.items():
             if key[0] == "promises" and call.promised and "::".join(key) not in named:
@@ -301,16 +320,15 @@ class Pages:
         return self.pages
 
     def all_contracts(self):
-        """A line a crate: its public calls with the names of their clauses, and a sum over all that these say."""
+        """A line a crate: sums over all that it says, and its public calls with the names of their clauses."""
         out = [MADE, "# The contracts of all crates", "",
-               "Each crate's public calls, with the names of their clauses in brackets, and first a sum over the text of these clauses, of what contracts see of the crate's types, and of its definitions that they name. `tools/docs/promises.py contracts CRATE` prints that text. So a clause that changes below the promises changes a line here.", ""]
-        for crate in crates_in_order():
-            if crate in TESTING or crate not in self.code.exports:
-                continue
+               "Each crate with two sums. The first is over what it says to others: the clauses of its public calls, its types with their fields and invariants, ghost members, constants, and all its definitions, each with what its names are imported as. The second is over the same of what only the crate itself uses. Behind them stand its public calls, with the names of their clauses in brackets; of crates of tests the sums alone. `tools/docs/promises.py contracts CRATE` prints the text of the first, and `tools/docs/promises.py since REVISION` what became of both, in words. So whatever changes below the promises changes a line here, and can be read.", ""]
+        for crate in sums.crates_of(TOP):
+            parts = sums.parts_of(TOP, crate)
             calls = [call for (home, _), call in sorted(self.code.calls.items()) if home == crate and call.clauses]
             shown = [f"`{call.title}`" + (f" ({', '.join(names)})" if (names := [part[1] for part in call.promised if part[1]]) else "") for call in calls]
-            digest = hashlib.sha256(self.contracts(crate).encode()).hexdigest()[:16]
-            out.append(f"- **{crate}** {digest}: {', '.join(shown) or 'no clause of its own'}")
+            told = "" if crate in TESTING else f": {', '.join(shown) or 'no clause of its own'}"
+            out.append(f"- **{crate}** {sums.sum_of(parts, True)} {sums.sum_of(parts, False)}{told}")
         self.pages["contracts.md"] = "\n".join([*out, ""])
 
     # ---- what is printed, and not kept
@@ -319,38 +337,49 @@ class Pages:
         row = next((row for row in self.promises if row[0] == page), None)
         if row is None:
             fail(f"no page {page}; there are {', '.join(row[0] for row in self.promises)}")
-        order, types, words = self.page(*row)
+        order, types, words = self.with_fields(*self.page(*row))
         text = self.pages[f"{page}.md"].split("\n## What it rests on")[0]
         return "\n".join([text, "", "## The definitions, lowest first", "", *self.definitions_text(order, types, "###"), "## Words of the toolchain's library", "", *self.word_lines(words)])
 
-    def contracts(self, crate):
-        """Every public contract of a crate, and the definitions of its own that these name."""
-        if crate not in self.code.exports:
-            fail(f"no crate {crate}")
-        out = [f"# The contracts of `{crate}`", ""]
-        types = [key for key in sorted(self.code.types) if key[0] == crate and (self.code.types[key].kind in ("trait", "enum", "struct") or self.code.types[key].model)]
-        if types:
-            out += self.type_blocks(crate, types)
-        met = [lines for key in sorted(self.code.types) if key[0] == crate for lines in self.code.types[key].met]
-        if met:
-            out += ["What types declare for the traits that they meet:", "", *fenced("rust", [line for lines in met for line in lines])]
-        roots = []
-        for (home, _), call in sorted(self.code.calls.items()):
-            if home == crate and call.clauses:
-                names = names_line(call.imports, "\n".join(part[2] for part in call.clauses))
-                out += [f"`{call.title}`" + (f" (names: {names})" if names else "") + ":", "", *fenced("rust", self.clause_lines(call))]
-                roots += self.code.meanings(call)
-        order, _, _, _ = self.specs.closure(roots)
-        own = [key for key in order if key[0] == crate]
-        return "\n".join([*out, *self.definitions_text(own, [])])
-
     def faults(self):
-        """The clauses on pages that no use cites, and the clauses that uses cite and that aren't there."""
+        """What is unclear, the clauses on pages that no use cites, and the clauses that uses cite and that aren't there."""
+        yield from dict.fromkeys(self.unclear)
         there = {(name, clause) for _, name, _ in self.promises for _, clause, _, _ in self.call(name).promised}
         for name, clause in sorted({*self.uses} - there):
             yield f"promise_uses cites {name}#{clause}, which no page has"
         for name, clause in sorted(there - {*self.uses}):
             yield f"no use in promise_uses cites {name}#{clause}"
+
+
+def contracts(crate):
+    """What a crate says to others: the code file by file, then the definitions."""
+    out = [f"# The contracts of `{crate}`", ""]
+    parts = [part for part in sums.parts_of(TOP, crate) if part.is_public]
+    if not parts:
+        fail(f"{crate} says nothing to others")
+    for path, group in itertools.groupby(sorted(parts, key=lambda part: part.path.endswith(".antt")), lambda part: part.path):
+        group = [*group]
+        names = sums.places_line(sorted({name for part in group for name in part.names if ": Rattle.std." not in name}))
+        lines = [line for part in group for line in [*part.comment, *part.lines, ""]]
+        out += [f"`{path}`" + (f" (names: {names})" if names else ""), "", *fenced("text" if path.endswith(".antt") else "rust", lines[:-1])]
+    return "\n".join(out)
+
+
+@functools.cache
+def tree_of(revision):
+    """A folder with the crates as they were at a revision."""
+    old = tempfile.TemporaryDirectory()
+    told = subprocess.run(["git", "-C", TOP, "archive", revision, "crates", "crates.txt"], capture_output=True, check=False)
+    if told.returncode != 0:
+        fail(f"git has no tree {revision}: {told.stderr.decode().strip()}")
+    subprocess.run(["tar", "-x", "-C", old.name], input=told.stdout, check=True)
+    return old
+
+
+def since(revision):
+    """What the tree says otherwise than a revision did."""
+    lines, count = sums.since(pathlib.Path(tree_of(revision).name), TOP)
+    print(*lines, f"{count} parts differ from {revision}'s", sep="\n")
 
 
 def differing(pages):
@@ -362,38 +391,54 @@ def differing(pages):
             yield "".join(difflib.unified_diff(old.splitlines(True), new.splitlines(True), f"docs/promises/{name} (committed)", f"docs/promises/{name} (by the tree)", n=2))
 
 
-def main():
-    words = sys.argv[1:]
-    made = Pages()
-    if words[:1] == ["whole"] and len(words) == 2:
-        print(made.whole(words[1]))
-        return
-    if words[:1] == ["contracts"] and words[1:]:
-        print("\n".join(map(made.contracts, words[1:])))
-        return
-    pages = made.make()
-    if words == ["check"]:
-        found = list(differing(pages))
-        for diff in found:
-            print(diff)
-        if found:
-            print(f"docs/promises: {len(found)} texts aren't what the tree says. If the change is meant, run tools/docs/promises.py and commit them.")
-        wrong = list(made.faults())
-        print(*wrong, sep="\n", end="\n" if wrong else "")
-        sys.exit(1 if found or wrong else 0)
-    if words == ["count"]:
-        for page, call, _, definitions, lines, files in made.counts:
-            print(f"{definitions:5} definitions {lines:5} lines {files:3} files  {call}  ({page})")
-        return
-    if words:
-        sys.exit(__doc__)
+@functools.cache
+def made():
+    """The pages of the tree, made once."""
+    pages = Pages()
+    pages.make()
+    return pages
+
+
+def told(pages):
+    """Prints what differs from the committed pages, and the clauses that no use cites. Whether there is anything."""
+    found, wrong = list(differing(pages.pages)), list(pages.faults())
+    print(*found, sep="\n", end="\n" if found else "")
+    if found:
+        print(f"docs/promises: {len(found)} texts aren't what the tree says. `tools/docs/promises.py since HEAD` prints what changed, in words. If that is meant, run tools/docs/promises.py and commit them.")
+    print(*wrong, sep="\n", end="\n" if wrong else "")
+    return bool(found or wrong)
+
+
+def write(pages):
+    """Writes the pages, unless something in them is unclear."""
+    if pages.unclear:
+        fail("; ".join(dict.fromkeys(pages.unclear)))
     for path in OUT.rglob("*.md") if OUT.exists() else []:
-        if path.name not in BY_HAND and str(path.relative_to(OUT)) not in pages:
+        if path.name not in BY_HAND and str(path.relative_to(OUT)) not in pages.pages:
             path.unlink()
-    for name, text in pages.items():
+    for name, text in pages.pages.items():
         path = OUT / name
         path.parent.mkdir(parents=True, exist_ok=True)
         path.write_text(text)
+
+
+def main():
+    words = sys.argv[1:]
+    if words[:1] == ["contracts"] and words[1:]:
+        print("\n".join(map(contracts, words[1:])))
+    elif words[:1] == ["since"] and len(words) == 2:
+        since(words[1])
+    elif words[:1] == ["whole"] and len(words) == 2:
+        print(Pages().whole(words[1]))
+    elif words == ["check"]:
+        sys.exit(1 if told(made()) else 0)
+    elif words == ["count"]:
+        for page, call, _, definitions, lines, files in made().counts:
+            print(f"{definitions:5} definitions {lines:5} lines {files:3} files  {call}  ({page})")
+    elif words:
+        sys.exit(__doc__)
+    else:
+        write(made())
 
 
 if __name__ == "__main__":

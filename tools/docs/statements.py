@@ -4,6 +4,7 @@ contract's names lead to. `promises.py` writes pages of them.
 It reads names by the `use` lines of their file, so it needs no prover; what it can't follow it says.
 """
 import dataclasses
+import functools
 import pathlib
 import re
 
@@ -15,6 +16,8 @@ TESTING = {"serial_tests", "thread_tests", "server_tests", "promise_uses", "toys
 DEFINES = re.compile(r"(?:(?:abbrev|unfoldable) pub|pub (?:record|data)) ([^\s:({]+)")
 IMPORT = re.compile(r"(?:pub |ghost )?use ([\w.\-]+)\.\{(.*)\};?$")
 PUBLIC = re.compile(r'pub (?:const |unsafe |extern [" C]*)*fn (\w+)')  # what stands between quotes is blank
+TOLD = re.compile(r'(b?"(?:\\.|[^"\\])*"|b?\'(?:\\.|[^\'\\])\')|//[^\n]*|/\*.*?\*/', re.S)  # what isn't in the group is a comment
+BRACE = re.compile(r"[{}]")
 CLAUSE_HEAD = re.compile(r"\b(requires|ensures)(\*?)(?:\s+(\w+))?\s*$")
 
 
@@ -47,8 +50,6 @@ class Type:
     lines: list
     imports: dict
     model: list = dataclasses.field(default_factory=list)
-    met: list = dataclasses.field(default_factory=list)  # traits that it meets, each with its ghost members there
-    invariant: list = dataclasses.field(default_factory=list)
 
 
 @dataclasses.dataclass
@@ -77,7 +78,9 @@ def imported(lines):
     found = {}
     for line in lines:
         match = IMPORT.match(line.strip())
-        if match and match[1].startswith("Rattle."):
+        if not match and (line.strip().startswith("ghost use ") or line.startswith("use ") and not re.search("::|;$", line)):
+            raise SystemExit(f"tools/docs/statements.py: names by an import of another form can't be followed: {line.strip()}")
+        if match:
             for part in match[2].split(","):
                 there, _, here = part.strip().partition(" as ")
                 found[(here or there).strip()] = (match[1].split("."), there.strip())
@@ -101,6 +104,7 @@ class Specs:
         self.definitions = {}
         self.parts = {}  # a constructor's name, by crate and file: its definition
         self.imports = {}
+        self.meant = {}  # what each definition's own names mean
         self.crates = {path.name for path in CRATES.iterdir() if path.is_dir()}
         for path in sorted(CRATES.glob("*/specs/*.antt")):
             self.read(path)
@@ -149,6 +153,11 @@ class Specs:
 
     def names_of(self, key):
         """What a definition's own names mean, in order."""
+        if key not in self.meant:
+            self.meant[key] = [*self.read_names(key)]
+        return self.meant[key]
+
+    def read_names(self, key):
         definition = self.definitions[key]
         text = "\n".join(re.sub(r"--.*", "", line) for line in definition.lines)
         imports = self.imports[definition.crate, definition.file]
@@ -192,23 +201,21 @@ def signs(text, imports):
             yield ("std", ".".join(path), there)
 
 
+@functools.cache
 def blanked(text):
     """The text with comments, strings and characters blanked, of the same length."""
     def blank(match):
         return re.sub(r"[^\n]", " ", match[0])
-    return re.sub(r'//[^\n]*|/\*.*?\*/|b?"(?:\\.|[^"\\])*"|b?\'(?:\\.|[^\'\\])\'', blank, text, flags=re.S)
+    return TOLD.sub(blank, text)
 
 
 def matching(text, start):
     """The place behind the brace that closes the one at `start`."""
     depth = 0
-    for at in range(start, len(text)):
-        if text[at] == "{":
-            depth += 1
-        elif text[at] == "}":
-            depth -= 1
-            if depth == 0:
-                return at + 1
+    for match in BRACE.finditer(text, start):
+        depth += 1 if match[0] == "{" else -1
+        if depth == 0:
+            return match.end()
     return len(text)
 
 
@@ -259,8 +266,6 @@ class Code:
                 self.read_trait(crate, shown, head, text, start, end, inner)
             elif " Model for " in head:
                 self.read_model(crate, head, text[start:end], inner)
-            elif " for " in head:
-                self.read_met(crate, head, text[start:end], inner)
         for match in re.finditer(r"^pub (struct|enum|type|const) (\w+)", clear, re.M):
             self.read_type(crate, shown, match, text, clear, outer)
         for match in PUBLIC.finditer(clear):
@@ -328,19 +333,6 @@ class Code:
             part = re.sub(r";\s*\}*\s*$", ";", part.split("\n\n")[0].rstrip())
             if part.startswith(("Value", "view")):
                 found.model.append("ghost " + part)
-            elif part.startswith("invariant"):
-                found.invariant.append("ghost " + part)
-        found.imports = found.imports | imports
-
-    def read_met(self, crate, head, body, imports):
-        """What an impl of a trait says of the trait's ghost members."""
-        parts = re.split(r"^    ghost (?!use)", body, flags=re.M)[1:]
-        if not parts:
-            return
-        name = (re.search(r"\w+(?=<|$| where)", head.split(" for ")[-1]) or re.search(r"\w+", head.split(" for ")[-1]))[0]
-        found = self.types.setdefault((crate, name), Type(crate, "", name, "", [], [], {}))
-        members = [re.split(r"\n\s*\n|\n    (?=(?:///|#\[|fn|ghost use|//))", part)[0].rstrip() for part in parts]
-        found.met.append([head, *("    ghost " + re.sub(r";\s*\}*\s*$", ";", member) for member in members)])
         found.imports = found.imports | imports
 
     def read_type(self, crate, shown, match, text, clear, imports):
@@ -355,7 +347,7 @@ class Code:
         comment = [line.removeprefix("///").strip() for line in comment_above(lines, len(lines), "///")]
         body = [line for line in text[start:end].splitlines() if not line.strip().startswith("ghost use")]
         old = self.types.get((crate, name))
-        self.types[crate, name] = Type(crate, shown, name, kind, comment, body, imports | (old.imports if old else {}), old.model if old else [], old.met if old else [], old.invariant if old else [])
+        self.types[crate, name] = Type(crate, shown, name, kind, comment, body, imports | (old.imports if old else {}), old.model if old else [])
 
     def meanings(self, call):
         """What the clauses of a call name: definitions, types, words."""
