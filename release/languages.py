@@ -53,7 +53,7 @@ def make(tree, out, epoch):
     programs = [path for path in (tree / "othello", tree / "othello-v3") if path.is_file() and not (tree / "crates").exists()]  # a checkout has a script there
     around = dict(os.environ, SOURCE_DATE_EPOCH=str(epoch))
     subprocess.run([tree / "clients/java/build", "jars", out, *programs], check=True, env=around)
-    subprocess.run([PYTHON, tree / "clients/python/build", "packages", out, *programs], check=True, env=around, stdout=subprocess.DEVNULL)
+    subprocess.run([PYTHON, tree / "clients/python/packages.py", "packages", out, *programs], check=True, env=around, stdout=subprocess.DEVNULL)
     settle(out / f"coluwen-{about['version']}.tar.gz", epoch)
 
 

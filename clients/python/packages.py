@@ -1,9 +1,9 @@
 #!/usr/bin/env python3
 """Makes the packages of Python without a network, by Debian's python3-setuptools and python3-wheel, and the commands' pages of the manual by help2man.
 
-usage: clients/python/build packages OUT [PROGRAM [PROGRAM_V3]]     (the wheel and the sdist; with the program `othello`, and that for processors with AVX2,
+usage: clients/python/packages.py packages OUT [PROGRAM [PROGRAM_V3]]     (the wheel and the sdist; with the program `othello`, and that for processors with AVX2,
                                                                    a wheel for this platform too, which has them in itself)
-       clients/python/build manuals OUT                            (coluwen.1, coluwen-batch.1, ..)
+       clients/python/packages.py manuals OUT                            (coluwen.1, coluwen-batch.1, ..)
 
 Times are SOURCE_DATE_EPOCH's, if it is set, so that the same sources make the same bytes. The platform's wheel says which C library its programs need.
 """
@@ -49,7 +49,7 @@ def packages(out, *programs):
     """In a copy, in which the page's files, and the programs, lie in the package themselves."""
     with tempfile.TemporaryDirectory() as folder:
         copy = pathlib.Path(folder, "python")
-        shutil.copytree(HERE, copy, ignore=shutil.ignore_patterns("__pycache__", ".mypy_cache", "tests", "build", "dist", "mutants", "*.egg-info"))
+        shutil.copytree(HERE, copy, ignore=shutil.ignore_patterns("__pycache__", ".mypy_cache", "tests", "dist", "mutants"))
         shutil.copy(HERE.parent.parent / "LICENSE", copy)
         shutil.copytree(HERE.parent / "page", copy / "src/coluwen/page/static", ignore=shutil.ignore_patterns("build", "bundle", "test.mjs"))
         subprocess.run([sys.executable, "-c", MAKE, out, "{}"], cwd=copy, check=True, stdout=subprocess.DEVNULL)
