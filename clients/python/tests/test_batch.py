@@ -2,6 +2,9 @@
 from __future__ import annotations
 
 import pathlib
+import re
+import subprocess
+import sys
 import xml.etree.ElementTree
 
 import pytest
@@ -51,7 +54,7 @@ def test_rows_and_going_on(tmp_path: pathlib.Path, capsys: pytest.CaptureFixture
         whole = results.read_bytes()
         rows = batch.rows_of(results)
         assert [row[:4] for row in rows[:20]] == [[one, "6", str(value_of(one)), first(one)] for one in asked[:20]]
-        assert [row[1:4] for row in rows[20:22]] == [["13", "ERR 27", ""], ["5", "ERR 24", ""]]
+        assert [[row[1], row[2][:6], row[3]] for row in rows[20:22]] == [["13", "ERR 27", ""], ["5", "ERR 24", ""]]
         assert [row[:4] for row in rows[22:]] == [[one, "3", str(value_of(one)), first(one)] for one in asked[20:]]
         assert sum(line.startswith("HELLO") for line in server.heard) <= 3 and (tmp_path / "p.svg").stat().st_size > 1000
         lines = whole.split(b"\n")
@@ -78,7 +81,66 @@ def test_all_at_fault(tmp_path: pathlib.Path, capsys: pytest.CaptureFixture[str]
     with told(sound()) as server:
         assert run(f"--server=127.0.0.1:{server.port}", results, positions) == 3
     assert "8 positions: 0 done, 0 spent, 8 at fault" in (said := capsys.readouterr().err) and "p.txt:1:1: " in said
-    assert all(row[2] == "ERR 21" for row in batch.rows_of(results))
+    assert [row[2].split(": ")[0] for row in batch.rows_of(results)] == [f"ERR 21 {positions}:{line}:1" for line in range(1, 9)]
+
+
+@pytest.mark.parametrize("is_piped", [False, True])
+def test_no_line_ends_a_run(tmp_path: pathlib.Path, is_piped: bool) -> None:
+    """Letters beyond Latin-1, bytes that are no UTF-8, quotes, commas, old line ends: each line at fault has a row that says where and why, and the run goes on behind
+    any of them."""
+    asked = [OPENING, "Übung 漢字", f"3 {OPENING}", "caf\xe9, \"x\"", f"13 {OPENING}", OPENING.replace("OX", "Oé"), "=1+1", "\x00", f"1 {OPENING}Q", f"2 {OPENING}"]
+    data = b"\r".join(line.encode("latin-1" if line.startswith("caf") else "utf-8") for line in asked) + b"\r"
+    (tmp_path / "p.txt").write_bytes(data)
+    results = tmp_path / "r.csv"
+    with told(sound()) as server:
+        for count in (1, 4, 7, 10):
+            words = [sys.executable, "-m", "coluwen.tools.batch", f"--server=127.0.0.1:{server.port}", results, *([] if is_piped else [tmp_path / "p.txt"])]
+            ended = subprocess.run([*map(str, words)], input=data if is_piped else None, capture_output=True, check=False, timeout=100)
+            assert ended.returncode == 3 and b"10 positions: 3 done, 0 spent, 7 at fault" in ended.stderr, ended.stderr
+            rows = batch.rows_of(results)
+            assert [row[2] for row in rows if row[3]] == [str(value_of(OPENING))] * 3
+            where = "standard input" if is_piped else tmp_path / "p.txt"
+            for number in (2, 4, 5, 6, 7, 8, 9):
+                assert re.fullmatch(rf"ERR 2\d {re.escape(str(where))}:{number}(:\d+)?: .+", rows[number - 1][2]), rows[number - 1]
+            results.write_bytes(b"".join(results.read_bytes().splitlines(keepends=True)[: count + 1]))  # it goes on from here
+    assert "漢字" in rows[1][0] and rows[1][1] == "Übung"
+
+
+def test_a_bad_problem_has_a_row(tmp_path: pathlib.Path) -> None:
+    results, positions = tmp_path / "r.csv", tmp_path / "p.obf"
+    positions.write_text(f"{OPENING}; d3:+0;\n{OPENING}; a1:+0;\n{OPENING}; c4:+0;\n")
+    with told(sound()) as server:
+        assert run(f"--server=127.0.0.1:{server.port}", results, positions) == 3
+    assert [row[2][:5] for row in batch.rows_of(results)] == [str(value_of(OPENING)), "ERR 2", str(value_of(OPENING))] and f"{positions}:2:69: " in results.read_text()
+
+
+def test_tables_of_others(tmp_path: pathlib.Path) -> None:
+    """What pandas and Excel make of a table: numbers with points or commas, a mark, empty fields, other line ends and signs between fields."""
+    ours, theirs = tmp_path / "ours.csv", tmp_path / "theirs.csv"
+    after = Position.opening().play("d3").text
+    ours.write_text(f"position,depth,value,move,milliseconds\n{OPENING},6,-4,d3,5.0\n{after},6,SPENT,,\n'--,x,ERR 21 a:1:1: what,,\n")
+    for text in (f"\ufeffposition,depth,value,move,milliseconds\r\n{OPENING},6.0,-4.0,d3,5\r\n{after},6.0,SPENT,,\r\n--,x,ERR 21 b:9:1: what,,\r\n,,,,\r\n",
+                 f"Position;Depth;Value;Move;Milliseconds\n{OPENING};6;-4,0;D3;5,5\n{after};6;SPENT;;\n--;x;ERR 21;;", f"value\tmove\tdepth\tposition\r-4.\td3\t6\t{OPENING.replace('-', '.')}\rSPENT\t\t6\t{after}\rERR 21\t\tx\t--\r"):  # fmt: skip
+        theirs.write_bytes(text.encode())
+        assert compare(str(ours), str(theirs)), text
+        theirs.write_bytes(text.replace("-4", "-5").encode())
+        assert not compare(str(ours), str(theirs)), text
+
+
+def test_a_table_for_excel(tmp_path: pathlib.Path) -> None:
+    """No field begins with what Excel takes for a formula, a mark says that it is UTF-8, and the run goes on behind it; --compare takes it."""
+    results, plain, positions = tmp_path / "r.csv", tmp_path / "p.csv", tmp_path / "p.txt"
+    positions.write_text(f"{OPENING}\n=1+1\n{OPENING.replace(' ', 'é')}\n{Position.opening().play('f5')}\n", encoding="utf-8")
+    with told(sound(-7)) as server:
+        for _ in range(2):
+            assert run("--excel", f"--server=127.0.0.1:{server.port}", results, positions) == 3
+            assert results.read_bytes()[:3] == b"\xef\xbb\xbf" and results.read_bytes().count(b"\n") == 5
+            results.write_bytes(results.read_bytes().rpartition(b"\n.")[0] + b"\n....")
+        assert run(f"--server=127.0.0.1:{server.port}", results, positions) == 3  # by the mark it is known
+        assert run(f"--server=127.0.0.1:{server.port}", plain, positions) == 3
+    fields = [field for row in batch.rows_of(results) for field in row]
+    assert not [field for field in fields if re.match(r"[=+@-](?!\d+$|$)", field)]
+    assert compare(str(results), str(plain))
 
 
 def test_compare(tmp_path: pathlib.Path, capsys: pytest.CaptureFixture[str]) -> None:

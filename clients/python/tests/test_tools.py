@@ -1,6 +1,7 @@
 """The commands: what they say to boards and on terminals, and how they end, against servers that answer as they are told."""
 from __future__ import annotations
 
+import contextlib
 import pathlib
 import re
 import shutil
@@ -9,12 +10,12 @@ import sys
 import time
 
 import pytest
-from coluwen import Client, Position
+from coluwen import Client, FormatError, Position, formats
 from coluwen.board import Board
 from coluwen.errors import Refused
 from coluwen.tools import lines, review
 from coluwen.tools.gtp import Gtp
-from coluwen.tools.match import GtpProgram, NBoardProgram, Player, match
+from coluwen.tools.match import GtpProgram, NBoardProgram, Player, match, openings_of
 from coluwen.tools.player import Player as Searcher
 from told import sound, told, value_of
 
@@ -163,7 +164,65 @@ def test_a_match_of_programs() -> None:
         for kind, name in ((GtpProgram, "coluwen-gtp"), (NBoardProgram, "coluwen-nboard")):
             program = kind("one", f"{sys.executable} {BIN}/{name} {words}", 20)
             try:
-                table, outcomes = match(lambda: __import__("contextlib").nullcontext((program, First("other"))), [Board().push("f5")], lambda text: None)  # noqa: B023
+                table, outcomes = match(lambda: contextlib.nullcontext((program, First("other"))), [Board().push("f5")], lambda text: None)  # noqa: B023
             finally:
                 program.close()
             assert not any(outcome.fault for outcome in outcomes) and all(outcome.game.final().is_over for outcome in outcomes) and len(table.discs) == 2
+
+
+def test_games_are_kept_as_they_end_whatever_names_are_in_them(tmp_path: pathlib.Path) -> None:
+    """Each game is in the file when it has ended, in UTF-8; after each round (both colours of an opening) the score is told."""
+    games, openings = tmp_path / "games.ggf", tmp_path / "openings"
+    openings.write_text("f5d6c3d3\nf5f6e6f4\n")
+    with told(sound()) as server:
+        words = [sys.executable, BIN / "coluwen-match", f"--server=127.0.0.1:{server.port}", "--openings", openings, "--games", games, "黒=depth:1", "łódź=depth:2"]
+        with subprocess.Popen([*map(str, words)], stdout=subprocess.PIPE, text=True, encoding="utf-8") as process:
+            assert process.stdout
+            for number, line in enumerate(process.stdout, 1):
+                if re.match(r"[1-4]: ", line):
+                    assert len(games.read_text(encoding="utf-8").splitlines()) >= int(line[0])
+                if number == 3:
+                    assert re.match(r"round 1: 黒 \d+\.\d% \+- 0\.0% of 2 games; Elo ", line)
+        assert process.returncode == 0
+    kept = list(formats.strictly(formats.games(str(games))))
+    assert [(game.black, game.white) for game in kept] == [("黒", "łódź"), ("łódź", "黒")] * 2
+
+
+def test_what_was_played_is_kept_where_a_match_is_stopped(tmp_path: pathlib.Path) -> None:
+    kept = []
+
+    class First(Player):
+        def move(self, board: Board) -> str:
+            if kept and self.name == "one":
+                raise KeyboardInterrupt
+            return board.legal[0]
+
+    with pytest.raises(KeyboardInterrupt):
+        match(lambda: contextlib.nullcontext((First("one"), First("other"))), [Board().push("f5")], lambda text: None, 1, kept.append)
+    assert len(kept) == 1 and kept[0].game.final().is_over
+
+
+def test_openings_of_the_files_that_people_have(tmp_path: pathlib.Path) -> None:
+    game, other = "f5d6c3d3c4", "f5d6c3d3c4f4f6"
+    for name, text, moves, wanted in (("o.txt", f"{game}\n# a comment\n{other}\n", 5, [game]), ("o.txt", f"{game}\n{other}\n", None, [game, other]), ("o.txt", f"1. f5 2. d6\n{OPENING.play('f5')}\n", 1, ["f5", ""]),
+                                      ("o.obf", f"{OPENING.play('f5')}; d6;\n", 3, [""]), ("o.ggf", f"(;GM[Othello]BO[8 {OPENING.cells} *]B[F5]W[D6]B[C3];)", 2, ["f5d6"]), ("o.pgn", '[Event "x"]\n\n1. f5 d6 2. c3\n', 3, ["f5d6c3"])):  # fmt: skip
+        (tmp_path / name).write_text(text)
+        found = openings_of(str(tmp_path / name), moves)
+        assert ["".join(board.moves) for board in found] == wanted
+    (tmp_path / "o.txt").write_text(f"{game}\nf5a1\n")
+    with pytest.raises(FormatError, match=r"o.txt:2:3: move 2, a1"):
+        openings_of(str(tmp_path / "o.txt"))
+
+
+def test_a_game_with_an_illegal_move_is_not_reviewed(tmp_path: pathlib.Path) -> None:
+    """It says where, with status 1, and reviews no shorter game; another game of the file is reviewed."""
+    games = tmp_path / "games"
+    games.write_text("f5d6c3d3\nf5d6a1c3\nf5a1\nh8\n")
+    with told(sound()) as server:
+        for number, status, said in ((1, 0, ""), (2, 1, f"coluwen-review: {games}:2:5: move 3, a1: black can't play there\n"), (3, 1, f"coluwen-review: {games}:3:3: move 2, a1: white can't play there\n"),
+                                     (4, 1, f"coluwen-review: {games} has 3 games\n")):  # fmt: skip
+            found = command("coluwen-review", f"--server=127.0.0.1:{server.port}", "--depth", 1, "--file", games, "--game", number)
+            assert (found.returncode, found.stderr) == (status, said) and (not status or not found.stdout)
+        games.write_text("h8\n")
+        found = command("coluwen-review", f"--server=127.0.0.1:{server.port}", "--file", games)
+        assert (found.returncode, found.stderr) == (1, f"coluwen-review: {games}:1:1: move 1, h8: black can't play there\n")

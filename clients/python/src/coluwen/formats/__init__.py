@@ -49,7 +49,9 @@ def kind_of(name: str, data: bytes) -> str:
 
 
 def text_of(data: bytes) -> str:
-    """The text of a file: UTF-8 where it is that, else Japanese (CP932) where letters of full width stand in it, else Latin-1."""
+    """The text of a file: UTF-8 where it is that, else Japanese (CP932) where letters of full width stand in it, else Latin-1. Lines end with LF, CR LF, or CR
+    alone as they did once; here with LF."""
+    data = data.replace(b"\r\n", b"\n").replace(b"\r", b"\n")
     with contextlib.suppress(UnicodeDecodeError):
         return data.decode("utf-8-sig")
     is_wide = re.search(rb"(?:\x82[\x4f-\x58\x60-\x79\x81-\x9a]){2}", data)
@@ -57,9 +59,9 @@ def text_of(data: bytes) -> str:
 
 
 def lines_of(data: bytes) -> list[str]:
-    """The lines of a text without their ends; a last one that is empty is none."""
-    lines = text_of(data).split("\n")
-    return [line.removesuffix("\r") for line in (lines[:-1] if not lines[-1] else lines)]
+    """The lines of a text without their ends, each as its own bytes say; a last one that is empty is none."""
+    lines = data.replace(b"\r\n", b"\n").replace(b"\r", b"\n").split(b"\n")
+    return [text_of(line) for line in (lines[:-1] if not lines[-1] else lines)]
 
 
 def problems(*paths: str, kind: str | None = None) -> Iterator[Problem | FormatError]:
@@ -72,7 +74,7 @@ def problems_of(data: bytes, name: str = "", kind: str | None = None) -> Iterato
     """The same of what a file has."""
     kind = kind or kind_of(name, data)
     if kind == "obf":
-        yield from obf.read(text_of(data).split("\n"), name)
+        yield from obf.read(lines_of(data), name)
     elif kind != "lines":
         yield from _positions_of(games_of(data, name, kind))
     else:

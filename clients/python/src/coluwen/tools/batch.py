@@ -5,8 +5,9 @@ usage: coluwen-batch [--depth 6] [--sessions 8] [..] RESULTS [POSITIONS ..]
 
 POSITIONS (standard input where none is named) are of any format that `coluwen.formats` reads: a line of 66 letters or `depth position`, an
 .obf, GGF, SGF, WTHOR's .wtb, transcripts; of a game each position is asked at which a move was made. RESULTS has a row for each, in their
-order: position, depth, value, move, milliseconds. The value is SPENT where the server's grain doesn't let it through, and `ERR number` where
-the line is at fault. The milliseconds are those from the ASK to the DONE, with what other sessions had the server do.
+order: position, depth, value, move, milliseconds. The value is SPENT where the server's grain doesn't let it through; where a line is at fault it is
+`ERR number`, with file, line and column and what is wrong, and the run goes on. RESULTS are UTF-8; with --excel as Excel reads them: with a mark
+of UTF-8 before them, and points for empty squares, as it takes what begins with - for a formula. The milliseconds are those from the ASK to the DONE, with what other sessions had the server do.
 
 RESULTS is at each moment a beginning of the answers. Where it is there already the run goes on behind it, once its rows have been
 found to be those of the first positions; a row that was cut off is made again. Where fewer sessions are granted than --sessions says, as
@@ -43,9 +44,9 @@ from collections.abc import Iterator, Sequence
 
 from .. import formats
 from ..analyst import Analyst, Outcome, Result
-from ..board import Position
+from ..board import CELLS, LENGTH, Position
 from ..cluster import Cluster
-from ..errors import ColuwenError, FormatError, Refused, TooDeep
+from ..errors import FAULTS, ColuwenError, FormatError, Refused, TooDeep
 from .command import LONG_OUTAGE, NO_VALUE, analyst_of, ending, parser, teller
 from .compare import Row, compare, csv_rows
 from .lines import grain_for, question_of
@@ -62,23 +63,24 @@ class Fault(ColuwenError):
 @dataclasses.dataclass(frozen=True)
 class Asked:
     """A position that is to be asked: its depth and text as its row has them, and the moves that are expected. Where it can't be asked,
-    `fault` is the number by which the server would refuse it."""
+    `fault` is the number by which the server would refuse it, and `why` says where it stands and what is wrong."""
 
     depth: str
     position: str
     expected: tuple[str, ...] = ()
     fault: int = 0
+    why: str = ""
 
 
-def unread(line: str, depth: int) -> Asked:
-    """A line that is of no format: what is wrong with it as a line `depth position`."""
+def unread(line: str, depth: int, why: FormatError) -> Asked:
+    """A line that is of no format: what is wrong with it, and by which number as a line `depth position`."""
     first, space, rest = line.partition(" ")
     asked = Asked(str(depth), line) if len(line) == 66 else Asked(first, rest) if space else Asked("", line)
     try:
         question_of(f"{asked.depth} {asked.position}" if asked.depth else line)
     except Refused as refusal:
-        return dataclasses.replace(asked, fault=refusal.number)
-    return asked
+        return dataclasses.replace(asked, fault=refusal.number, why=str(why))
+    return dataclasses.replace(asked, fault=24, why=str(why))
 
 
 class Source:
@@ -100,17 +102,18 @@ class Source:
         if not self.paths and (self.data or self.kind not in (None, "lines")):
             yield from self.parts(self.data or sys.stdin.buffer.read(), "standard input")
         elif not self.paths:
-            for number, line in enumerate(open(0, encoding="latin-1", newline="\n"), 1):
-                yield from self.line(line.rstrip("\n").removesuffix("\r"), formats.Place("standard input", number))
+            lines = (line for block in sys.stdin.buffer for line in formats.lines_of(block))
+            for number, line in enumerate(lines, 1):
+                yield from self.line(line, formats.Place("standard input", number))
 
     def parts(self, data: bytes, name: str) -> Iterator[Asked]:
         kind = self.kind or formats.kind_of(name, data)
-        lines = formats.lines_of(data) if kind == "lines" else []
+        lines = formats.lines_of(data) if kind in ("lines", "obf") else []
         for one in formats.problems_of(data, name, kind):
             if isinstance(one, FormatError):
                 self.faults.append(one)
                 if lines:
-                    yield unread(lines[one.line - 1], self.depth)
+                    yield unread(lines[one.line - 1], self.depth, one)
             else:
                 yield self.of(one)
 
@@ -118,13 +121,13 @@ class Source:
         for one in formats.read_line(line, place):
             if isinstance(one, FormatError):
                 self.faults.append(one)
-                yield unread(line, self.depth)
+                yield unread(line, self.depth, one)
             else:
                 yield self.of(one)
 
     def of(self, problem: formats.Problem) -> Asked:
         depth = self.depth if problem.depth is None else problem.depth
-        return Asked(str(depth), problem.position.text, problem.best(), 0 if depth <= 12 else 27)
+        return Asked(str(depth), problem.position.text, problem.best(), 0 if depth <= 12 else 27, f"{problem.place}: {FAULTS[27]}")
 
 
 class Progress:
@@ -177,15 +180,27 @@ def row_of(asked: Asked, answer: Result | ColuwenError) -> list[object]:
     if isinstance(answer, TooDeep):
         return [asked.position, asked.depth, "SPENT", "", ""]
     if isinstance(answer, Refused) and answer.number > 20 and answer.number < 30:
-        return [asked.position, asked.depth, f"ERR {answer.number}", "", ""]
+        return [asked.position, asked.depth, f"ERR {answer.number} {asked.why}".rstrip(), "", ""]
     raise answer
+
+
+MARK = b"\xef\xbb\xbf"  # of UTF-8, by which Excel knows it
+
+
+def spelled(position: str, for_excel: bool) -> str:
+    """A position as its row has it."""
+    if not for_excel:
+        return position
+    if len(position) == LENGTH and not set(position) - {*CELLS, " "}:
+        return position.replace("-", ".")
+    return f"'{position}" if position[:1] in ("=", "+", "-", "@") else position
 
 
 def text_of(row: list[object] | list[str]) -> bytes:
     """A row as it is written, at once and whole."""
     text = io.StringIO()
     csv.writer(text, lineterminator="\n").writerow(row)
-    return text.getvalue().encode("latin-1")
+    return text.getvalue().encode("utf-8", "replace")
 
 
 def rows_of(path: pathlib.Path) -> list[list[str]]:
@@ -196,18 +211,18 @@ def rows_of(path: pathlib.Path) -> list[list[str]]:
     return rows[1:]
 
 
-def taken_up(path: pathlib.Path, file: io.FileIO, asked: Iterator[Asked]) -> int:
+def taken_up(path: pathlib.Path, file: io.FileIO, asked: Iterator[Asked], for_excel: bool) -> int:
     """Goes on behind the rows of a file, which must be of the first positions; gives how many there are."""
     rows = rows_of(path)
     for number, row in enumerate(rows, 1):
         one = next(asked, None)
-        if not one or [one.position, one.depth] != row[:2]:
+        if not one or [spelled(one.position, for_excel), one.depth] != row[:2]:
             raise Fault(f"row {number} of {path} is of another position or depth than position {number}")
     text = path.read_bytes()
     file.truncate(text.rfind(b"\n") + 1)  # a row that was cut off
     file.seek(0, os.SEEK_END)
     if not file.tell():
-        file.write(text_of(HEAD))
+        file.write(MARK * for_excel + text_of(HEAD))
     return len(rows)
 
 
@@ -251,7 +266,8 @@ def answer_all(asked: argparse.Namespace) -> int:
             fcntl.flock(file, fcntl.LOCK_EX | fcntl.LOCK_NB)
         except BlockingIOError:
             raise Fault(f"{path} is written by another run") from None
-        first = written = taken_up(path, file, positions)
+        for_excel = asked.excel or path.read_bytes()[:3] == MARK
+        first = written = taken_up(path, file, positions, for_excel)
         if first:
             print(f"{first} positions were done earlier", file=sys.stderr)
         progress = Progress(source.total, first)
@@ -259,7 +275,7 @@ def answer_all(asked: argparse.Namespace) -> int:
             client.ping()
             try:
                 for one, answer in answered(client, positions):
-                    file.write(text_of(row_of(one, answer)))
+                    file.write(text_of(row_of(dataclasses.replace(one, position=spelled(one.position, for_excel)), answer)))
                     written += 1
                     progress.at(written)
             finally:
@@ -277,6 +293,7 @@ def main(words: Sequence[str] | None = None) -> int:
     options.add_argument("--sessions", type=int, default=8, metavar="N", help="how many at once (%(default)d); the server has 64 at most")
     options.add_argument("--dask", metavar="ADDRESS", help="by the engines of a Dask cluster's workers, whose scheduler has this address: tcp://HOST:8786")
     options.add_argument("--format", choices=formats.KINDS, help="of POSITIONS: by its name's end and its beginning where it isn't said")
+    options.add_argument("--excel", action="store_true", help="write RESULTS as Excel reads them")
     options.add_argument("--plot", metavar="FILE", help="draw the times and values of RESULTS, as SVG")
     options.add_argument("results", metavar="RESULTS")
     options.add_argument("positions", nargs="*", metavar="POSITIONS")

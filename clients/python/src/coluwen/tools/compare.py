@@ -1,4 +1,7 @@
-"""How the results of two runs differ: of `coluwen-batch`, of another engine, or of what an .obf expects."""
+"""How the results of two runs differ: of `coluwen-batch`, of another engine, or of what an .obf expects.
+
+Tables are as other programs write them: in UTF-8 with or without its mark, or in Latin-1; lines end with LF or CR LF; fields are parted by commas, semicolons
+or tabs, and may be empty; a number may have a point or a comma (-4.0 is -4)."""
 from __future__ import annotations
 
 import csv
@@ -6,6 +9,7 @@ import dataclasses
 import io
 import math
 import pathlib
+import re
 import statistics
 
 from .. import formats
@@ -34,9 +38,30 @@ class Row:
 
 
 def csv_rows(path: pathlib.Path) -> list[list[str]]:
-    """The rows of a file that have their end."""
-    text = path.read_bytes().decode("latin-1")
+    """The rows of a file of this program that have their end."""
+    text = formats.text_of(path.read_bytes())
     return list(csv.reader(io.StringIO(text[: text.rfind("\n") + 1], newline="")))
+
+
+def table_of(path: str) -> list[list[str]]:
+    """The rows of a table of any program; none of them is cut, or is empty but for its commas."""
+    text = formats.text_of(pathlib.Path(path).read_bytes())
+    head, _, rest = text.partition("\n")
+    parted = max(",;\t", key=head.count)
+    rows = list(csv.reader(io.StringIO(text, newline=""), delimiter=parted))
+    if rest and not text.endswith("\n") and len(rows[-1]) < len(rows[0]):
+        rows.pop()  # a run that is under way, or was stopped in a row
+    return [row if any(map(str.strip, row)) else [] for row in rows]
+
+
+def whole(text: str) -> str:
+    """A whole number that is written as another program writes it; of a fault its number; any other text as it stands, and nothing for what isn't a number."""
+    text = text.strip()
+    if fault := re.match(r"ERR \d+", text):
+        return fault[0]
+    if re.fullmatch(r"[+-]?\d+([.,]0*)?", text):
+        return str(int(re.split("[.,]", text)[0]))
+    return "" if text.lower() == "nan" else text
 
 
 def rows_of(path: str) -> list[Row]:
@@ -44,7 +69,7 @@ def rows_of(path: str) -> list[Row]:
     if pathlib.PurePath(path).suffix.lower() == ".obf":
         return [Row(problem.position.text, "", "" if problem.discs() is None else str(A_DISC * (problem.discs() or 0)), problem.best())
                 for problem in formats.strictly(formats.problems(path)) if problem.expected]  # fmt: skip
-    rows = csv_rows(pathlib.Path(path))
+    rows = table_of(path)
     if not rows:
         return []
     head = [name.strip().lower() for name in rows[0]]
@@ -59,21 +84,21 @@ def rows_of(path: str) -> list[Row]:
 def row_of(named: dict[str, str], path: str, line: int) -> Row:
     """A row of any engine: a move may be in capitals, a value in discs."""
     move = (named.get("move") or named.get("best") or "").strip().lower()
-    value, discs = named.get("value", "").strip(), named.get("discs", "").strip()
+    value, discs = whole(named.get("value", "")), whole(named.get("discs", ""))
     if not value and discs:
         value = str(round(A_DISC * number_of(discs, "discs", path, line)))
-    milliseconds = number_of(named.get("milliseconds") or "0", "milliseconds", path, line)
-    position = named["position"]
+    milliseconds = number_of(whole(named.get("milliseconds", "")) or "0", "milliseconds", path, line)
+    position = named["position"].removeprefix("'")  # (of a row for Excel)
     try:
         position = Position.parse(position).text
     except FormatError:
         pass  # a line that is at fault in both
-    return Row(position, named.get("depth", "").strip(), value, (PASS if move in ("pa", "ps", "--") else move,), milliseconds)
+    return Row(position, whole(named.get("depth", "")), value, (PASS if move in ("pa", "ps", "--") else move,), milliseconds)
 
 
 def number_of(text: str, unit: str, path: str, line: int) -> float:
     try:
-        found = float(text)
+        found = float(text.replace(",", "."))
     except ValueError:
         found = math.nan
     if not math.isfinite(found):
@@ -88,8 +113,8 @@ def differ(one: Row, other: Row) -> bool:
     if not one.value or not other.value or one.value == other.value:
         return False
     numbers = [int(value) if value.lstrip("-").isdecimal() else None for value in (one.value, other.value)]
-    whole = None not in numbers and all(abs(number or 0) > GREATEST_EVALUATION or not number for number in numbers)
-    return whole or bool(one.depth and other.depth)
+    are_ends = None not in numbers and all(abs(number or 0) > GREATEST_EVALUATION or not number for number in numbers)
+    return are_ends or bool(one.depth and other.depth)
 
 
 def compare(one: str, other: str) -> bool:

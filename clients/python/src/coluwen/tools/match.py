@@ -1,11 +1,12 @@
 """A match of two engines over a list of openings, each played in both colours: a table with the error of the score, and Elo.
 
-usage: coluwen-match [--openings FILE] [--games FILE] [--seconds 60] [--at-once 2] ONE OTHER
+usage: coluwen-match [--openings FILE [--moves 8]] [--games FILE] [--seconds 60] [--at-once 2] ONE OTHER
 
 ONE and OTHER are each `depth:6` (the server of --server, so many plies), `gtp:COMMAND` or `nboard:COMMAND` (a program, with its
-words, as 'gtp:gtp-rhino -l 2'), with `NAME=` before it if it is to have a name. FILE of --openings has games of any format, transcripts a
-line for example; without it each pair of games begins from one of the four first moves and their replies. --games keeps the games as GGF.
---at-once plays so many openings at the same time, each by programs of its own.
+words, as 'gtp:gtp-rhino -l 2'), with `NAME=` before it if it is to have a name. FILE of --openings has games or positions of any format, transcripts a
+line for example, or a year of WTHOR's; --moves takes so many of each game's moves, and what is the same then is played once. Without it each pair of games
+begins from one of the four first moves and their replies. --games keeps the games as GGF in UTF-8, each as it ends; a match that is stopped has kept those
+that were played. --at-once plays so many openings at the same time, each by programs of its own. After each round (an opening in both colours) the score is told.
 
     $ coluwen-match --openings openings.txt depth:4 'gtp:gtp-rhino -l 1 -b 0'
 
@@ -18,7 +19,9 @@ stands for, with what the score less and more its error stand for; there is none
 import concurrent.futures
 import contextlib
 import dataclasses
+import functools
 import math
+import os
 import pathlib
 import queue
 import shlex
@@ -33,7 +36,7 @@ from ..analyst import Analyst
 from ..board import BLACK, NAMES, PASS, WHITE, Board, Position
 from ..errors import ColuwenError, IllegalMove
 from ..formats import Game, Played, ggf
-from .command import LONG_OUTAGE, analyst_of, ending, parser, say, teller
+from .command import LONG_OUTAGE, analyst_of, count, ending, parser, say, teller
 from .player import Player as Searcher
 
 NAME = "coluwen-match"
@@ -227,10 +230,26 @@ def moved(player: Player, board: Board) -> str:
     return move
 
 
-def openings_of(path: str | None) -> list[Board]:
+def boards_of(data: bytes, path: str, moves: int | None) -> Iterator[Board]:
+    """The games of a file, with so many of their moves, and the positions of an .obf or of lines."""
+    if formats.kind_of(path, data) == "obf":
+        yield from (Board(problem.position) for problem in formats.strictly(formats.problems_of(data, path)))
+    elif formats.kind_of(path, data) != "lines":
+        yield from (functools.reduce(Board.push, game.words()[:moves], Board(game.start)) for game in formats.strictly(formats.games(path)))
+    else:
+        for number, line in enumerate(formats.lines_of(data), 1):
+            found = list(formats.strictly(formats.read_line(line, formats.Place(path, number))))
+            if found and found[0].comment == "move 1":  # a game's positions, each with its move
+                yield functools.reduce(Board.push, (one.expected[0].move for one in found[:moves]), Board(found[0].position))
+            else:
+                yield from (Board(one.position) for one in found)
+
+
+def openings_of(path: str | None, moves: int | None = None) -> list[Board]:
     """The openings of a file; else the four first moves with each reply."""
     if path:
-        return [game.board() for game in formats.strictly(formats.games(path))]
+        data = pathlib.Path(path).read_bytes()
+        return list(dict.fromkeys(board for board in boards_of(data, path, moves) if not board.is_over))
     return [Board().push(first).push(reply) for first in Board().legal for reply in Board().push(first).legal]
 
 
@@ -257,6 +276,11 @@ class Table:
         for label, colour in ((f"{self.one} as black", BLACK), ("as white", WHITE)):
             rows.append(row_of(label, [[discs] for side, discs in self.discs if side == colour]))
         return [*rows, row_of("in all", self.pairs), f"Elo {elo_text(*self.score())}"]
+
+    def round(self) -> str:
+        """How it stands, in a line."""
+        score, error = self.score()
+        return f"round {len(self.discs) // 2}: {self.one} {100 * score:.1f}% +- {100 * error:.1f}% of {len(self.discs)} games; Elo {elo_text(score, error)}"
 
 
 def points_of(discs: int) -> float:
@@ -294,8 +318,10 @@ def elo_text(score: float, error: float) -> str:
 Pair = Callable[[], contextlib.AbstractContextManager[tuple[Player, Player]]]
 
 
-def match(pair: Pair, openings: Iterable[Board], tell: Callable[[str], None], at_once: int = 1) -> tuple[Table, list[Outcome]]:
-    """Each opening in both colours, so many openings at the same time; `pair` gives two players of their own to each of these."""
+def match(pair: Pair, openings: Iterable[Board], tell: Callable[[str], None], at_once: int = 1, keep: Callable[[Outcome], None] = lambda outcome: None) -> tuple[Table, list[Outcome]]:
+    """Each opening in both colours, so many openings at the same time; `pair` gives two players of their own to each of these. `keep` has each game as it
+    ends, one after another."""
+    keeping = threading.Lock()
     begun = list(openings)
     spare: queue.SimpleQueue[tuple[Player, Player]] = queue.SimpleQueue()
     with contextlib.ExitStack() as stack, concurrent.futures.ThreadPoolExecutor(at_once) as pool:
@@ -305,10 +331,15 @@ def match(pair: Pair, openings: Iterable[Board], tell: Callable[[str], None], at
 
         def both(number: int) -> list[Outcome]:
             one, other = players = spare.get()
+            found = list[Outcome]()
             try:
-                return [play(*((one, other) if side == BLACK else (other, one)), begun[number], 2 * number + at + 1) for at, side in enumerate((BLACK, WHITE))]
+                for at, (black, white) in enumerate(((one, other), (other, one)), 1):
+                    found.append(play(black, white, begun[number], 2 * number + at))
+                    with keeping:
+                        keep(found[-1])
             finally:
                 spare.put(players)
+            return found
 
         table, outcomes = Table(pairs[0][0].name, pairs[0][1].name), list[Outcome]()
         for found in pool.map(both, range(len(begun))):
@@ -318,6 +349,7 @@ def match(pair: Pair, openings: Iterable[Board], tell: Callable[[str], None], at
                 passes = sum(played.move == PASS for played in outcome.game.moves)
                 told = outcome.fault or f"{len(outcome.game.words())} moves, {passes} passes"
                 tell(f"{len(outcomes)}: {outcome.game.black} {outcome.discs:+d} {outcome.game.white} ({told})")
+            tell(table.round())
     return table, outcomes
 
 
@@ -325,12 +357,14 @@ def main(words: Sequence[str] | None = None) -> int:
     options = parser(__doc__, NAME, LONG_OUTAGE)
     options.add_argument("one", metavar="ONE")
     options.add_argument("other", metavar="OTHER")
-    options.add_argument("--openings", metavar="FILE", help="games of any format that each pair begins with")
-    options.add_argument("--games", metavar="FILE", help="keeps the games, as GGF")
+    options.add_argument("--openings", metavar="FILE", help="games or positions of any format that each pair begins with")
+    options.add_argument("--moves", type=count, metavar="N", help="so many moves of each game of --openings (all)")
+    options.add_argument("--games", metavar="FILE", help="keeps the games, each as it ends, as GGF")
     options.add_argument("--seconds", type=float, default=60, metavar="S", help="after which an engine that says nothing has lost (%(default)g)")
     options.add_argument("--at-once", type=int, default=1, metavar="N", help="how many openings are played at the same time (%(default)d)")
     asked = options.parse_args(words)
-    with analyst_of(asked, NAME) as client:
+    openings = openings_of(asked.openings, asked.moves)
+    with analyst_of(asked, NAME) as client, open(asked.games or os.devnull, "w", encoding="utf-8", buffering=1) as games:
 
         @contextlib.contextmanager
         def pair() -> Iterator[tuple[Player, Player]]:
@@ -338,9 +372,7 @@ def main(words: Sequence[str] | None = None) -> int:
                 one, other = (stack.enter_context(contextlib.closing(player_of(word, client, asked.seconds))) for word in (asked.one, asked.other))
                 yield one, other
 
-        table, outcomes = match(pair, openings_of(asked.openings), say, max(asked.at_once, 1))
-    if asked.games:
-        pathlib.Path(asked.games).write_text(ggf.write(outcome.game for outcome in outcomes), encoding="latin-1")
+        table, outcomes = match(pair, openings, say, max(asked.at_once, 1), lambda outcome: print(ggf.write_game(outcome.game), file=games))
     say("\n".join(table.lines()))
     faults = [outcome.fault for outcome in outcomes if outcome.fault]
     if faults:

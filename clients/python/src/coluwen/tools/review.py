@@ -3,7 +3,8 @@
 usage: coluwen-review [--depth 6] [--boards last|worst|all] [--start POSITION] [--server HOST:PORT] [..] MOVES ..
        coluwen-review [..] --file FILE [--game 1]
 
-MOVES is a transcript, `f5d6c3d3c4..`; passes need not be written. FILE has games of any format. A start has 64 squares from a1 to h8, a space, and who moves.
+MOVES is a transcript, `f5d6c3d3c4..`; passes need not be written. FILE has games of any format. A game with a move that isn't legal isn't reviewed: what is
+wrong is said with file, line and column, and the status is 1. It is 3 where some move has no value. A start has 64 squares from a1 to h8, a space, and who moves.
 
 Values are seen by the player who moves, so many plies deep (6). A value of 1,184 at most is the evaluation's, in its
 points; a greater one is the end of the game: 'wins by 12 discs'. A loss is what the best move is worth more.
@@ -17,7 +18,7 @@ from collections.abc import Iterator, Sequence
 from .. import formats
 from ..analyst import Analyst, Result
 from ..board import NAMES, PASS, SQUARES, Board, Position
-from ..errors import ColuwenError, Late, TooDeep
+from ..errors import ColuwenError, FormatError, Late, TooDeep
 from ..formats import Game, transcript
 from ..score import A_DISC, GREATEST_EVALUATION, Score
 from .command import LONG_OUTAGE, NO_VALUE, analyst_of, ending, parser, say
@@ -105,11 +106,18 @@ def loss_of(best: Score, score: Score) -> str:
 
 
 def game_of(file: str, number: int) -> Game:
-    """The game of a number of a file."""
-    games = [one for one in formats.games(file) if isinstance(one, Game)]
-    if not 1 <= number <= len(games):
-        raise ColuwenError(f"{file} has {len(games)} games")
-    return games[number - 1]
+    """The game of a number of a file. What is at fault in it, or in the file where there is no such game, is raised."""
+    count, faults = 0, list[FormatError]()
+    for one in formats.games(file):
+        if isinstance(one, Game):
+            count += 1
+            if count == number and one.is_whole:
+                return one
+        elif count == number:  # (a game's fault comes behind it)
+            raise one
+        else:
+            faults.append(one)
+    raise faults[0] if faults and not count else ColuwenError(f"{file} has {count} games")
 
 
 def main(words: Sequence[str] | None = None) -> int:
