@@ -57,7 +57,38 @@ def test_with_a_file(around: dict[str, str], wanted: list[Answer], tmp_path: pat
     assert status == 2 and "rate" in said
 
 
-@pytest.mark.parametrize("words", [["--port", "4712"], ["--file"], ["more"], ["--file", "/nothing"]])
+def test_at_another_port(around: dict[str, str], wanted: list[Answer]) -> None:
+    port = free_port()
+    status, said = start(around, "--port", str(port))
+    assert status == 0 and f"127.0.0.1:{port} is served, by" in said and f"--stop --port {port}`" in said, said
+    try:
+        with From("127.0.0.1", "127.0.0.1", port, *SMALL) as session:
+            assert session.is_answered(1, wanted)
+    finally:
+        assert start(around, "--stop", f"--port={port}") == (0, f"othello: the server at port {port} has ended\n")
+
+
+def test_the_port_that_clients_use(around: dict[str, str], wanted: list[Answer], tmp_path: pathlib.Path) -> None:
+    """Where a file has a port for a proxy too, above or below it."""
+    for order in (1, -1):
+        plain, proxied, file = free_port(), free_port(), tmp_path / "two.toml"
+        places = [f'listen = "127.0.0.1:{proxied}"\n', f'plain = "127.0.0.1:{plain}"\n'][::order]
+        all_of_it = "sessions = 64\nsegments = 65536\nnodes = 4194304\n"
+        file.write_text("".join(places) + f"[guests.each]\n{all_of_it}[guests.together]\n{all_of_it}")
+        try:
+            assert f"127.0.0.1:{plain} is served, by" in start(around, "--file", str(file))[1]
+            with From("127.0.0.1", "127.0.0.1", plain, *SMALL) as session:
+                assert session.is_answered(1, wanted)
+        finally:
+            assert start(around, "--stop", "--file", str(file))[0] == 0
+    file.write_text(file.read_text().replace("plain", "# plain"))
+    try:
+        assert f"127.0.0.1:{proxied} is served to a proxy, by" in start(around, "--file", str(file))[1]
+    finally:
+        assert start(around, "--stop", "--file", str(file))[0] == 0
+
+
+@pytest.mark.parametrize("words", [["--port", "0"], ["--port", "65536"], ["--port"], ["--port", "4712", "--file", "deploy/site.toml"], ["--file"], ["more"], ["--file", "/nothing"]])
 def test_words_that_are_refused(around: dict[str, str], words: list[str]) -> None:
     assert start(around, *words)[0] == 2
 
