@@ -1,7 +1,7 @@
 // What a client of a server and an engine of this host have in common: what is built of `analyse`.
 import { PASS, Position } from "./board.mjs";
 import { DEEPEST } from "./core.mjs";
-import { ColuwenError, TooDeep } from "./faults.mjs";
+import { ColuwenError, Late, TooDeep } from "./faults.mjs";
 import { Score } from "./score.mjs";
 
 /** What is known of a move: it is worth its score, one ply less deep than the position. */
@@ -17,7 +17,7 @@ export function resultOf(position, depth, { value, move, entries }, milliseconds
   return Object.freeze({ position, depth, score: scored(value, "="), best: move === "-" ? null : move, table: Object.freeze(table), milliseconds });
 }
 
-/** A position, and RangeError or TypeError where it is none, or the depth is none. */
+/** A position; FormatError or TypeError where it is none, and RangeError where the depth is none. */
 export function checked(position, depth) {
   if (!Number.isInteger(depth) || depth < 0 || depth > DEEPEST) throw new RangeError(`a depth is a whole number from 0 to ${DEEPEST}, and not ${depth}`);
   if (typeof position === "string") return Position.parse(position);
@@ -52,6 +52,22 @@ export class Analyst extends EventTarget {
       found[index] = new Entry(moves[index], new Score(0 - result.score.value, "=", ends, place.side));
     }
     return found.sort((one, other) => Score.compare(other.score, one.score));
+  }
+
+  /** The results of a position 2, 4, 6 .. plies deep and at last `depth` (the greatest that can be had, where none is named), each as soon as it is known, by searches
+   * of their own. Late after `timeout` milliseconds in all: its `deepest` is the last result, null where there is none. */
+  async* deepen(position, depth, { timeout, signal } = {}) {
+    const place = checked(position, depth ?? DEEPEST), aim = Math.min(depth ?? DEEPEST, place.empties), until = performance.now() + (timeout ?? 0);
+    for (let step = Math.min(2, aim), found = null; ; step = Math.min(step + 2, aim)) {
+      try {
+        found = await this.analyse(place, step, { signal, ...(timeout !== undefined && { timeout: Math.max(until - performance.now(), 1) }) });
+      } catch (fault) {
+        if (fault instanceof TooDeep && depth === undefined) return;
+        throw fault instanceof Late ? new Late(`deeper searches took longer than ${timeout} ms`, found) : fault;
+      }
+      yield found;
+      if (step === aim) return;
+    }
   }
 
   /**

@@ -26,7 +26,7 @@ export class ClientEvent extends Event {
  * Events: `opened` ({ segments, nodes }), `full`, `silent` and `lost` (a ColuwenError): where there is something to wait for.
  */
 export class Client extends Analyst {
-  #core; #links = new Map(); #open; #timeout; #sessions; #timer; #waiting = 0; #closed = []; // calls that wait, and those of `close`
+  #core; #links = new Map(); #open; #timeout; #sessions; #address; #timer; #waiting = 0; #closed = []; // calls that wait, and those of `close`
 
   constructor(options = {}) {
     super();
@@ -34,9 +34,14 @@ export class Client extends Analyst {
     if (options.token && !/^[!-~]{1,64}$/.test(options.token)) throw new RangeError("a token has 1 to 64 letters, digits and signs");
     const { host, port, secure, dial: dialled, timeout, ...rest } = { host: HOST, port: PORT, secure: false, dial, ...options };
     this.#open = (heard) => dialled({ host, port, secure }, heard);
+    this.#address = `${host}:${port}`;
     [this.#timeout, this.#sessions] = [timeout, rest.sessions ?? 4];
     this.#core = new Core(rest);
   }
+
+  /** The server's `host:port`. */
+  get address() { return this.#address; }
+  toString() { return `Client(${this.#address})`; }
 
   get window() { return 64 * this.#sessions; }
 

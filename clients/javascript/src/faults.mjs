@@ -30,8 +30,13 @@ export class Broken extends ColuwenError {}
 /** The server didn't answer in time what it answers at once: a new session is needed. */
 export class Silent extends ColuwenError {}
 
-/** A job took longer than it was given, and was cancelled. */
-export class Late extends ColuwenError {}
+/** A job took longer than it was given, and was cancelled. `deepest`: the last result of those that `deepen` has given; else null. */
+export class Late extends ColuwenError {
+  constructor(text, deepest = null) {
+    super(text);
+    this.deepest = deepest;
+  }
+}
 
 /** The client or the session was closed: nothing more is sent. */
 export class Closed extends ColuwenError {}
@@ -44,5 +49,13 @@ export class TooDeep extends ColuwenError {
   }
 }
 
-/** A move that the rules don't allow at its position, or a text that is no position. */
+/** A move that the rules don't allow at its position. */
 export class IllegalMove extends ColuwenError {}
+
+/** A text that can't be read: `text` says why, and `file`, `line` and `column` where (from 1; 0 where there is none). */
+export class FormatError extends ColuwenError {
+  constructor(text, { file = "", line = 0, column = 0 } = {}) {
+    super(`${[file || "text", ...[line, column].filter(Boolean)].join(":")}: ${text}`);
+    Object.assign(this, { text, file, line, column });
+  }
+}

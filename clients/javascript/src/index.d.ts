@@ -1,5 +1,3 @@
-import type { ConnectionOptions } from "node:tls";
-
 declare global {
   interface SymbolConstructor { readonly asyncDispose: unique symbol; } // as the language's own types have it from version 5.2 on
 }
@@ -13,22 +11,29 @@ export declare const PASS: "pass";
 export declare const HOST: string;
 export declare const PORT: number;
 
-/** Whatever this package throws of its own. Where an argument is none, it throws RangeError or TypeError before anything is sent. */
+/** Whatever this package throws of its own. Where an argument is none, it throws RangeError or TypeError before anything is sent; of a text FormatError. */
 export declare class ColuwenError extends Error {}
 /** The server answered `ERR number`. */
 export declare class Refused extends ColuwenError { readonly number: number; }
 export declare class Unreachable extends ColuwenError {}
 export declare class Broken extends ColuwenError {}
 export declare class Silent extends ColuwenError {}
-export declare class Late extends ColuwenError {}
+/** `deepest`: the last result of those that `deepen` has given; else null. */
+export declare class Late extends ColuwenError { readonly deepest: Result | null; }
 export declare class Closed extends ColuwenError {}
 export declare class IllegalMove extends ColuwenError {}
+/** A text that can't be read: why, and where, from 1; 0 where there is no line or column. */
+export declare class FormatError extends ColuwenError { readonly text: string; readonly file: string; readonly line: number; readonly column: number; }
 /** `greatest` is a depth that can be had of each position; 0 where nothing is known of less. */
 export declare class TooDeep extends ColuwenError { readonly depth: number; readonly greatest: number; }
 
 export type Side = "X" | "O";
 /** = exactly, < at most, > at least. */
 export type Sign = "=" | "<" | ">";
+
+/** A move: its word, and its number, 0 to 63 for a1 to h8 and 64 for a pass. */
+export declare class Move { constructor(move: AnyMove); readonly word: string; readonly square: number; }
+export type AnyMove = string | number | Move;
 
 export declare class Position {
   constructor(cells?: string, side?: Side);
@@ -40,7 +45,7 @@ export declare class Position {
   readonly empties: number;
   readonly isOver: boolean;
   legalMoves(): string[];
-  play(move: string): Position;
+  play(move: AnyMove): Position;
   flip(): Position;
   equals(other: unknown): boolean;
 }
@@ -96,6 +101,8 @@ export declare abstract class Analyst extends EventTarget {
   close(): Promise<void>;
   readonly window: number;
   analyseAll(position: string | Position, depth: number, how?: How): Promise<Entry[]>;
+  /** The results 2, 4, 6 .. plies deep and at last `depth` (the greatest that can be had, where none is named); Late after `timeout` in all. */
+  deepen(position: string | Position, depth?: number, how?: How): AsyncGenerator<Result, void, void>;
   analyseMany<Asked extends Question>(questions: Iterable<Asked> | AsyncIterable<Asked>, depth?: number, how?: ManyHow): AsyncGenerator<Outcome<Asked>, void, void>;
   [Symbol.asyncDispose](): Promise<void>;
 }
@@ -103,13 +110,15 @@ export declare abstract class Analyst extends EventTarget {
 /** A connection, and what it calls: `received` with each block as a string of its bytes. */
 export interface Link { send(bytes: string): void; close(): void; hold?(isHeld: boolean): void; }
 export interface Heard { opened(): void; received(bytes: string): void; lost(why: string, isFinal: boolean): void; }
-export type Dial = (place: { host: string; port: number; secure: boolean | ConnectionOptions }, heard: Heard) => Link;
+/** What node's `tls.connect` takes, in node. */
+export type Secure = boolean | object;
+export type Dial = (place: { host: string; port: number; secure: Secure }, heard: Heard) => Link;
 
 export interface PlaceOptions {
   host?: string;
   port?: number;
   /** TLS: true, or what `tls.connect` takes. */
-  secure?: boolean | ConnectionOptions;
+  secure?: Secure;
   token?: string;
   /** What connects, where it isn't node's own sockets. */
   dial?: Dial;
@@ -133,6 +142,8 @@ export declare class ClientEvent<Detail> extends Event { readonly detail: Detail
 
 export declare class Client extends Analyst {
   constructor(options?: ClientOptions);
+  /** The server's `host:port`. */
+  readonly address: string;
   addEventListener<Name extends keyof ClientEvents>(name: Name, heard: (event: ClientEvents[Name]) => void, options?: Listened[2]): void;
   addEventListener(name: string, heard: Listened[1], options?: Listened[2]): void;
   removeEventListener<Name extends keyof ClientEvents>(name: Name, heard: (event: ClientEvents[Name]) => void, options?: Parameters<EventTarget["removeEventListener"]>[2]): void;

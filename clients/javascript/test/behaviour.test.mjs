@@ -4,11 +4,12 @@ import { execFileSync, spawn } from "node:child_process";
 import { after, describe, it } from "node:test";
 import readline from "node:readline";
 import { fileURLToPath } from "node:url";
-import { ColuwenError, connect } from "../src/index.mjs";
+import { ColuwenError, FormatError, connect } from "../src/index.mjs";
 
 const ROWS = fileURLToPath(new URL("../../behaviour/rows.py", import.meta.url));
 
 function textOf(fault) {
+  if (fault instanceof FormatError) return "fault Argument";
   if (!(fault instanceof ColuwenError)) return fault instanceof RangeError || fault instanceof TypeError ? "fault Argument" : `fault ${fault.name === "AbortError" ? "Stopped" : fault.stack}`;
   const fields = ["number", "depth", "greatest"].filter((name) => name in fault).map((name) => `${name}=${fault[name]}`);
   return ["fault", fault.constructor.name, ...fields].join(" ");

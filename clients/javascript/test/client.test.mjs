@@ -9,7 +9,7 @@ import readline from "node:readline";
 import test from "node:test";
 import { promisify } from "node:util";
 import { Core } from "../src/core.mjs";
-import { Analyst, Client, Closed, ColuwenError, Entry, Late, Position, Score, TooDeep, Unreachable, connect } from "../src/index.mjs";
+import { Analyst, Client, Closed, ColuwenError, Entry, FormatError, IllegalMove, Late, Move, Position, Score, TooDeep, Unreachable, connect } from "../src/index.mjs";
 
 const OPENING = Position.opening();
 
@@ -160,8 +160,39 @@ test("scores are ordered, and seen by each player", () => {
   assert.equal(OPENING.play("d3").flip().side, "X");
 });
 
+test("a text that is no position says its column", () => {
+  const cells = OPENING.cells;
+  for (const [text, column, why] of [["n", 1, "'n' spells no cell"], [`${cells.slice(0, 9)}é`, 10, "'é' spells no cell"], [`${cells} -`, 66, "behind the 64 cells stands no side to move, X or O"],
+    [`${cells} XX`, 67, "behind the side to move stands more"], [cells, 65, "a position has 64 cells and the side to move, and here are 64 signs"], ["constructor", 1, "'c' spells no cell"], ["", 1, "a position has 64 cells and the side to move, and here are 0 signs"]]) {
+    assert.throws(() => Position.parse(text), (fault) => fault instanceof FormatError && fault.message === `text:${column}: ${why}` && fault.text === why && fault.column === column && fault.line === 0 && fault.file === "");
+  }
+  assert.ok(Position.parse(`\n${cells.replaceAll("-", ".").toLowerCase()}\n*`).equals(OPENING));
+});
+
+test("a move is a word, a number or a Move", () => {
+  for (const move of ["d3", "D3", 19, new Move("D3"), new Move(19), new Move(new Move(19))]) assert.ok(OPENING.play(move).equals(OPENING.play("d3")));
+  const mustPass = new Position(`XO${"-".repeat(62)}`, "O");
+  for (const move of ["pass", 64, new Move(64), new Move("Pass")]) assert.equal(mustPass.play(move).side, "X");
+  assert.deepEqual([new Move("h8").square, new Move("pass").square, String(new Move(0)), `${new Move(64)}`], [63, 64, "a1", "pass"]);
+  for (const wrong of [65, -1, 1.5, null, undefined, {}, "i9", true]) for (const call of [(move) => OPENING.play(move), (move) => new Move(move)]) assert.throws(() => call(wrong), IllegalMove);
+});
+
+test("values as they deepen", () => having(() => sound((depth) => (depth > 8 ? "SPENT" : "DONE")), { segments: 64, nodes: 9000 }, async (client) => {
+  const depths = async (...words) => { const found = []; for await (const { depth } of client.deepen(...words)) found.push(depth); return found; };
+  assert.deepEqual([await depths(OPENING, 7), await depths(OPENING), await depths(OPENING, 1), await depths(OPENING, 0), await depths(new Position("X".repeat(40) + "O".repeat(19) + "-".repeat(5)))], [[2, 4, 6, 7], [2, 4, 6, 8], [1], [0], [2, 4, 5]]);
+  await assert.rejects(depths(OPENING, 10), TooDeep);
+  assert.match(String(client), /^Client\(127\.0\.0\.1:\d+\)$/);
+}));
+
+test("what is too late for a time has the deepest", () => having(() => sound((depth) => (depth > 4 ? "PENDING" : "DONE")), {}, async (client) => {
+  const found = [];
+  await assert.rejects(async () => { for await (const one of client.deepen(OPENING, 8, { timeout: 300 })) found.push(one); }, (fault) => fault instanceof Late && fault.deepest === found.at(-1) && fault.deepest.depth === 4);
+  await assert.rejects(client.analyse(OPENING, 6, { timeout: 30 }), (fault) => fault instanceof Late && fault.deepest === null);
+}));
+
 test("what can't be is told before anything is sent", () => having(() => sound(), {}, async (client, heard) => {
-  for (const [position, depth] of [[OPENING, 6.5], [OPENING, "6"], [OPENING, 13], [OPENING, NaN], ["x", 6], [null, 6], [{}, 6]]) await assert.rejects(client.analyse(position, depth), (fault) => fault instanceof RangeError || fault instanceof TypeError);
+  for (const [position, depth] of [[OPENING, 6.5], [OPENING, "6"], [OPENING, 13], [OPENING, NaN], [null, 6], [{}, 6]]) await assert.rejects(client.analyse(position, depth), (fault) => fault instanceof RangeError || fault instanceof TypeError);
+  await assert.rejects(client.analyse("x", 6), (fault) => fault instanceof FormatError && fault instanceof ColuwenError && fault.column === 2);
   await assert.rejects(client.analyseAll(OPENING, 0), RangeError);
   await assert.rejects(client.analyseMany([OPENING], 6.5).next(), RangeError);
   assert.deepEqual(heard, []);

@@ -71,7 +71,7 @@ test("it is an analyser", () => withEngine({ workers: 2 }, async (engine) => {
   assert.ok((await engine.ping()) >= 0);
   const outcomes = [];
   for await (const outcome of engine.analyseMany([OPENING, "nonsense", OPENING.play("d3")], 3)) outcomes.push(outcome);
-  assert.deepEqual(outcomes.map(({ index, result: found, fault }) => [index, found?.best ?? fault.name]), [[0, "d3"], [1, "RangeError"], [2, "c5"]]);
+  assert.deepEqual(outcomes.map(({ index, result: found, fault }) => [index, found?.best ?? fault.name]), [[0, "d3"], [1, "FormatError"], [2, "c5"]]);
   await assert.rejects(engine.analyse(OPENING, 13), RangeError);
   await assert.rejects(engine.analyse(OPENING, 2.5), RangeError);
 }));

@@ -161,6 +161,21 @@ def test_compare(tmp_path: pathlib.Path, capsys: pytest.CaptureFixture[str]) -> 
             rows_of(str(theirs))
 
 
+def test_dask_by_debians_python(tmp_path: pathlib.Path, monkeypatch: pytest.MonkeyPatch) -> None:
+    """Where this Python hasn't it, and isn't Debian's."""
+    begun: list[object] = []
+    monkeypatch.setattr(sys, "prefix", "/opt/python")
+    monkeypatch.setattr(sys, "argv", ["coluwen-batch", "--dask", "tcp://127.0.0.1:1", "r.csv"])
+    monkeypatch.setattr(batch.importlib.util, "find_spec", lambda name: None)
+    monkeypatch.setattr(batch.os, "execve", lambda *words: begun.extend(words) or sys.exit(9))
+    monkeypatch.setattr(batch, "DEBIAN", tmp_path)
+    (tmp_path / "distributed").mkdir()
+    with pytest.raises(SystemExit):
+        batch.main(None)
+    assert begun[:2] == ["/usr/bin/python3", ["/usr/bin/python3", "-m", "coluwen.tools.batch", "--dask", "tcp://127.0.0.1:1", "r.csv"]]
+    assert pathlib.Path(begun[2]["PYTHONPATH"], "coluwen/tools/batch.py").is_file()  # type: ignore[index, call-overload]
+
+
 def test_plot() -> None:
     rows = [Row(OPENING, "6", value, ("d3",), taken) for value, taken in (("0", 1.0), ("-1184", 3.0), ("1184", 3.5), ("6000", 100.0), ("-128000", 0.4))] + [Row(OPENING, "6", "SPENT", ("",))]
     xml.etree.ElementTree.fromstring(draw(rows, "a <title> & more"))

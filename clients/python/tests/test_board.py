@@ -9,7 +9,7 @@ from collections.abc import Iterator
 import hypothesis
 import hypothesis.strategies as st
 import pytest
-from coluwen import SQUARES, Board, IllegalMove, Position
+from coluwen import SQUARES, Board, IllegalMove, Move, Position
 from coluwen.tools.match import Player, Table, elo, elo_text, match, mean_and_error
 
 
@@ -159,3 +159,22 @@ def test_several_games_at_once() -> None:
 def test_elo() -> None:
     assert elo(0.5) == 0 and elo(10 / 11) == pytest.approx(400) and elo(1 / 11) == pytest.approx(-400)
     assert elo_text(0.5, 0.05) == "+0 (-35 to +35)" and "isn't known" in elo_text(1, 0) and elo_text(0.9, 0.2) == "+382 (+147 to unknown)"
+
+
+def test_a_move_is_a_word_a_number_or_a_move_in_every_call() -> None:
+    opening = Position.opening()
+    for move in ("d3", "D3", 19, Move("d3"), Move(19)):
+        assert opening.play(move) == opening.play("d3") and opening.is_legal(move) and opening.flips(move) == ["d4"]
+        assert Board().push(move) == Board(moves=(move,)) == Board().push("d3") and Board().push(move).moves == ("d3",)
+    must_pass = Position("XO" + "-" * 62, "O")
+    for move in ("pass", "PASS", 64, Move(64), Move("Pass")):
+        assert must_pass.play(move).side == "X" and must_pass.is_legal(move) and Board(must_pass).push(move).moves == ("pass",)
+    assert (Move("H8").square, Move("pass").square, Move(0), {Move("d3"): 1}["d3"], [Move(square).square for square in range(65)]) == (63, 64, "a1", 1, list(range(65)))
+    for wrong in (65, -1, True, 1.5, None, b"d3"):
+        for call in (opening.play, opening.is_legal, opening.flips, Board().push, Move):
+            with pytest.raises(IllegalMove):
+                call(wrong)  # type: ignore[arg-type, operator]
+    for word in ("i9", "", "d33"):
+        with pytest.raises(IllegalMove):
+            Move(word)
+        assert not opening.is_legal(word)

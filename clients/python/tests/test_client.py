@@ -4,14 +4,19 @@ from __future__ import annotations
 import asyncio
 import concurrent.futures
 import copy
+import importlib.util
 import logging
+import os
+import pathlib
 import pickle
+import subprocess
+import sys
 import threading
 import time
 
 import coluwen
 import pytest
-from coluwen import AsyncClient, Broken, Client, Closed, ColuwenError, Entry, Late, Position, Progress, Refused, Result, Score, Session, Silent, TooDeep, Unreachable
+from coluwen import AsyncClient, Broken, Client, Closed, ColuwenError, Entry, Late, Outcome, Position, Progress, Refused, Result, Score, Session, Silent, TooDeep, Unreachable
 from coluwen.client import url_of
 from told import sound, told, value_of
 
@@ -296,3 +301,41 @@ def test_what_is_public_is_documented() -> None:
             if not part.startswith("_") and callable(value) and part not in ("conjugate",):
                 assert any(getattr(getattr(base, part, None), "__doc__", None) for base in one.__mro__), f"{name}.{part}"
     assert not [name for name in vars(Client("127.0.0.1", 1)) if not name.startswith("_") and name not in ("parallel",)]
+
+
+def test_a_client_says_its_address_and_no_token() -> None:
+    for client in (Client("host.example", 5, token="secret"), AsyncClient("host.example", 5, token="secret")):
+        assert repr(client) == f"{type(client).__name__}('host.example:5')"
+
+
+def test_a_pair_of_many_has_its_types(tmp_path: pathlib.Path) -> None:
+    """As mypy --strict sees a caller's program: what is asked comes back by its own type, and the answer is a result or a fault."""
+    mypy = importlib.util.find_spec("mypy")
+    outcome = Outcome("x", Closed("it was"), 7)
+    question, answer = outcome
+    assert (question, answer, outcome.question, outcome.number) == ("x", outcome.answer, "x", 7)
+    assert (copy := pickle.loads(pickle.dumps(outcome))).number == 7 and copy.question == "x"
+    if not mypy:
+        pytest.skip("mypy isn't here")
+    (tmp_path / "own.py").write_text("""
+from typing import assert_type
+from coluwen import AsyncClient, ColuwenError, Engine, Move, Outcome, Position, Result
+places: list[Position] = [Position.opening().play(19), Position.opening().play("d3"), Position.opening().play(Move("d3"))]
+with Engine() as engine:
+    for place, answer in engine.analyse_many(places, 4):
+        assert_type(place, Position)
+        assert_type(answer, Result | ColuwenError)
+    for one in engine.analyse_many([("x", 4)]):
+        assert_type(one, Outcome[tuple[str, int]])
+        assert_type(one.question, tuple[str, int])
+        assert_type(one.number, int)
+    for found in engine.deepen(places[0], timeout=1):
+        assert_type(found, Result)
+async def other(client: AsyncClient) -> None:
+    async for word, answer in client.analyse_many(["x"], 4):
+        assert_type(word, str)
+        assert_type(answer, Result | ColuwenError)
+""")
+    words = [sys.executable, "-m", "mypy", "--strict", "--cache-dir", str(tmp_path / "cache"), "own.py"]
+    run = subprocess.run(words, cwd=tmp_path, env={**os.environ, "MYPYPATH": str(pathlib.Path(coluwen.__file__).parents[1])}, capture_output=True, text=True, check=False)
+    assert run.returncode == 0, run.stdout

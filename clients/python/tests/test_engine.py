@@ -3,6 +3,7 @@
 The program here does as the test says; what the program itself answers clients/trial tries."""
 import asyncio
 import concurrent.futures
+import contextlib
 import os
 import pathlib
 import pickle
@@ -12,7 +13,7 @@ import time
 
 import pytest
 
-from coluwen import AsyncEngine, Broken, Closed, Engine, Late, Position, Result, TooDeep, Unreachable
+from coluwen import AsyncEngine, Broken, Closed, Engine, Late, Position, Result, Score, TooDeep, Unreachable
 from coluwen.analyst import Analyst
 from coluwen import engine as engine_module
 from coluwen.engine import Fallback, programs_here, runs_v3
@@ -25,6 +26,11 @@ import os, sys, time
 if sys.argv[1:] == ["--version"]:
     print("othello 9.9.9")
     sys.exit()
+if sys.argv[1] == "serve":
+    sys.path[:0] = ["{here}", "{source}"]
+    from told import Told, sound
+    print(f"listening 127.0.0.1:{{Told(sound(int(sys.argv[-1]), lambda depth, nodes: 'SPENT' if depth > 10 else 'PENDING' if depth == 9 else 'DONE')).port}}", flush=True)
+    time.sleep(600)
 for line in sys.stdin:
     depth, side = int(line.split()[0]), line.split()[2]
     if side == "O":
@@ -45,7 +51,8 @@ WHITE = OPENING.flip()
 @pytest.fixture
 def false(tmp_path: pathlib.Path) -> str:
     program = tmp_path / "othello"
-    program.write_text(FALSE.format(python=sys.executable))
+    here = pathlib.Path(__file__).resolve().parent
+    program.write_text(FALSE.format(python=sys.executable, here=here, source=here.parent / "src"))
     program.chmod(0o755)
     return str(program)
 
@@ -287,3 +294,84 @@ def test_commands_say_that_nothing_gives_values(tmp_path: pathlib.Path) -> None:
     assert told.returncode == 1 and "127.0.0.1:9" in told.stderr
     told = command("coluwen.tools.lines", "--server", "127.0.0.1:9", "--fallback", "engine", false=str(tmp_path / "none"))
     assert told.returncode == 1 and "isn't the program" in told.stderr
+
+
+def descendants(pid: int) -> list[int]:
+    found = [int(word) for task in pathlib.Path(f"/proc/{pid}/task").glob("*/children") for word in task.read_text().split()]
+    return found + [one for child in found for one in descendants(child)]
+
+
+def test_threads_search_together_by_a_server_of_the_engine(false: str) -> None:
+    """Each depth by a server whose grain suits it (the value that this one gives), what is too deep for any by one process; none is left."""
+    with Engine(1, threads=3, program=false) as engine:
+        assert not descendants(os.getpid()) and engine.info().sure == 12 and "threads=3" in repr(engine)
+        assert [engine.analyse(OPENING, depth).score.value for depth in (4, 8, 10, 11)] == [4, 4, 6, 110]
+        with pytest.raises(Late):
+            engine.analyse(OPENING, 9, timeout=0.2)
+        begun = descendants(os.getpid())
+        assert len(begun) >= 6
+        for pid in begun:  # each server is lost, and begun again
+            with contextlib.suppress(ProcessLookupError):
+                os.kill(pid, 9)
+        assert until(lambda: children() == {} or all(state == "Z" for state in children().values()))
+        assert engine.analyse(OPENING, 7).score.value == 4
+    assert children() == {} and until(lambda: not descendants(os.getpid()))
+    with pytest.raises(Closed):
+        engine.analyse(OPENING, 1)
+    for threads in (0, 33, 1.5, True):
+        with pytest.raises(ValueError):
+            Engine(threads=threads, program=false)  # type: ignore[arg-type]
+
+
+def test_a_server_ends_with_a_program_that_is_killed(false: str) -> None:
+    script = f"import os; from coluwen import Engine, Position; Engine(threads=2, program={false!r}).analyse(Position.opening(), 4); print(1, flush=True); os.kill(os.getpid(), 9)"
+    around = {**os.environ, "PYTHONPATH": str(pathlib.Path(__file__).resolve().parents[1] / "src")}
+    subprocess.run([sys.executable, "-c", script], env=around, capture_output=True, check=False, timeout=60)
+    assert until(lambda: not [path for path in pathlib.Path("/proc").glob("[0-9]*/cmdline") if false.encode() in read_or_nothing(path)])
+
+
+def read_or_nothing(path: pathlib.Path) -> bytes:
+    try:
+        return path.read_bytes()
+    except OSError:
+        return b""
+
+
+class Four(Shallow):
+    """Has depth 4 at most."""
+
+    def submit(self, position: str | Position, depth: int, *, timeout: float | None = None) -> concurrent.futures.Future[Result]:
+        future = concurrent.futures.Future[Result]()
+        if depth > 4:
+            future.set_exception(TooDeep(depth, 4))
+        else:
+            future.set_result(Result(OPENING, depth, Score(depth), "d3"))
+        return future
+
+
+def test_values_as_they_deepen(false: str) -> None:
+    """2, 4, 6 .. and the depth itself, no deeper than squares are empty; a time for all, whose fault has the deepest; also by asyncio."""
+    late = OPENING.flip()
+    near = Position("X" * 40 + "O" * 19 + "-" * 5)
+
+    async def by_asyncio(position: Position, depth: int | None) -> list[int]:
+        async with AsyncEngine(1, program=false) as other:
+            return [found.depth async for found in other.deepen(position, depth)]
+
+    with Engine(1, program=false) as engine:
+        for position, depth, wanted in ((OPENING, 7, [2, 4, 6, 7]), (OPENING, None, [2, 4, 6, 8, 10, 12]), (near, None, [2, 4, 5]), (near, 4, [2, 4]), (OPENING, 1, [1]), (OPENING, 0, [0])):
+            results = list(engine.deepen(position, depth))
+            assert [result.depth for result in results] == wanted and [result.score.value for result in results] == [10 * one for one in wanted]
+            assert asyncio.run(by_asyncio(position, depth)) == wanted
+        given = []
+        with pytest.raises(Late) as fault:
+            for result in engine.deepen(late, 12, timeout=1.5):  # (its twelfth ply hangs)
+                given.append(result)
+        assert fault.value.deepest is given[-1] and given[-1].depth == 10 and fault.value.seconds == 1.5
+        assert pickle.loads(pickle.dumps(fault.value)).deepest == given[-1]
+        with pytest.raises(Late) as fault:
+            engine.analyse(late, 12, timeout=0.1)
+        assert fault.value.deepest is None
+    assert [result.depth for result in Four().deepen(OPENING)] == [2, 4]
+    with pytest.raises(TooDeep):
+        list(Four().deepen(OPENING, 6))

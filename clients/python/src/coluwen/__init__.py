@@ -10,7 +10,7 @@ part, and changes as CHANGELOG.md promises; any other module is its own matter.
 from ._core import Info, Reservation
 from .aio import AsyncClient
 from .analyst import Analyst, Outcome, Progress, Result
-from .board import BLACK, PASS, SQUARES, START, WHITE, Board, Position
+from .board import BLACK, PASS, SQUARES, START, WHITE, Board, Move, Position
 from .client import Client, connect, tls_context, token_in
 from .engine import AsyncEngine, Engine, Fallback
 from .errors import FAULTS, Broken, Closed, ColuwenError, FormatError, IllegalMove, Late, Refused, Silent, TooDeep, Unreachable
@@ -21,6 +21,6 @@ __version__ = "1.0.0"
 __all__ = [
     "BLACK", "FAULTS", "PASS", "SQUARES", "START", "WHITE", "Analyst", "AsyncClient", "AsyncEngine", "Board", "Broken", "Cancelled", "Client",
     "Closed", "ColuwenError", "Done", "Engine", "Entry",
-    "Fallback", "FormatError", "IllegalMove", "Info", "Late", "Live", "Outcome", "Pending", "Position", "Progress", "Quota", "Refused", "Reservation", "Result", "Score", "Session",
-    "Silent", "Spent", "TooDeep", "Unreachable", "connect", "tls_context", "token_in",
+    "Fallback", "FormatError", "IllegalMove", "Info", "Late", "Live", "Move", "Outcome", "Pending", "Position", "Progress", "Quota", "Refused", "Reservation", "Result", "Score",
+    "Session", "Silent", "Spent", "TooDeep", "Unreachable", "connect", "tls_context", "token_in",
 ]  # fmt: skip

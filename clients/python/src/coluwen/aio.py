@@ -14,9 +14,10 @@ from collections.abc import AsyncIterable, AsyncIterator, Callable, Iterable
 from typing import Self
 
 from ._core import Info
-from .analyst import END, Asked, Many, Order, Outcome, Progress, Result, all_of, checked, moves_of, parts_of
+from .analyst import END, Many, Order, Outcome, Progress, Q, Result, all_of, checked, moves_of, parts_of, steps_of
 from .board import Position
 from .client import Served
+from .errors import Late, TooDeep
 from .score import Entry
 
 
@@ -40,8 +41,22 @@ class AsyncClient(Served):
         with all_of(depth, tasks):
             return moves_of(place, depth, await asyncio.gather(*tasks))
 
-    async def analyse_many(self, positions: Iterable[Asked] | AsyncIterable[Asked], depth: int | None = None, *, order: Order = "asked", timeout: float | None = None,
-                           window: int | None = None, on_progress: Callable[[Progress], object] | None = None) -> AsyncIterator[Outcome]:  # fmt: skip
+    async def deepen(self, position: str | Position, depth: int | None = None, *, timeout: float | None = None) -> AsyncIterator[Result]:
+        """As `Client.deepen`."""
+        found, begun = None, asyncio.get_running_loop().time()
+        for step in steps_of(position, depth):
+            try:
+                left = None if timeout is None else max(begun + timeout - asyncio.get_running_loop().time(), 0.001)
+                yield (found := await self.analyse(position, step, timeout=left))
+            except Late:
+                raise Late(timeout or 0.0, found) from None
+            except TooDeep:
+                if depth is None:
+                    return
+                raise
+
+    async def analyse_many(self, positions: Iterable[Q] | AsyncIterable[Q], depth: int | None = None, *, order: Order = "asked", timeout: float | None = None,
+                           window: int | None = None, on_progress: Callable[[Progress], object] | None = None) -> AsyncIterator[Outcome[Q]]:  # fmt: skip
         """As `Client.analyse_many`; the positions may come from an asynchronous source."""
         ended: asyncio.Queue[Callable[[], None]] = asyncio.Queue()
         many = Many(positions, depth, order, 64 * self.parallel if window is None else window, on_progress,
@@ -73,6 +88,6 @@ class AsyncClient(Served):
             await self._driver.close()
 
 
-async def _slowly(positions: Iterable[Asked]) -> AsyncIterator[Asked]:
+async def _slowly(positions: Iterable[Q]) -> AsyncIterator[Q]:
     for position in positions:
         yield position

@@ -8,15 +8,16 @@ import functools
 import queue
 import time
 from collections.abc import Callable, Iterable, Iterator, Sequence, Sized
-from typing import Any, Literal, Self
+from typing import Any, Literal, Self, TypeVar
 
 from ._core import DEEPEST, Found, Info
 from .board import PASS, Position
-from .errors import ColuwenError, FormatError, TooDeep
+from .errors import ColuwenError, FormatError, Late, TooDeep
 from .score import Entry, Score
 
 Order = Literal["asked", "known"]
 Asked = str | Position | tuple[str | Position, int]
+Q = TypeVar("Q", bound=Asked)
 END: Any = object()  # of a source
 
 
@@ -35,16 +36,26 @@ class Result:
     nodes: int | None = None
 
 
-@dataclasses.dataclass(frozen=True)
-class Outcome:
-    """What became of one of many: `question` as it was given, its number (from 0), and `answer`: a `Result` or a fault."""
+class Outcome(tuple[Q, Result | ColuwenError]):
+    """What became of one of many: a pair of the `question` as it was given and its `answer`, a `Result` or a fault; and its `number`, from 0."""
 
-    question: Any
-    answer: Result | ColuwenError
     number: int
 
-    def __iter__(self) -> Iterator[Any]:
-        return iter((self.question, self.answer))
+    def __new__(cls, question: Q, answer: Result | ColuwenError, number: int) -> Self:
+        self = super().__new__(cls, (question, answer))  # type: ignore[arg-type]
+        self.number = number
+        return self
+
+    @property
+    def question(self) -> Q:
+        return self[0]
+
+    @property
+    def answer(self) -> Result | ColuwenError:
+        return self[1]
+
+    def __getnewargs__(self) -> tuple[Q, Result | ColuwenError, int]:
+        return (*self, self.number)
 
 
 @dataclasses.dataclass(frozen=True)
@@ -70,6 +81,13 @@ def checked(position: str | Position, depth: int, least: int = 0) -> Position:
         return position if isinstance(position, Position) else Position.parse(position)
     except FormatError as fault:
         raise Unfit(*fault.args) from None
+
+
+def steps_of(position: str | Position, depth: int | None) -> list[int]:
+    """The depths of a search that deepens: no further than there are empty squares, as that is the game's end."""
+    place = checked(position, DEEPEST if depth is None else depth)
+    aim = min(DEEPEST if depth is None else depth, place.empties)
+    return [*range(2, aim, 2), aim]
 
 
 def settle(future: concurrent.futures.Future[Result], outcome: Result | BaseException) -> None:
@@ -125,7 +143,7 @@ class Many:
         self.is_over = False  # the source has no more
         self.taken = self.given = self.faults = 0
         self.begun: dict[int, Any] = {}  # futures by their numbers
-        self.known: dict[int, Outcome] = {}
+        self.known: dict[int, Outcome[Any]] = {}
 
     @property
     def has_room(self) -> bool:
@@ -154,7 +172,7 @@ class Many:
             raise fault
         self.known[number] = Outcome(asked, fault or future.result(), number)
 
-    def ready(self) -> Iterator[Outcome]:
+    def ready(self) -> Iterator[Outcome[Any]]:
         """What may be given on."""
         while self.known and (not self.in_order or self.given in self.known):
             outcome = self.known.pop(self.given if self.in_order else next(iter(self.known)))
@@ -215,8 +233,23 @@ class Analyst(abc.ABC):
         with all_of(depth, futures):
             return moves_of(place, depth, [future.result() for future in futures])
 
-    def analyse_many(self, positions: Iterable[Asked], depth: int | None = None, *, order: Order = "asked", timeout: float | None = None, window: int | None = None,
-                     on_progress: Callable[[Progress], object] | None = None) -> Iterator[Outcome]:  # fmt: skip
+    def deepen(self, position: str | Position, depth: int | None = None, *, timeout: float | None = None) -> Iterator[Result]:
+        """The results of a position 2, 4, 6 .. plies deep and at last `depth` (the greatest that can be had, where none is named), each as soon as it is known, by
+        searches of their own. `Late` after `timeout` seconds in all: its `deepest` is the last result, None where there is none."""
+        found, begun = None, time.monotonic()
+        for step in steps_of(position, depth):
+            try:
+                left = None if timeout is None else max(begun + timeout - time.monotonic(), 0.001)
+                yield (found := self.analyse(position, step, timeout=left))
+            except Late:
+                raise Late(timeout or 0.0, found) from None
+            except TooDeep:
+                if depth is None:
+                    return
+                raise
+
+    def analyse_many(self, positions: Iterable[Q], depth: int | None = None, *, order: Order = "asked", timeout: float | None = None, window: int | None = None,
+                     on_progress: Callable[[Progress], object] | None = None) -> Iterator[Outcome[Q]]:  # fmt: skip
         """The same of any number of positions, or pairs of a position and a depth, also without end: an `Outcome` (question, result or fault)
         for each, as soon as it is known, in the order in which they are `asked`, or as they are `known`.
 
@@ -227,7 +260,7 @@ class Analyst(abc.ABC):
         return self._many(Many(positions, depth, order, 64 * self.parallel if window is None else window, on_progress, begin, ended.put), ended, iter(positions))
 
     @staticmethod
-    def _many(many: Many, ended: queue.SimpleQueue[Callable[[], None]], source: Iterator[Asked]) -> Iterator[Outcome]:
+    def _many(many: Many, ended: queue.SimpleQueue[Callable[[], None]], source: Iterator[Q]) -> Iterator[Outcome[Q]]:
         with contextlib.closing(many):
             while True:
                 yield from many.ready()

@@ -1,7 +1,8 @@
 """The rules of Othello: positions, legal moves, what a move flips; and a game that is being played.
 
 A position is written with 66 letters: 64 cells from a1 to h8, row by row from the top (X a black disc, O a white one, - an empty
-cell), a space, and the side to move. A move is a square, `d3`, or `pass`.
+cell), a space, and the side to move. A move is a square, `d3`, or `pass`; each call takes it as that word, as a `Move`, or as a number, 0 to 63 for a1 to h8
+and 64 for a pass.
 
     position = Position.opening()
     position.legal_moves()                 # ['d3', 'c4', 'f5', 'e6']
@@ -29,7 +30,32 @@ LENGTH = 66  # letters of a position's text
 # The discs of a board as one number: bit n for a black disc on square n (0 to 63), bit 64 + n for a white one.
 BIT = {BLACK: [1 << at for at in range(64)], WHITE: [1 << at + 64 for at in range(64)]}
 EITHER = BIT[BLACK][0] | BIT[WHITE][0]  # both bits of square 0
+WORDS = [*SQUARES, PASS]  # of a move's number
 _BLACKS, _WHITES = str.maketrans("XO-", "100"), str.maketrans("XO-", "010")
+
+
+def word_of(move: str | int) -> str:
+    """A move's word. `IllegalMove` where it is none by its kind or number; whether a word is one the rules say."""
+    if isinstance(move, str):
+        return move.lower()
+    if isinstance(move, bool) or not isinstance(move, int) or not 0 <= move < len(WORDS):
+        raise IllegalMove(f"{move!r} is no move: a word, or a number from 0 to 64")
+    return WORDS[move]
+
+
+class Move(str):
+    """A move, which is its word: `Move("D3") == Move(19) == "d3"`. `IllegalMove` where there is no such square."""
+
+    def __new__(cls, move: str | int) -> Move:
+        word = word_of(move)
+        if word not in WORDS:
+            raise IllegalMove(f"{move!r} is no move: a square, or pass")
+        return super().__new__(cls, word)
+
+    @property
+    def square(self) -> int:
+        """Its number: 0 to 63, and 64 of a pass."""
+        return INDEX.get(self, len(SQUARES))
 
 
 @functools.cache
@@ -149,18 +175,18 @@ class Position:
         """Whether neither player can move."""
         return not can_move(self._discs, self.side) and not can_move(self._discs, OTHER[self.side])
 
-    def flips(self, square: str) -> list[str]:
-        """The squares whose discs a move there flips: none where it isn't legal."""
-        flipped = changes(self._discs, self.side, INDEX.get(square.lower()))
+    def flips(self, move: str | int) -> list[str]:
+        """The squares whose discs a move flips: none where it isn't legal."""
+        flipped = changes(self._discs, self.side, INDEX.get(word_of(move)))
         return [one for at, one in enumerate(SQUARES) if flipped >> at & 1]
 
-    def is_legal(self, move: str) -> bool:
+    def is_legal(self, move: str | int) -> bool:
         """Whether the player to move may make this move."""
-        return bool(self.flips(move)) if move.lower() != PASS else self.must_pass
+        return bool(self.flips(move)) if word_of(move) != PASS else self.must_pass
 
-    def play(self, move: str) -> Position:
+    def play(self, move: str | int) -> Position:
         """The position after a move. `IllegalMove` where the rules don't allow it; a player who can't move must `pass`."""
-        word = move.lower()
+        word = word_of(move)
         if word == PASS:
             if not self.must_pass:
                 raise IllegalMove(f"a pass, and {'the game is over' if self.is_over else NAMES[self.side] + ' can move'}")
@@ -216,6 +242,7 @@ class Board:
 
     def __post_init__(self) -> None:
         if not self._past:
+            object.__setattr__(self, "moves", tuple(map(word_of, self.moves)))
             object.__setattr__(self, "_past", (*itertools.accumulate(self.moves, Position.play, initial=self.start),))
 
     @classmethod
@@ -245,11 +272,12 @@ class Board:
         """What `push` takes without a pass before it."""
         return self.position.legal
 
-    def push(self, move: str) -> Board:
+    def push(self, move: str | int) -> Board:
         """The board after a move, with a pass before it where the player to move has none but that. `IllegalMove` where it isn't allowed."""
-        if move.lower() != PASS and self.position.must_pass:
-            return self.push(PASS).push(move)
-        return Board(self.start, (*self.moves, move.lower()), (*self._past, self.position.play(move)))
+        word = word_of(move)
+        if word != PASS and self.position.must_pass:
+            return self.push(PASS).push(word)
+        return Board(self.start, (*self.moves, word), (*self._past, self.position.play(word)))
 
     def pop(self) -> Board:
         """The board before the last move, and before a pass that stands before it; itself at the start."""

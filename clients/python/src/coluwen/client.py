@@ -161,6 +161,9 @@ class Served:
         """The server's `host:port`."""
         return self._options.address
 
+    def __repr__(self) -> str:
+        return f"{type(self).__name__}({self.address!r})"
+
     def _loop(self) -> asyncio.AbstractEventLoop:
         """Where the connections live."""
         return asyncio.get_running_loop()

@@ -8,6 +8,7 @@ import asyncio
 import concurrent.futures
 import contextlib
 import functools
+import math
 import os
 import pathlib
 import queue
@@ -23,11 +24,15 @@ from ._core import DEEPEST, Found, Info
 from .aio import AsyncClient
 from .analyst import Analyst, Result, checked, result_of, settle
 from .board import Position
+from .client import Client
 from .errors import Broken, Closed, ColuwenError, Late, Refused, TooDeep, Unreachable
 from .score import AT_MOST, EXACT
 
 PROGRAM = "COLUWEN_OTHELLO"  # the variable that names the program
-OPTIONS = ("solve", "--visited")  # one search for each line: the fastest of what `solve` has
+SEARCH = ("solve", "--visited")  # one search for each line: the fastest of what `solve` has
+SERVE = ("serve", "--sessions", "1000", "--segments", "65536", "--nodes", "4194304")
+WATCH = '"$@" < /dev/null & cat > /dev/null; kill $!'  # of sh: a server ends with the input that whoever began it holds, however that ends
+GRAINS = range(4, 7)  # of an engine's own servers: as deep as is fastest, and as deep as they go
 TRIES = 3  # of a question whose processes end
 LONGEST = 64  # bytes of an answer
 ANSWER = re.compile(rb"(0|-?[1-9][0-9]{0,5}) ([a-h][1-8]|pass|-) ([1-9][0-9]*)\n")
@@ -153,7 +158,7 @@ class Pool:
                 return b""
             try:  # in a process group of its own: Ctrl-C at the terminal is this program's matter
                 question.process = process = self.spare.pop() if self.spare else subprocess.Popen(
-                    [self.program, *OPTIONS], bufsize=0, process_group=0, stdin=subprocess.PIPE, stdout=subprocess.PIPE, stderr=subprocess.DEVNULL)  # fmt: skip
+                    [self.program, *SEARCH], bufsize=0, process_group=0, stdin=subprocess.PIPE, stdout=subprocess.PIPE, stderr=subprocess.DEVNULL)  # fmt: skip
             except OSError as fault:
                 raise Unreachable(f"{self.program}: {fault.strerror or fault}") from fault
             self.running.add(question)
@@ -197,24 +202,79 @@ class Pool:
                 process.kill()
 
 
+class Server:
+    """A server that is this process's own, and its client: all its threads search a position together."""
+
+    def __init__(self, program: str, threads: int, grain: int):
+        words = ["sh", "-c", WATCH, "sh", program, *SERVE, "--workers", str(threads), "--grain", str(grain)]
+        self.process = subprocess.Popen(words, process_group=0, stdin=subprocess.PIPE, stdout=subprocess.PIPE, stderr=subprocess.DEVNULL)
+        assert self.process.stdout
+        if not (told := re.fullmatch(rb"listening 127\.0\.0\.1:(\d+)\n", self.process.stdout.readline())):
+            self.process.communicate()
+            raise Unreachable(f"{program} serves nothing")
+        self.client = Client("127.0.0.1", int(told[1]), silence=60.0, outage=0.0)
+
+    def close(self) -> None:
+        self.client.close()
+        self.process.communicate()
+
+
+class Servers:
+    """Those of an engine by their grain, each begun when it is first asked for, and again where it has ended."""
+
+    def __init__(self, program: str, threads: int):
+        self.program, self.threads, self.lock = program, threads, threading.Lock()
+        self.begun: dict[int, Server] = {}
+        self.closed = False
+
+    def client_for(self, depth: int) -> Client:
+        grain = min(max(depth - 4, GRAINS[0]), GRAINS[-1])
+        with self.lock:
+            if self.closed:
+                raise Closed("the engine is closed")
+            if grain in self.begun and self.begun[grain].process.poll() is not None:
+                self.begun.pop(grain).close()
+            if grain not in self.begun:
+                self.begun[grain] = Server(self.program, self.threads, grain)
+            return self.begun[grain].client
+
+    def close(self) -> None:
+        with self.lock:
+            self.closed = True
+            for server in self.begun.values():
+                server.close()
+            self.begun.clear()
+
+
 class Engine(Analyst):
     """Answers any number of positions by processes of the program `othello`, `workers` of them (one for each processor where nothing is said);
     threads may share it. No depth is beyond it. `program` names it, where it isn't found by itself (`program_of`). `timeout`: the seconds that a
-    question may take from when its search begins."""
+    question may take from when its search begins.
 
-    def __init__(self, workers: int | None = None, *, program: str | None = None, timeout: float | None = None):
+    `threads`: so many search each position together, by a server of its own (`othello serve`), which begins with the first question and ends with the
+    engine; what is too deep for such a server one process searches."""
+
+    def __init__(self, workers: int | None = None, *, threads: int | None = None, program: str | None = None, timeout: float | None = None):
         workers = len(os.sched_getaffinity(0)) if workers is None else workers
-        if isinstance(workers, bool) or not isinstance(workers, int) or workers < 1:
-            raise ValueError(f"workers is a whole number from 1 on, and not {workers!r}")
+        for name, number, most in (("workers", workers, math.inf), ("threads", 1 if threads is None else threads, 32)):
+            if isinstance(number, bool) or not isinstance(number, int) or not 1 <= number <= most:
+                raise ValueError(f"{name} is a whole number from 1 {'on' if most == math.inf else f'to {most}'}, and not {number!r}")
         if timeout is not None and not timeout >= 0:
             raise ValueError(f"timeout is a number of seconds, and not {timeout!r}")
         self.program, self.version = program_of(program)
         self.parallel, self._timeout = workers, timeout
-        self._pool = Pool(self.program, workers)
-        self._ended = weakref.finalize(self, self._pool.close)  # also where the interpreter ends
+        self._pool, self._servers = Pool(self.program, workers), Servers(self.program, threads or 0)
+        self._lone = Engine(workers, program=self.program, timeout=timeout) if threads else None
+        self._ended = weakref.finalize(self, lambda *all_of_them: [one.close() for one in all_of_them], self._pool, self._servers)  # also where the interpreter ends
+
+    def __repr__(self) -> str:
+        return f"Engine({self.parallel}, threads={self._servers.threads or None}, program={self.program!r})"
 
     def submit(self, position: str | Position, depth: int, *, timeout: float | None = None) -> concurrent.futures.Future[Result]:
-        question = Question(checked(position, depth), depth, self._timeout if timeout is None else timeout)
+        place, timeout = checked(position, depth), self._timeout if timeout is None else timeout
+        if self._lone:
+            return Fallback(self._servers.client_for(depth), self._lone).submit(place, depth, timeout=timeout)
+        question = Question(place, depth, timeout)
         self._pool.ask(question)
         return question.future
 
@@ -225,6 +285,8 @@ class Engine(Analyst):
     def close(self) -> None:
         """Ends the processes, and waits until they have. Calls that wait, and later ones, raise `Closed`."""
         self._ended()
+        if self._lone:
+            self._lone.close()
 
 
 class Fallback(Analyst):
@@ -268,9 +330,12 @@ class Fallback(Analyst):
 class AsyncEngine(AsyncClient):
     """The same as `Engine` for asyncio, or as another analyst, where one is given. A task that is cancelled gives its question up."""
 
-    def __init__(self, workers: int | None = None, *, program: str | None = None, timeout: float | None = None, analyst: Analyst | None = None):
-        self._analyst = analyst or Engine(workers, program=program, timeout=timeout)
+    def __init__(self, workers: int | None = None, *, threads: int | None = None, program: str | None = None, timeout: float | None = None, analyst: Analyst | None = None):
+        self._analyst = analyst or Engine(workers, threads=threads, program=program, timeout=timeout)
         self.parallel = self._analyst.parallel
+
+    def __repr__(self) -> str:
+        return f"{type(self).__name__}(analyst={self._analyst!r})"
 
     async def analyse(self, position: str | Position, depth: int, *, timeout: float | None = None) -> Result:
         return await asyncio.wrap_future(self._analyst.submit(position, depth, timeout=timeout))

@@ -1,6 +1,8 @@
 """What can go wrong, each by an exception of its own; all are a `ColuwenError`. They can be pickled and copied, and what they tell in numbers
 is an attribute."""
 
+from typing import Any
+
 FAULTS = {
     10: "no segment is left",
     11: "no node is left",
@@ -51,11 +53,11 @@ class Silent(ColuwenError, TimeoutError):
 
 
 class Late(ColuwenError, TimeoutError):
-    """A job took longer than it was given, `seconds`, and was cancelled."""
+    """A job took longer than it was given, `seconds`, and was cancelled. `deepest`: the last `Result` of those that `deepen` has given; else None."""
 
-    def __init__(self, seconds: float):
-        super().__init__(seconds)
-        self.seconds = seconds
+    def __init__(self, seconds: float, deepest: Any = None):
+        super().__init__(seconds, deepest)
+        self.seconds, self.deepest = seconds, deepest
 
     def __str__(self) -> str:
         return f"the job was cancelled after {self.seconds:g} s"

@@ -7,7 +7,8 @@ POSITIONS (standard input where none is named) are of any format that `coluwen.f
 .obf, GGF, SGF, WTHOR's .wtb, transcripts; of a game each position is asked at which a move was made. RESULTS has a row for each, in their
 order: position, depth, value, move, milliseconds. The value is SPENT where the server's grain doesn't let it through; where a line is at fault it is
 `ERR number`, with file, line and column and what is wrong, and the run goes on. RESULTS are UTF-8; with --excel as Excel reads them: with a mark
-of UTF-8 before them, and points for empty squares, as it takes what begins with - for a formula. The milliseconds are those from the ASK to the DONE, with what other sessions had the server do.
+of UTF-8 before them, and points for empty squares, as it takes what begins with - for a formula. The milliseconds are those from the ASK to the
+DONE, with what other sessions had the server do.
 
 RESULTS is at each moment a beginning of the answers. Where it is there already the run goes on behind it, once its rows have been
 found to be those of the first positions; a row that was cut off is made again. Where fewer sessions are granted than --sessions says, as
@@ -16,7 +17,7 @@ is lost meanwhile. Progress and a summary go to standard error: how many are don
 often the first best move is one that was expected. --plot FILE draws times and values (SVG).
 
 Without a server this computer's own engine searches, by a process for each processor; with --dask the engines of a cluster's workers, each of which
-has this package and the program: what a lost worker had is searched by another.
+has this package and the program: what a lost worker had is searched by another. Where this Python hasn't Dask, Debian's runs the command.
 
 The status is 0 where all rows are done, 3 where one isn't, 1 where the server can't be reached or was lost for too long, a file can't be read
 (with its line and column) or the rows are others, 130 after Ctrl-C.
@@ -34,6 +35,7 @@ import collections
 import csv
 import dataclasses
 import fcntl
+import importlib.util
 import io
 import os
 import pathlib
@@ -43,7 +45,7 @@ import time
 from collections.abc import Iterator, Sequence
 
 from .. import formats
-from ..analyst import Analyst, Outcome, Result
+from ..analyst import Analyst, Result
 from ..board import CELLS, LENGTH, Position
 from ..cluster import Cluster
 from ..errors import FAULTS, ColuwenError, FormatError, Refused, TooDeep
@@ -53,6 +55,7 @@ from .lines import grain_for, question_of
 from .plot import draw
 
 NAME = "coluwen-batch"
+DEBIAN = pathlib.Path("/usr/lib/python3/dist-packages")  # of Debian's Python, whose prefix is /usr
 HEAD = ["position", "depth", "value", "move", "milliseconds"]
 
 
@@ -166,7 +169,6 @@ def answered(analyst: Analyst, source: Iterator[Asked]) -> Iterator[tuple[Asked,
             asked = waiting.popleft()
             yield asked, Refused(asked.fault)
 
-    outcome: Outcome
     for outcome in analyst.analyse_many(questions()):
         yield from faults()
         yield waiting.popleft(), outcome.answer
@@ -298,6 +300,9 @@ def main(words: Sequence[str] | None = None) -> int:
     options.add_argument("results", metavar="RESULTS")
     options.add_argument("positions", nargs="*", metavar="POSITIONS")
     asked = options.parse_args(words)
+    if asked.dask and words is None and not importlib.util.find_spec("distributed") and sys.prefix != DEBIAN.parents[2].as_posix() and (DEBIAN / "distributed").is_dir():
+        source = pathlib.Path(__file__).resolve().parents[2]
+        os.execve("/usr/bin/python3", ["/usr/bin/python3", "-m", "coluwen.tools.batch", *sys.argv[1:]], {**os.environ, "PYTHONPATH": str(source)})
     if asked.compare:
         if len(asked.positions) != 1:
             options.error("two files are compared: RESULTS and OTHERS")

@@ -318,7 +318,8 @@ def elo_text(score: float, error: float) -> str:
 Pair = Callable[[], contextlib.AbstractContextManager[tuple[Player, Player]]]
 
 
-def match(pair: Pair, openings: Iterable[Board], tell: Callable[[str], None], at_once: int = 1, keep: Callable[[Outcome], None] = lambda outcome: None) -> tuple[Table, list[Outcome]]:
+def match(pair: Pair, openings: Iterable[Board], tell: Callable[[str], None], at_once: int = 1,
+          keep: Callable[[Outcome], None] = lambda outcome: None) -> tuple[Table, list[Outcome]]:  # fmt: skip
     """Each opening in both colours, so many openings at the same time; `pair` gives two players of their own to each of these. `keep` has each game as it
     ends, one after another."""
     keeping = threading.Lock()
