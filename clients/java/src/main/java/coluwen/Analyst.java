@@ -1,5 +1,7 @@
 package coluwen;
 
+import coluwen.ColuwenException.Late;
+import coluwen.ColuwenException.TooDeep;
 import java.time.Duration;
 import java.util.*;
 import java.util.concurrent.*;
@@ -34,12 +36,44 @@ public interface Analyst extends AutoCloseable {
   /** How many questions {@code analyseMany} takes before their answers were taken from it. */
   default int window() { return 64; }
 
+  /** The same with this analyst's own timeout. */
   default CompletableFuture<Result> analyseAsync(Position position, int depth) { return analyseAsync(position, depth, timeout()); }
 
+  /** The same by the thread that calls. */
   default Result analyse(Position position, int depth) { return analyse(position, depth, timeout()); }
 
   /** The same by the thread that calls; an interrupt cancels the job, and {@code Stopped} is thrown. */
   default Result analyse(Position position, int depth, Duration timeout) { return Calls.joined(analyseAsync(position, depth, timeout)); }
+
+  /**
+   * The results of a position 2, 4, 6 .. plies deep and at last {@code depth}, each as soon as it is known, by searches of their own. {@code Late} after this time in all
+   * (null: no limit), which has the deepest.
+   */
+  default Stream<Result> deepen(Position position, int depth, Duration timeout) {
+    Calls.checked(depth);
+    var aim = Math.min(depth, position.empties());
+    var until = System.nanoTime() + (timeout == null ? 0 : timeout.toNanos());
+    var last = new Result[1];
+    return IntStream.concat(IntStream.iterate(2, step -> step < aim, step -> step + 2), IntStream.of(aim)).mapToObj(step -> {
+      try {
+        return last[0] = analyse(position, step, timeout == null ? timeout() : Duration.ofNanos(Math.max(until - System.nanoTime(), 1_000_000)));
+      } catch (Late fault) {
+        throw new Late(fault.getMessage(), last[0]);
+      }
+    });
+  }
+
+  /** The same up to the greatest depth that can be had. */
+  default Stream<Result> deepen(Position position, Duration timeout) {
+    var found = deepen(position, Core.DEEPEST, timeout).iterator();
+    return Stream.generate(() -> {
+      try {
+        return found.hasNext() ? found.next() : null;
+      } catch (TooDeep fault) {
+        return null;
+      }
+    }).takeWhile(Objects::nonNull);
+  }
 
   /** Each move's value exactly, the best first, of equals the one from a1 on: one question for each position that a move leads to. */
   default List<Entry> analyseAll(Position position, int depth) {
@@ -65,19 +99,25 @@ public interface Analyst extends AutoCloseable {
 
   /** How many questions are asked: {@code isOrdered}, by their order or as they are known; {@code window}; {@code timeout} of each (null: no limit); {@code onProgress}, called after each. */
   record Bulk(boolean isOrdered, int window, Duration timeout, Consumer<Progress> onProgress) {
+    /** A window has one place at least. */
     public Bulk {
       if (window < 1) throw new IllegalArgumentException("a window has one place at least, and not " + window);
     }
 
+    /** The same, each as soon as it is known. */
     public Bulk asKnown() { return new Bulk(false, window, timeout, onProgress); }
+    /** The same with so many taken ahead. */
     public Bulk window(int most) { return new Bulk(isOrdered, most, timeout, onProgress); }
+    /** The same with so much time for each. */
     public Bulk timeout(Duration most) { return new Bulk(isOrdered, window, most, onProgress); }
+    /** The same with this one told after each. */
     public Bulk onProgress(Consumer<Progress> heard) { return new Bulk(isOrdered, window, timeout, heard); }
   }
 
   /** Questions in their order, by this analyst's window and timeout. */
   default Bulk bulk() { return new Bulk(true, window(), timeout(), progress -> {}); }
 
+  /** Of each position the result or the fault, in order, each as soon as it is known. */
   default Stream<Outcome<Position>> analyseMany(Iterable<Position> positions, int depth) {
     return analyseMany(positions, Function.identity(), depth, bulk());
   }

@@ -59,7 +59,9 @@ public final class Client implements Analyst {
 
     private Builder() {}
 
+    /** Where the server is (127.0.0.1). */
     public Builder host(String value) { host = value; return this; }
+    /** Its port (4711). */
     public Builder port(int value) { port = Calls.within("port", 1, value, 65535); return this; }
 
     /** TLS, by the authorities of this context; the certificate must be the host's. Null for none. */
@@ -92,11 +94,13 @@ public final class Client implements Analyst {
 
     /** What each session reserves, where the client isn't to choose it. */
     public Builder segments(int value) { segments = Calls.within("segments", 1, value, 4096); isFree = false; return this; }
+    /** The same, of nodes. */
     public Builder nodes(int value) { nodes = Calls.within("nodes", 1, value, 65536); isFree = false; return this; }
 
     /** Who hears what there is to wait for. */
     public Builder onEvent(Consumer<Event> value) { onEvent = value; return this; }
 
+    /** The client. */
     public Client build() { return new Client(this); }
 
     private void set(String name, String value) throws IOException, GeneralSecurityException {
@@ -132,6 +136,7 @@ public final class Client implements Analyst {
     }
   }
 
+  /** What a client of this host's server is built from. */
   public static Builder builder() { return new Builder(); }
 
   /** A client of the server that COLUWEN_URL names, or of this host's. */
@@ -160,6 +165,10 @@ public final class Client implements Analyst {
       throw new IllegalArgumentException(address + " is no address, othello://host:port?tls=1: " + fault.getMessage(), fault);
     }
   }
+
+  /** {@code Client[host:port]}. */
+  @Override
+  public String toString() { return "Client[" + options.host + ":" + options.port + "]"; }
 
   @Override
   public Duration timeout() { return options.timeout; }

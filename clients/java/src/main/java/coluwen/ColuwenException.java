@@ -1,8 +1,9 @@
 package coluwen;
 
 import java.util.Map;
+import java.util.Optional;
 
-/** What can go wrong, each by a class of its own. A wrong argument is an {@code IllegalArgumentException}, before anything is sent. */
+/** What can go wrong, each by a class of its own. A wrong argument is an {@code IllegalArgumentException} before anything is sent, a text {@code FormatError}. */
 @SuppressWarnings("serial")
 public class ColuwenException extends RuntimeException {
   /** What the numbers of {@code ERR} say. */
@@ -21,6 +22,7 @@ public class ColuwenException extends RuntimeException {
 
   /** The server answered {@code ERR number}. The session goes on. */
   public static final class Refused extends ColuwenException {
+    /** Of {@code ERR}. */
     private final int number;
 
     Refused(int number) {
@@ -28,6 +30,7 @@ public class ColuwenException extends RuntimeException {
       this.number = number;
     }
 
+    /** The number, of {@code FAULTS}. */
     public int number() { return number; }
   }
 
@@ -48,7 +51,18 @@ public class ColuwenException extends RuntimeException {
 
   /** A job took longer than it was given, and was cancelled. The session goes on. */
   public static final class Late extends ColuwenException {
-    Late(String text) { super(text, null); }
+    /** The last result, or null. */
+    private final Result deepest;
+
+    Late(String text) { this(text, null); }
+
+    Late(String text, Result deepest) {
+      super(text, null);
+      this.deepest = deepest;
+    }
+
+    /** The last result of those that {@code deepen} has given. */
+    public Optional<Result> deepest() { return Optional.ofNullable(deepest); }
   }
 
   /** The client or the session was closed: nothing more is sent. */
@@ -66,7 +80,10 @@ public class ColuwenException extends RuntimeException {
    * nothing is known of less.
    */
   public static final class TooDeep extends ColuwenException {
-    private final int depth, greatest;
+    /** How deep it was asked. */
+    private final int depth;
+    /** A depth that can be had, or 0. */
+    private final int greatest;
 
     TooDeep(int depth, int greatest) {
       super("depth " + depth + " can't be had at this server's grain; depth " + greatest + " can", null);
@@ -74,12 +91,34 @@ public class ColuwenException extends RuntimeException {
       this.greatest = greatest;
     }
 
+    /** How deep it was asked. */
     public int depth() { return depth; }
+    /** A depth that can be had; 0 where none is known. */
     public int greatest() { return greatest; }
   }
 
-  /** A move that the rules don't allow at its position. A text that is no position is an {@code IllegalArgumentException}. */
+  /** A move that the rules don't allow at its position. */
   public static final class IllegalMove extends ColuwenException {
     IllegalMove(String text) { super(text, null); }
+  }
+
+  /** A text that can't be read. */
+  public static final class FormatError extends ColuwenException {
+    /** Why. */
+    private final String text;
+    /** Where it is at fault. */
+    private final int column;
+
+    FormatError(String text, int column) {
+      super("text:" + column + ": " + text, null);
+      this.text = text;
+      this.column = column;
+    }
+
+    /** Why. */
+    public String text() { return text; }
+
+    /** Which of its letters is at fault, from 1. */
+    public int column() { return column; }
   }
 }

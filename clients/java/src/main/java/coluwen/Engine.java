@@ -30,31 +30,50 @@ public final class Engine implements Analyst {
 
   private final String program;
   private final int workers;
+  private final int threads; // of its servers, that search together; 0 for none
+  private final Map<Integer, Server> servers = new HashMap<>(); // by their grain; under its own lock
   private final Duration timeout;
-  private final ExecutorService threads;
+  private final ExecutorService pool;
   private final ScheduledThreadPoolExecutor clock = Calls.clock();
   private final Map<Future<Result>, Process> searching = new HashMap<>(); // this and what follows is used under its lock alone
   private final Deque<Process> spare = new ArrayDeque<>(); // those that search nothing
   private boolean isClosed;
 
-  private Engine(String program, int workers, Duration timeout) {
+  private Engine(String program, int workers, int threads, Duration timeout) {
     this.program = program;
     this.workers = workers;
+    this.threads = threads;
     this.timeout = timeout;
-    threads = Executors.newFixedThreadPool(workers, task -> Calls.daemon(task, "coluwen-engine"));
+    pool = Executors.newFixedThreadPool(workers, task -> Calls.daemon(task, "coluwen-engine"));
   }
 
   /** An engine with a process for each processor, of the program that {@code COLUWEN_OTHELLO} names, or that stands on PATH, or in this package. */
   public static Engine start() { return start(Runtime.getRuntime().availableProcessors()); }
 
+  /** The same with so many processes. */
   public static Engine start(int workers) { return start(null, workers, null); }
 
   /** The same of a program that is named (or null), with the time that a question may take from when its search begins (null: no limit). */
   public static Engine start(String program, int workers, Duration timeout) {
     Calls.within("workers", 1, workers, 1024);
     if (timeout != null) Calls.positive("timeout", timeout);
-    return new Engine(found(program == null ? System.getenv("COLUWEN_OTHELLO") : program), workers, timeout);
+    return new Engine(found(program == null ? System.getenv("COLUWEN_OTHELLO") : program), workers, 0, timeout);
   }
+
+  /** An engine whose threads search each position together, by a server of its own ({@code othello serve}), which begins with the first question and ends with the engine. */
+  public static Engine withThreads(int threads) { return withThreads(null, threads, null); }
+
+  /** The same of a program that is named (or null), with the time that a question may take (null: no limit). */
+  public static Engine withThreads(String program, int threads, Duration timeout) {
+    Calls.within("threads", 1, threads, 32);
+    try (var alone = start(program, threads, timeout)) {
+      return new Engine(alone.program, threads, threads, timeout);
+    }
+  }
+
+  /** {@code Engine[PROGRAM]}. */
+  @Override
+  public String toString() { return "Engine[" + program + "]"; }
 
   /** The program's path; {@code Unreachable} where it isn't there, or is another. */
   private static String found(String named) {
@@ -175,9 +194,25 @@ public final class Engine implements Analyst {
   public CompletableFuture<Result> analyseAsync(Position position, int depth, Duration timeout) {
     Calls.checked(depth);
     var future = new CompletableFuture<Result>();
+    if (threads == 0) return search(future, position, depth, timeout);
+    CompletableFuture<Result> asked;
+    synchronized (servers) {
+      if (isClosed) return CompletableFuture.failedFuture(new Closed("engine"));
+      asked = Server.clientFor(servers, program, threads, depth).analyseAsync(position, depth, timeout);
+    }
+    asked.whenComplete((result, fault) -> { // what is too deep for a server one process searches
+      if (fault instanceof TooDeep) search(future, position, depth, timeout).whenComplete((none, closed) -> future.completeExceptionally(closed));
+      else if (fault != null) future.completeExceptionally(fault);
+      else future.complete(result);
+    });
+    future.whenComplete((result, fault) -> asked.cancel(true));
+    return future;
+  }
+
+  private CompletableFuture<Result> search(CompletableFuture<Result> future, Position position, int depth, Duration timeout) {
     synchronized (searching) {
       if (isClosed) return CompletableFuture.failedFuture(new Closed("engine"));
-      threads.execute(() -> answer(future, position, depth, timeout));
+      pool.execute(() -> answer(future, position, depth, timeout));
     }
     future.whenComplete((result, fault) -> { // the process of one that is given up ends; its thread notices
       synchronized (searching) {
@@ -194,13 +229,17 @@ public final class Engine implements Analyst {
   /** Ends the processes, and waits until they have. Calls that wait, and later ones, are {@code Closed}. */
   @Override
   public void close() {
+    synchronized (servers) {
+      servers.values().forEach(Server::close);
+      servers.clear();
+    }
     synchronized (searching) {
       isClosed = true;
       searching.values().forEach(Process::destroyForcibly);
     }
-    threads.shutdown();
+    pool.shutdown();
     try {
-      threads.awaitTermination(1, TimeUnit.DAYS);
+      pool.awaitTermination(1, TimeUnit.DAYS);
     } catch (InterruptedException fault) {
       Thread.currentThread().interrupt();
     }

@@ -10,12 +10,19 @@ public record Score(int value, char sign, boolean ends, char side) implements Co
   static final int A_DISC = 2000;
   static final int GREATEST = 128000;
 
+  /** A score; an {@code IllegalArgumentException} where it is none. */
   public Score {
     if ("=<>".indexOf(sign) < 0 || Math.abs(value) > GREATEST || (side != 'X' && side != 'O')) throw new IllegalArgumentException(sign + "" + value + " of " + side + " is no score");
     ends = ends || Math.abs(value) > GREATEST_EVALUATION;
   }
 
-  public enum Unit { POINTS, DISCS }
+  /** What a score counts. */
+  public enum Unit {
+    /** Of the evaluation. */
+    POINTS,
+    /** At the game's end. */
+    DISCS
+  }
 
   /** What {@code mover}, {@code black} and {@code white} count. */
   public Unit unit() { return ends ? Unit.DISCS : Unit.POINTS; }
@@ -29,7 +36,9 @@ public record Score(int value, char sign, boolean ends, char side) implements Co
   /** How many of them white is ahead. */
   public int white() { return -black(); }
 
+  /** Whether it is a value, and no bound. */
   public boolean isExact() { return sign == '='; }
+  /** Whether the game is known to end so. */
   public boolean isDraw() { return ends && value == 0 && isExact(); }
 
   /** The same, seen by the opponent. */

@@ -38,7 +38,7 @@ class BehaviourTest {
 
   private static String text(Throwable fault) {
     if (fault instanceof CancellationException) return "fault Stopped";
-    if (fault instanceof IllegalArgumentException) return "fault Argument";
+    if (fault instanceof IllegalArgumentException || fault instanceof ColuwenException.FormatError) return "fault Argument";
     if (fault instanceof ColuwenException.Refused refused) return "fault Refused number=" + refused.number();
     if (fault instanceof ColuwenException.TooDeep deep) return "fault TooDeep depth=" + deep.depth() + " greatest=" + deep.greatest();
     return "fault " + (fault instanceof ColuwenException ? fault.getClass().getSimpleName() : fault);

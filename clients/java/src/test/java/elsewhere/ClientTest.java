@@ -9,7 +9,9 @@ import coluwen.Analyst;
 import coluwen.Client;
 import coluwen.ColuwenException;
 import coluwen.Info;
+import coluwen.Move;
 import coluwen.Position;
+import coluwen.Result;
 import coluwen.Score;
 import java.io.IOException;
 import java.time.Duration;
@@ -21,6 +23,7 @@ import java.util.concurrent.CompletableFuture;
 import java.util.concurrent.CountDownLatch;
 import java.util.concurrent.TimeUnit;
 import java.util.concurrent.atomic.AtomicBoolean;
+import java.util.function.BiFunction;
 import java.util.function.BiPredicate;
 import java.util.function.Function;
 import java.util.function.Supplier;
@@ -35,6 +38,11 @@ class ClientTest {
 
   /** Answers that are right in their form; a job is done, or else pending, as {@code isDone} says of its depth and position. */
   private static Supplier<Function<String, String>> sound(BiPredicate<Integer, String> isDone) {
+    return ended((depth, text) -> isDone.test(depth, text) ? "DONE" : "PENDING");
+  }
+
+  /** A server whose jobs stand as this says of their depths and positions. */
+  static Supplier<Function<String, String>> ended(BiFunction<Integer, String, String> state) {
     return () -> {
       var jobs = new ArrayList<String>();
       return line -> {
@@ -43,7 +51,7 @@ class ClientTest {
         return switch (words[0]) {
           case "HELLO" -> "WELCOME " + words[1] + " " + words[2] + "\n";
           case "RESERVE" -> "RESERVED " + words[1] + " " + words[2] + "\n";
-          case "ASK" -> jobs.add(isDone.test(job, words[2] + " " + words[3]) ? "DONE" : "PENDING") ? "JOB " + jobs.size() + "\n" : "";
+          case "ASK" -> jobs.add(state.apply(job, words[2] + " " + words[3])) ? "JOB " + jobs.size() + "\n" : "";
           case "CANCEL" -> "CANCELLED " + job + "\n";
           case "GET", "WAIT" -> jobs.get(job - 1) + " " + job + (jobs.get(job - 1).equals("DONE") ? " 5 d3\n" : "\n");
           case "TABLE" -> "TABLE " + job + " d3=5 c4<-1\n";
@@ -79,6 +87,42 @@ class ClientTest {
     assertEquals(List.of(4, 4, -4, 4), List.of(more.mover(), more.white(), more.black(), less.black()));
     assertEquals(new Score(-8000, '<', true, 'X'), more.flip());
     assertEquals(-4, more.flip().black());
+  }
+
+  @Test
+  void aTextThatIsNoPositionSaysItsColumn() {
+    var cells = OPENING.cells();
+    var wrong = List.of("n", "1: 'n' spells no cell", cells.substring(0, 9) + "é", "10: 'é' spells no cell", cells + " -", "66: behind the 64 cells stands no side to move, X or O",
+        cells + " XX", "67: behind the side to move stands more", cells, "65: a position has 64 cells and the side to move, and here are 64 signs", "", "1: a position has 64 cells and the side to move, and here are 0 signs");
+    for (int at = 0; at < wrong.size(); at += 2) {
+      var text = wrong.get(at);
+      ColuwenException fault = assertThrows(ColuwenException.FormatError.class, () -> Position.parse(text));
+      assertEquals("text:" + wrong.get(at + 1), fault.getMessage());
+      assertEquals(Integer.parseInt(wrong.get(at + 1).split(":")[0]), ((ColuwenException.FormatError) fault).column());
+    }
+    assertEquals(OPENING, Position.parse("\n" + cells.replace('-', '.').toLowerCase() + "\n*"));
+  }
+
+  @Test
+  void aMoveIsAWordANumberOrAMove() {
+    for (var after : List.of(OPENING.play("D3"), OPENING.play(19), OPENING.play(new Move(19)), OPENING.play(Move.of("D3")))) assertEquals(OPENING.play("d3"), after);
+    var mustPass = new Position("XO" + "-".repeat(62), 'O');
+    for (var after : List.of(mustPass.play(64), mustPass.play(Move.of("Pass")))) assertEquals('X', after.side());
+    assertEquals(List.of("h8", "pass", "a1"), List.of(Move.of("h8").toString(), new Move(64).word(), new Move(0).word()));
+    for (var number : List.of(-1, 65)) assertThrows(ColuwenException.IllegalMove.class, () -> OPENING.play(number));
+    for (var word : List.of("i9", "", "d33")) assertThrows(ColuwenException.IllegalMove.class, () -> Move.of(word));
+  }
+
+  @Test
+  void valuesAsTheyDeepen() throws IOException {
+    try (var server = new Told(ended((depth, text) -> depth <= 8 ? "DONE" : "SPENT")); var client = at(server).segments(64).nodes(9000).build()) {
+      assertEquals("Client[127.0.0.1:" + server.port() + "]", client.toString());
+      var near = new Position("X".repeat(40) + "O".repeat(19) + "-".repeat(5), 'X');
+      assertEquals(List.of(2, 4, 6, 7), client.deepen(OPENING, 7, null).map(Result::depth).toList());
+      assertEquals(List.of(List.of(2, 4, 6, 8), List.of(1), List.of(0), List.of(2, 4, 5)), List.of(client.deepen(OPENING, null).map(Result::depth).toList(), client.deepen(OPENING, 1, null).map(Result::depth).toList(),
+          client.deepen(OPENING, 0, null).map(Result::depth).toList(), client.deepen(near, null).map(Result::depth).toList()));
+      assertThrows(ColuwenException.TooDeep.class, () -> client.deepen(OPENING, 10, null).count());
+    }
   }
 
   @Test

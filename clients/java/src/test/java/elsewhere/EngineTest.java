@@ -40,6 +40,7 @@ class EngineTest {
   private static final String FALSE = """
       #!/bin/bash
       [[ $1 == --version ]] && { echo "othello 9.9.9"; exit; }
+      [[ $1 == serve ]] && { cat "${0%/*}/port"; exec sleep 600; }
       while read -r depth cells side; do
         if [[ $side == O ]]; then
           [[ $depth == 12 ]] && exec sleep 600
@@ -64,6 +65,31 @@ class EngineTest {
   void end() {
     engine.close();
     assertEquals(0, ProcessHandle.current().children().count());
+  }
+
+  @Test
+  void threadsSearchTogetherByAServerOfTheEngine() throws Exception {
+    try (var server = new Told(ClientTest.ended((depth, text) -> depth <= 10 ? "DONE" : "SPENT")); var together = Engine.withThreads(program(FALSE), 3, null)) {
+      Files.writeString(folder.resolve("port"), "listening 127.0.0.1:" + server.port() + "\n");
+      assertEquals(List.of(5, 5, 110), List.of(together.analyse(OPENING, 4).score().value(), together.analyse(OPENING, 10).score().value(), together.analyse(OPENING, 11).score().value()));
+      assertTrue(ProcessHandle.current().descendants().count() >= 6);
+      ProcessHandle.current().descendants().forEach(ProcessHandle::destroyForcibly);
+      assertEquals(5, together.analyse(OPENING, 7).score().value());
+    }
+    for (int tries = 0; ProcessHandle.current().descendants().count() > 0; tries++) {
+      assertTrue(tries < 200);
+      Thread.sleep(50);
+    }
+    assertThrows(IllegalArgumentException.class, () -> Engine.withThreads(33));
+  }
+
+  @Test
+  void whatIsTooLateHasTheDeepest() {
+    var given = new ArrayList<Result>();
+    var late = assertThrows(Late.class, () -> engine.deepen(WHITE, 12, Duration.ofSeconds(3)).forEach(given::add));
+    assertEquals(List.of(2, 4, 6, 8, 10), given.stream().map(Result::depth).toList());
+    assertEquals(given.get(4), late.deepest().get());
+    assertTrue(assertThrows(Late.class, () -> engine.analyse(WHITE, 12, Duration.ofMillis(50))).deepest().isEmpty());
   }
 
   private String program(String text) throws IOException {
