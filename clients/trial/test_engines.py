@@ -152,6 +152,17 @@ def test_no_command_needs_a_server(tmp_path: pathlib.Path) -> None:
         page.wait()
 
 
+@pytest.mark.parametrize("name", ["gtp", "nboard"])
+def test_the_example_that_a_bridge_names(name: str) -> None:
+    """What its help shows is what it says, but for seconds."""
+    shown = (TOP / f"clients/python/src/coluwen/tools/{name}.py").read_text().split('"""')[1].replace("\\\\", "\\")
+    found = re.search(r"    \$ printf '(.*)' \| coluwen-\w+\n((?:    .*\n)+)", shown)
+    assert found
+    said = command(f"coluwen-{name}", stdin=found[1].replace("\\n", "\n"))
+    untimed = [re.sub(r"(nodestats \d+) .*", r"\1", text) for text in (said, found[2].replace("\n    ", "\n").strip() + "\n")]
+    assert untimed[0].replace("\n\n", "\n").strip() == untimed[1].strip()
+
+
 def test_what_a_server_cannot_give_an_engine_gives(server: Othello) -> None:
     """A session of few nodes has no room for a search of five plies."""
     line = f"5 {positions(1, 5, 20, 20)[0]}"

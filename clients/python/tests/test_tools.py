@@ -32,6 +32,7 @@ def command(name: str, *words: object, stdin: str = "", **more: object) -> subpr
 def test_each_says_what_it_is(name: str) -> None:
     found = command(name, "--help")
     assert found.returncode == 0 and found.stdout.startswith(f"usage: {name}") and "--server" in found.stdout and not found.stderr
+    assert set(re.findall(r"COLUWEN_[A-Z]+", found.stdout)) == {"COLUWEN_URL"}  # the variable that it heeds
     assert command(name, "--version").stdout.startswith(f"{name} (coluwen) 1.")
     wrong = command(name, "--no-such-option")
     assert wrong.returncode == 2 and "usage:" in wrong.stderr

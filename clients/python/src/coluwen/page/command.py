@@ -1,6 +1,6 @@
 """The analysis board for browsers on this host, or for a class: http://127.0.0.1:8047/
 
-The page has values by an engine in the browser; deeper ones come from a server of `othello serve`, where --server (or COLUWEN_SERVER) names
+The page has values by an engine in the browser; deeper ones come from a server of `othello serve`, where --server (or COLUWEN_URL) names
 one. For a class, `--address 0.0.0.0` lets other hosts of the network in, and `--certificate FILE` (certificate and key) has their browsers
 speak https. They name this host by its address, by its own name, or by one that --name gives; any other name is refused, so that no foreign
 page reads this one.

@@ -4,7 +4,10 @@ usage: coluwen-gtp [--depth 6] [--server HOST:PORT] [..]     (commands come by s
 
 A board starts it as its engine, with this line as the command. By hand:
 
-    $ printf 'play black f5\\ngenmove white\\nquit\\n' | coluwen-gtp --server 127.0.0.1:4711
+    $ printf 'play black f5\\ngenmove white\\nquit\\n' | coluwen-gtp
+    =
+    = F6
+    =
 
 Squares are named as in Othello, A1 at the top left. `play COLOUR SQUARE` and `genmove COLOUR`: where that colour isn't to move and the
 other one can't, the pass between them is made (gtp-rhino, quarry); a pass may be played too. `genmove` of a player who can't move

@@ -4,10 +4,12 @@ usage: coluwen-nboard [--depth 6] [--server HOST:PORT] [..]     (what the board 
 
 A board starts it as its engine, with this line as the command. By hand:
 
-    $ printf 'nboard 1\\nset depth 4\\nmove F5\\nhint 2\\ngo\\nping 7\\n' | coluwen-nboard --server 127.0.0.1:4711
+    $ printf 'nboard 1\\nset depth 1\\nmove F5\\nhint 2\\n' | coluwen-nboard
     set myname Coluwen
-    search d6 -0.10 0 1
-    ..
+    search F6 +0.04 0 1
+    search F4 +0.04 0 1 at most
+    nodestats 4 0.296
+    status
 
 | From the board | What the bridge does, and answers |
 |---|---|
