@@ -74,7 +74,7 @@ async def test_a_connection_has_requests_one_after_another_until_it_says_close()
         assert web.count == 1 and dict(web.of_address) == {"127.0.0.1": 1} and len(web.tasks) == 1
         writer.write(question("GET /fault HTTP/1.1", "Connection: CLOSE"))
         status, headers, body = await answer_to(reader)
-        assert (status, headers["connection"], headers["retry-after"], json.loads(body)) == (429, "close", "2", {"code": "classes", "text": "too many"})
+        assert (status, headers["connection"], headers["retry-after"], json.loads(body)) == (429, "close", "2", {"code": "classes", "number": 429, "text": "too many"})
         assert await asyncio.wait_for(reader.read(), SOON) == b""
 
 
@@ -118,7 +118,7 @@ async def test_so_many_connections(limits: dict[str, int]) -> None:
             assert (await answer_to(reader))[0] == 200
         reader, _ = await dial()
         status, headers, body = await answer_to(reader)
-        assert (status, headers["connection"], headers["retry-after"] if "retry-after" in headers else "", json.loads(body)["code"]) == (503, "close", "", "busy")
+        assert (status, headers["connection"], headers["retry-after"] if "retry-after" in headers else "", json.loads(body)["code"]) == (503, "close", "2", "busy")
         assert await asyncio.wait_for(reader.read(), SOON) == b""
         writer.close()
         for _ in range(500):
@@ -285,6 +285,6 @@ def test_the_log(caplog: pytest.LogCaptureFixture, tmp_path: pathlib.Path, capsy
             handler.close()
         page_web.LOG.level, page_web.LOG.propagate = before[1:]
     lines = [re.sub(r"\[.*?\]", "[]", line) for line in (tmp_path / "log").read_text().splitlines()]
-    assert lines == ['127.0.0.1 - - [] "GET /a HTTP/1.1" 200 33', '127.0.0.1 - - [] "-" 400 38', '- - - [] "GET / HTTP/1.1" 200 -', 'a - - [] "GET / HTTP/1.1" 200 2']
+    assert lines == ['127.0.0.1 - - [] "GET /a HTTP/1.1" 200 33', '127.0.0.1 - - [] "-" 400 51', '- - - [] "GET / HTTP/1.1" 200 -', 'a - - [] "GET / HTTP/1.1" 200 2']
     assert re.sub(r"\[.*?\]", "[]", capsys.readouterr().err) == 'a - - [] "GET / HTTP/1.1" 200 2\n'
     assert len(plain("a" * 2000)) == 1000 and plain('"\\\u00b5\x7f~') == "\\x22\\x5c\\xb5\\x7f~"

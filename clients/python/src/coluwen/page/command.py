@@ -5,6 +5,10 @@ one. For a class, `--address 0.0.0.0` lets other hosts of the network in, and `-
 speak https. They name this host by its address, by its own name, or by one that --name gives; any other name is refused, so that no foreign
 page reads this one.
 
+Any program may ask values by HTTP, as /openapi.json says: `curl -d '{"position": "..", "depth": 6}' -H 'Content-Type: application/json' ADDRESS/analyse`.
+With --tokens FILE only those may that have a token (`Authorization: Bearer TOKEN`); FILE has the SHA-256 sum of each in a line, as `printf %s TOKEN | sha256sum`
+says it, and behind it a name or nothing.
+
 So many questions as --sessions says are with the server at once; who comes when all are taken waits in turn, and is told how many are
 before. Where the server that was named can't be reached at the beginning, one line says so within 2 seconds, and the status is 1; where it
 is lost later the page says so and asks again.
@@ -15,6 +19,7 @@ import asyncio
 import contextlib
 import functools
 import ipaddress
+import re
 import signal
 import socket
 import ssl
@@ -49,6 +54,7 @@ def options() -> argparse.ArgumentParser:
     words.add_argument("--most-depth", type=int, default=DEEPEST, help="offer no more plies (as many as the server's grain lets through)")
     words.add_argument("--sessions", type=int, default=4, help="how many sessions of the server are used at once; others wait (4)")
     words.add_argument("--connections", type=int, default=Limits.connections, help="of browsers at once (%(default)s)")
+    words.add_argument("--tokens", metavar="FILE", help="only who has a token that this file names may ask values")
     words.add_argument("--log", metavar="FILE", default="-", help="where a line for each request is written, in the common log format (standard error); '' for nowhere")
     words.add_argument("--per-address", type=int, default=Limits.per_address, help="of these for one address (%(default)s)")
     return words
@@ -75,6 +81,17 @@ def own_addresses() -> list[str]:
     return found
 
 
+def tokens_in(path: str | None) -> frozenset[str]:
+    """The sums of tokens that a file names, which must have one where it is named."""
+    if path is None:
+        return frozenset()
+    with open(path, encoding="utf-8") as file:
+        sums = [line.split()[0].lower() for line in file if line.strip() and not line.startswith("#")]
+    if not sums or not all(re.fullmatch("[0-9a-f]{64}", one) for one in sums):
+        raise ValueError(f"{path} names no tokens: a SHA-256 sum a line, and a name behind it")
+    return frozenset(sums)
+
+
 async def serve(asked: argparse.Namespace) -> None:
     """Serves the page until it is ended."""
     if not commands.names_server(asked):
@@ -82,7 +99,7 @@ async def serve(asked: argparse.Namespace) -> None:
         return
     async with AsyncEngine(analyst=commands.analyst_of(asked, NAME, patience=0, sessions=max(asked.sessions, 1))) as client:
         await client.ping()
-        service = Service(Library(client, client.parallel), [LEAST])
+        service = Service(Library(client, client.parallel), [LEAST], tokens=tokens_in(asked.tokens))
         learning = asyncio.ensure_future(learn(service, client, asked.most_depth))
         try:
             await serve_by(asked, service)

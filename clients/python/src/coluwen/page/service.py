@@ -1,7 +1,9 @@
-"""What the page asks: `/analyse` and its kin, as answers of `Web`.
+"""What the page asks, and any program by HTTP: `/analyse` and its kin, as answers of `Web`. `openapi.json` describes /analyse for programs, word by word.
 
     POST /analyse  {"position": 66 letters, "depth": 8, "exact": "all" or ["f5", ..], "steps": true}    lines of JSON, as things
-                   become known; without steps the greatest depth alone is asked
+                   become known; without steps the greatest depth alone is asked; with "game": "f5d6c3" in place of a position
+                   each position of that game, whose number is the `ply` of its lines
+    GET  /openapi.json
     GET  /about.json   {"service": true, "depths": [4, 6, 8], "places": 8, "settled": true, "addresses": ["http://192.168.1.5:8047/"]}
     POST /class        and POST, GET /class/ROOM: a teacher's board and those who follow it; POST /class/ROOM/pupils: who these are;
                        POST /class/ROOM/hand: one of them raises a hand
@@ -13,8 +15,11 @@ empty squares are counted to the winner; without `empty` they aren't known, and 
 """
 
 import asyncio
+import collections
 import contextlib
+import hashlib
 import json
+import pathlib
 import re
 from collections.abc import AsyncGenerator, Iterable
 from typing import Any
@@ -22,12 +27,15 @@ from typing import Any
 from .._core import DEEPEST
 from ..board import PASS, Position
 from ..errors import ColuwenError, Refused, TooDeep
+from ..formats import transcript
 from ..score import EXACT, Score
 from .library import Found, Library, Told, steps_of
 from .rooms import Rooms
 from .web import Answer, Fault, Request
 
 LONGEST_QUESTION = 65536  # bytes: a game with variations and comments
+MOST_OF_TOKEN = 8  # questions of a token at once
+DONE = b'{"kind":"done"}\n'
 Events = asyncio.Queue[dict[str, Any] | None]  # None is the last
 
 
@@ -58,8 +66,10 @@ def telling(events: Events, **more: object) -> Told:
 class Service:
     """Answers the page's questions from a library of what is known; without one there are classes alone."""
 
-    def __init__(self, library: Library | None, depths: list[int], settled: bool = False):
+    def __init__(self, library: Library | None, depths: list[int], settled: bool = False, tokens: frozenset[str] = frozenset()):
         self.known, self.depths, self.settled = library, depths, settled
+        self.tokens = tokens  # their SHA-256 sums; where there are none everybody may ask
+        self.asking: collections.Counter[str] = collections.Counter()  # questions of each at once
         self.addresses: list[str] = []  # by which browsers of other hosts come in
         self.rooms = Rooms()
 
@@ -79,8 +89,10 @@ class Service:
         if path == "/about.json" and self.allowed(request, "GET"):
             places = self.known.turns.places if self.known else 0
             return Answer.json({"service": True, "depths": self.depths, "places": places, "settled": self.settled, "addresses": self.addresses})
+        if path == "/openapi.json" and self.allowed(request, "GET"):
+            return Answer(body=pathlib.Path(__file__).with_name("openapi.json").read_bytes())
         if path == "/analyse" and self.allowed(request, "POST") and self.library:
-            return Answer(kind="application/x-ndjson", lines=self.analyse(*self.question_of(request.json())))
+            return Answer(kind="application/x-ndjson", lines=self.counted(self.token_of(request), self.lines_for(request.json())))
         if path == "/class" or path.startswith("/class/"):
             return self.of_class(request, path.removeprefix("/class").removeprefix("/"))
         return None
@@ -96,7 +108,70 @@ class Service:
 
     # /analyse
 
-    def question_of(self, asked: Any) -> tuple[Position, int, list[str], bool]:
+    def token_of(self, request: Request) -> str:
+        """The sum of a request's token, which must be one of those that there are."""
+        kind, _, token = request.headers.get("authorization", "").partition(" ")
+        found = hashlib.sha256(token.strip().encode("latin-1")).hexdigest() if kind.lower() == "bearer" else ""
+        if self.tokens and found not in self.tokens:
+            raise Fault(401, "token", "nobody has this token")
+        if self.tokens and self.asking[found] >= MOST_OF_TOKEN:
+            raise Fault(429, "busy", f"this token has {MOST_OF_TOKEN} questions already")
+        return found
+
+    async def counted(self, token: str, lines: AsyncGenerator[bytes, None]) -> AsyncGenerator[bytes, None]:
+        """The lines, while which a token has one question more."""
+        self.asking[token] += 1
+        try:
+            async with contextlib.aclosing(lines):
+                async for line in lines:
+                    yield line
+        finally:
+            self.asking[token] -= 1
+
+    def lines_for(self, asked: Any) -> AsyncGenerator[bytes, None]:
+        """What answers a question: of a position, or of each position of a game."""
+        if not isinstance(asked, dict) or "game" not in asked:
+            return self.analyse(*self.question_of(asked))
+        if "position" in asked or not isinstance(asked["game"], str):
+            raise Fault(400, "game", "a question has a position or a game")
+        try:
+            game = transcript.read(asked["game"])
+        except ValueError as fault:
+            raise Fault(400, "game", str(fault)) from None
+        if asked.get("exact", "all") != "all":
+            raise Fault(400, "exact", "of a game the exact values of all moves are had, or of none")
+        words = {name: value for name, value in asked.items() if name != "game"}
+        return self.analyse_game([self.question_of({**words, "position": position.text}, near_end=True) for position, _ in game.positions()])
+
+    async def analyse_game(self, questions: list[tuple[Position, int, list[str], bool]]) -> AsyncGenerator[bytes, None]:
+        """The lines of several positions, each with its number, as they come; `done` once."""
+        lines: asyncio.Queue[bytes] = asyncio.Queue()
+
+        async def ask(ply: int, question: tuple[Position, int, list[str], bool]) -> None:
+            try:
+                async with contextlib.aclosing(self.analyse(*question)) as found:
+                    async for line in found:
+                        if line != DONE:
+                            lines.put_nowait(b'{"ply":%d,' % ply + line[1:])
+            finally:
+                lines.put_nowait(b"")
+
+        tasks = [asyncio.ensure_future(ask(ply, question)) for ply, question in enumerate(questions)]
+        try:
+            left = len(tasks)
+            while left:
+                if line := await lines.get():
+                    yield line
+                left -= not line
+                if b'"kind":"fault"' in line:
+                    return
+            yield DONE
+        finally:
+            for task in tasks:
+                task.cancel()
+            await asyncio.gather(*tasks, return_exceptions=True)
+
+    def question_of(self, asked: Any, near_end: bool = False) -> tuple[Position, int, list[str], bool]:
         """A question's position, depth, the moves whose values are to be exact, and whether it is to be answered step by step. Each word
         of it is tested."""
         if not isinstance(asked, dict) or not isinstance(asked.get("position"), str) or len(asked["position"]) > 200:
@@ -110,7 +185,7 @@ class Service:
             raise Fault(400, "depth", "the depth is a number of plies")
         if not self.settled and self.deepest < depth <= DEEPEST:
             raise Fault(503, "learning", "how deep the server looks isn't known yet")
-        if depth > self.deepest and not (depth <= position.empties <= DEEPEST):
+        if depth > self.deepest and not (position.empties <= DEEPEST and (near_end or depth <= position.empties)):
             raise Fault(400, "depth", f"this page looks {self.deepest} plies deep, and to the end where {DEEPEST} squares are empty")
         moves = position.legal_moves()
         exact = moves if exact == "all" else exact
@@ -139,7 +214,7 @@ class Service:
                 await self.exactly(found, exact, events)
             events.put_nowait({"kind": "done"})
         except (ColuwenError, Refused) as fault:
-            events.put_nowait({"kind": "fault", "code": "server", "text": str(fault)})
+            events.put_nowait({"kind": "fault", "code": "server", "number": fault.number if isinstance(fault, Refused) else 502, "text": str(fault)})
         finally:
             events.put_nowait(None)
 

@@ -82,12 +82,15 @@ class Answer:
         return cls(status, body=json.dumps(value, separators=(",", ":")).encode(), headers=headers)
 
 
+NUMBERS = {"position": 24, "depth": 27, "token": 30}  # of faults that a session's lines have too; of others it is the status
+
+
 class Fault(Exception):
-    """What a request is refused for: a status, a word for programs, and a sentence."""
+    """What a request is refused for: a status, a word and a number for programs, and a sentence."""
 
     def __init__(self, status: int, code: str, text: str):
         super().__init__(text)
-        self.status, self.code = status, code
+        self.status, self.code, self.number = status, code, NUMBERS.get(code, status)
 
 
 Handler = Callable[[Request], Awaitable[Answer]]
@@ -117,7 +120,7 @@ class Web:
             task.add_done_callback(self.tasks.discard)
         try:
             if self.count > self.limits.connections or self.of_address[address] > self.limits.per_address:
-                await self.write(writer, head_of(Answer.json({"code": "busy", "text": "too many connections"}, 503), close=True))
+                await self.write(writer, head_of(said(Fault(503, "busy", "too many connections")), close=True))
                 return
             for number in range(self.limits.requests):
                 if not await self.serve_one(reader, writer, address, number):
@@ -276,9 +279,11 @@ def log_to(file: str) -> None:
 
 
 def said(fault: Fault) -> Answer:
-    answer = Answer.json({"code": fault.code, "text": str(fault)}, fault.status)
+    answer = Answer.json({"code": fault.code, "number": fault.number, "text": str(fault)}, fault.status)
     if fault.status in (429, 503):
         answer.headers["Retry-After"] = "2"
+    if fault.status == 401:
+        answer.headers["WWW-Authenticate"] = "Bearer"
     return answer
 
 
