@@ -92,6 +92,72 @@ def test_gtp() -> None:
         assert gtp.heard("final_score")[0] == "= B+64\n"  # the empty square is the winner's
 
 
+def gtp_of(gtp: Gtp, *commands: str) -> list[str]:
+    return [gtp.heard(line)[0].removesuffix("\n") for line in commands]
+
+
+def test_gtp_by_the_clock() -> None:
+    """A move takes its part of the time, and is the deepest that was found in it; the clock goes on by itself, and wrong times are told."""
+    with told(sound(state=lambda depth, nodes: "PENDING" if depth > 4 else "DONE")) as server, Client("127.0.0.1", server.port) as client:
+        gtp = Gtp(Searcher(client, 8))
+        assert gtp_of(gtp, "time_settings 24 0 0", "genmove b") == ["=", "= D3"] and gtp.last and gtp.last.depth == 4
+        assert {line.split()[1] for line in server.heard if line.startswith("ASK")} == {"1", "2", "4", "5"}
+        assert 22 < gtp.clocks["X"][0] < 23.8 and gtp.clocks["O"] == (24, 0) and gtp.time_for("O") == 0.9 * 24 / 29.5
+        assert gtp_of(gtp, "time_left w 3 3") == ["="] and gtp.time_for("O") == 0.9 and gtp_of(gtp, "genmove w")[0].startswith("= ") and gtp.clocks["O"][1] == 2
+        gtp_of(gtp, "time_settings 1 5 2")
+        gtp.used("X", 2)
+        assert gtp.clocks["X"] == (5, 2) and not gtp.used("X", 1) and gtp.clocks["X"] == (4, 1) and not gtp.used("X", 1) and gtp.clocks["X"] == (5, 2)
+        assert gtp_of(gtp, "time_settings 0 5 0") == ["="] and gtp.time_for("X") is None
+        for line in ("time_settings 1 2", "time_settings a 1 2", "time_settings 1 -1 2", "time_left b 5", "time_left", "time_left b x 1"):
+            assert gtp_of(gtp, line)[0] == "? syntax error", line
+        assert gtp_of(gtp, "time_left q 1 1", "komi x", "komi", "komi 0.5", "komi -3") == ["? invalid color", "? komi not a float", "? komi not a float", "=", "="]
+
+
+def test_gtp_as_controllers_use_it(tmp_path: pathlib.Path) -> None:
+    with told(sound(state=lambda depth, nodes: "DONE")) as server, Client("127.0.0.1", server.port) as client:
+        gtp = Gtp(Searcher(client, 3))
+        sgf = tmp_path / "g.sgf"
+        sgf.write_text("(;GM[2]FF[4]SZ[8];B[f5];W[d6];B[c3])")
+        assert gtp_of(gtp, f"loadsgf {sgf}") == ["="] and gtp.board.moves == ("f5", "d6", "c3")
+        assert gtp_of(gtp, f"loadsgf {sgf} 2", "coluwen-position") == ["=", f"= {OPENING.play('f5')}"]
+        sgf.write_text("(;GM[2];B[a1])")
+        assert gtp_of(gtp, f"loadsgf {sgf}", "loadsgf /nowhere", "loadsgf", f"loadsgf {sgf} x")[0].startswith(f"? cannot load file: {sgf}:1:") and gtp.board.moves == ("f5",)
+        assert gtp_of(gtp, "loadsgf", f"loadsgf {sgf} x") == ["? syntax error"] * 2
+        assert gtp_of(gtp, "clear_board", "final_status_list alive", "final_status_list dead", "final_status_list seki", "final_status_list x") == ["=", "= D4 E4 D5 E5", "=", "=", "? invalid status"]
+        assert {line.split("/")[2].split()[0] for line in gtp_of(gtp, "gogui-analyze_commands")[0].removeprefix("= ").split("\n")} <= set(gtp.commands)
+        values = {move: -value_of(OPENING.play(move).text) for move in OPENING.legal}
+        label, colour, text = gtp_of(gtp, "coluwen-values")[0].removeprefix("= ").split("\n")
+        words = label.split()
+        assert words[0] == "LABEL" and {square.lower(): int(value) for square, value in zip(words[1::2], words[2::2])} == values
+        assert colour == f"COLOR green {max(values, key=lambda move: values[move]).upper()}" and text.startswith("TEXT ")
+
+
+def test_nboard_with_pings_between() -> None:
+    """As a board speaks: a ping before it asks, and behind each answer; what was asked before a ping is said no more after its pong."""
+    with told(sound(3)) as server:
+        process = subprocess.Popen([sys.executable, BIN / "coluwen-nboard", "--server", f"127.0.0.1:{server.port}"], stdin=subprocess.PIPE, stdout=subprocess.PIPE, text=True, bufsize=1)
+        assert process.stdin and process.stdout
+
+        def talk(said: str, last: str) -> list[str]:
+            assert process.stdin and process.stdout
+            process.stdin.write(said)
+            found = [process.stdout.readline().rstrip("\n")]
+            while not found[-1].startswith(last):
+                found.append(process.stdout.readline().rstrip("\n"))
+            return found
+
+        assert talk("nboard 1\nset depth 2\nset game (;GM[Othello]BO[8 " + OPENING.cells + " *];)\nping 1\n", "pong") == ["set myname Coluwen", "pong 1"]
+        assert [line.split()[:2] for line in talk("hint 1\n", "status")][:2] == [["search", "D3"], ["search", "D3"]]
+        assert talk("ping 2\n", "pong") == ["pong 2"]
+        assert talk("move D3//\nping 3\n", "pong") == ["pong 3"]
+        assert talk("go\n", "===")[-1].startswith("=== C3/+0.03/")
+        assert talk("ping 4\n", "pong")[-1] == "pong 4"
+        hinted = talk("hint 2\nping 5\n", "pong")
+        assert hinted[-1] == "pong 5" and talk("ping 6\n", "pong") == ["pong 6"]
+        process.stdin.close()
+        assert process.wait(20) == 0 and process.stdout.read() == ""
+
+
 def conversation(server_port: int, said: str) -> list[str]:
     found = command("coluwen-nboard", "--server", f"127.0.0.1:{server_port}", "--depth", 2, stdin=said)
     assert found.returncode == 0, found

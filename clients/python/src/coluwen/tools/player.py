@@ -5,12 +5,13 @@ the end. A depth that is set beyond that is taken for the greatest that can be h
 """
 
 import concurrent.futures
+import contextlib
 from collections.abc import Callable, Iterator
 
 from .._core import DEEPEST
 from ..analyst import Analyst, Result
 from ..board import Position
-from ..errors import TooDeep
+from ..errors import Late, TooDeep
 from ..score import Score
 
 SURE = 4  # plies that a server of any grain looks deep
@@ -79,6 +80,14 @@ class Player:
             except TooDeep:
                 self.tell(f"depth {wanted} can't be had of this position")
                 wanted -= 1
+
+    def search_for(self, position: Position, seconds: float) -> Result:
+        """What is known of a position after so many seconds, by searches that deepen up to the depth that is set; one ply at least."""
+        found = self.analyse(position, 1)
+        with contextlib.suppress(Late, TooDeep):
+            for found in self.analyst.deepen(position, self.limit(position, self.depth), timeout=seconds):
+                pass
+        return found
 
     def deepening(self, position: Position) -> Iterator[Result]:
         """The same of 1, 2, .. plies, up to the depth that is set, once each."""
