@@ -71,6 +71,13 @@ export declare class Score {
 
 export declare class Entry { constructor(move: string, score: Score); readonly move: string; readonly score: Score; }
 
+/** A game that was read: passes are among its moves, `result` is black's discs less white's, and where it isn't whole its moves are those before the fault behind it. */
+export interface Game extends Readonly<Record<"black" | "white" | "event" | "date", string>> {
+  readonly start: Position; readonly final: Position; readonly moves: readonly string[]; readonly result: number | null; readonly isWhole: boolean;
+}
+/** The games of transcripts (a line each), GGF or SGF, and what is at fault in them, with line and column. */
+export declare function games(text: string, how?: { file?: string; kind?: "lines" | "ggf" | "sgf" }): (Game | FormatError)[];
+
 export interface Result {
   readonly position: Position;
   readonly depth: number;

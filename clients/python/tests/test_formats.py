@@ -1,6 +1,7 @@
 """The formats: what is written by hand from their descriptions, what their own writers write, and what can't be read, with its place."""
 from __future__ import annotations
 
+import json
 import pathlib
 import random
 import re
@@ -415,3 +416,15 @@ def test_a_great_database() -> None:
     found = wthor.read(many)
     assert isinstance(first := next(found), formats.Game) and first.place.column == 17
     assert sum(isinstance(one, formats.Game) for one in found) == 9_999
+
+
+ROWS = [json.loads(line) for line in (pathlib.Path(__file__).resolve().parents[2] / "formats.jsonl").read_text(encoding="utf-8").splitlines()]
+
+
+@pytest.mark.parametrize("row", ROWS, ids=lambda row: f"{row[0]}-{row[1][:12]!r}")
+def test_the_rows_that_javascript_reads_too(row):
+    kind, text, *wanted = row
+    for named in (kind, None):
+        shown = [str(one) if isinstance(one, FormatError) else {"moves": "".join(played.move for played in one.moves), "black": one.black, "white": one.white, "event": one.event, "date": one.date, "result": one.result, "isWhole": one.is_whole}
+                 for one in formats.games_of(text.encode(), "", named)]  # fmt: skip
+        assert shown == [one if isinstance(one, str) else {"black": "", "white": "", "event": "", "date": "", "result": None, "isWhole": True, **one} for one in wanted]
