@@ -6,7 +6,7 @@
 //! beside the desks, under a lock of its own: the file's words, rates, connections, who can be shut, and the counts. Whoever holds it may
 //! call a desk, and nobody the other way round.
 //!
-//! Who runs where: a thread for each worker of each hall (`working`), one that takes connections at each port (`listening`) and one for
+//! Who runs where: a thread for each worker of each hall, one that takes connections at each port (`listening`) and one for
 //! each connection (`client`), one that looks each second at those that wait for a job (`watching`), one for the operator's socket
 //! (`control`) and one for health and metrics (`web`), each with a thread for each that asks, and one that writes the log (`logging`).
 //!
@@ -38,7 +38,6 @@ mod telling;
 mod visits;
 mod watching;
 mod web;
-mod working;
 
 use std::env;
 use std::process::ExitCode;

@@ -15,8 +15,7 @@ use crate::reloading::copied;
 use crate::shared::Shared;
 use crate::watching::watch_all;
 use crate::web::serve_web;
-use crate::working::Workshop;
-use fair_pool::{FairShare, run_pool};
+use fair_share::FairShare;
 use hall::{Config as Totals, Hall};
 use sched_rules::Worker;
 use site_book::{CustomerBook, Plan};
@@ -30,6 +29,7 @@ use std::os::unix::net::UnixListener;
 use std::sync::{Arc, Mutex, Wait};
 use std::thread::{self, Builder, Scope, Threads};
 use std::time::{Clock, Instant};
+use steal_pool::{OpenGate, Order, PoolConfig, Quiet, run_pool_announced};
 
 /// Where a site listens.
 #[derive(Drop)]
@@ -252,9 +252,13 @@ fn run_workers<R: Threads + Wait + Sync>(
         shared.ending.tell(rt, Why::Idle);
         return;
     };
+    let config = PoolConfig {
+        order: Order::WithPicks,
+        ..PoolConfig::new(last)
+    };
     if let Some(desk) = shared.desks.get(hall) {
-        let workshop = Workshop { desk };
-        if run_pool(rt, alloc, &workshop, last, None).is_err() {
+        let (_quiet, ended) = run_pool_announced(rt, alloc, desk, config, &OpenGate, Quiet);
+        if ended.is_err() {
             shared.ending.tell(rt, Why::Idle);
         }
     }

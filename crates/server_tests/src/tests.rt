@@ -2,6 +2,7 @@ ghost use Rattle.std.specs.Prelude.{◌≡◌, true};
 
 mod bells;
 mod charges;
+mod neighbours;
 mod servers;
 mod sites;
 

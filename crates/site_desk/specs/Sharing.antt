@@ -1,7 +1,7 @@
 -- Meaning: as who a session shares the workers with others, and what its end makes of that.
 use Rattle.std.specs.Prelude.{ℕ, ◌+◌, ◌*◌, min, Option, Some, None}
-use Rattle.fair_pool.specs.Lines.{place_named}
-use Rattle.fair_pool.specs.Shares.{SharesOf, left_all}
+use Rattle.fair_share.specs.Lines.{place_named}
+use Rattle.fair_share.specs.Shares.{SharesOf, left_all}
 use Rattle.site_book.specs.declared.who.Who.{Who}
 use Rattle.site_book.specs.declared.who.Who.TheVariants.{Named, V4, V6}
 

@@ -27,8 +27,8 @@ use Rattle.site_book.specs.declared.present.Told.TheVariants.{ForAnother}
 use Rattle.site_book.specs.declared.present.Whom.TheVariants.{One}
 use Rattle.site_book.specs.Comings.{coming}
 use Rattle.site_book.specs.Rolls.{marked_all, names_present, newcomer, without_present}
-use Rattle.fair_pool.specs.Shares.{SharesOf, tenant_entered}
-use Rattle.fair_pool.specs.Picks.{seen_all, IsFairTask, IsNoTask}
+use Rattle.fair_share.specs.Shares.{SharesOf, tenant_entered}
+use Rattle.fair_share.specs.Picks.{seen_all, IsFairTask, IsNoTask}
 use Rattle.pool_rules.specs.declared.task.Task.{Task}
 use Rattle.site_desk.specs.Sharing.{share_customer, share_network, unshared}
 use Rattle.site_desk.specs.declared.came.Came.{Came}

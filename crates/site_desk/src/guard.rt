@@ -3,18 +3,20 @@
 //! A step under the lock takes less time than what it touches takes to come from another processor. So a worker keeps the lock over
 //! the steps that follow each other, and those who wait are woken once it lets go.
 ghost use Rattle.std.specs.Prelude.{◌≡◌, ◌≢◌, true, Err};
+ghost use Rattle.steal_pool.specs.Works.{share_after};
 ghost use Rattle.sched_rules.specs.declared.refusal.Refusal.TheVariants.{OutOfMemory};
 ghost use Rattle.desk_rules.specs.hall.Journals.{is_worker_step};
 ghost use Rattle.site_desk.specs.Sites.{IsSiteStep};
 
+use crate::badge::SiteBadge;
 use crate::bells::{Bells, bell_of};
 use crate::locked_site::LockedSite;
-use desk_rules::{Backoff, Change};
-use fair_pool::HeldHall;
+use desk_rules::Change;
 use hall::{DidOf, Jamboree, Step, StepAnswer};
 use std::alloc::{Allocator, Global};
 use std::marker::Model;
-use std::sync::{Condvar, MutexGuard};
+use std::sync::{Condvar, MutexGuard, Wait};
+use steal_pool::HeldHall;
 use task_deques::pool_rules::Task;
 
 /// The desk, locked by one worker for several steps. It can't be dropped: [`SiteGuard::release`] unlocks it, and wakes who waits for
@@ -40,27 +42,32 @@ impl<'d, A: Allocator> Model for SiteGuard<'d, A> {
 }
 
 impl<'d, A: Allocator + Clone> SiteGuard<'d, A> {
-    /// Offers a worker's step to the hall, and returns what it did or why it is refused, which is never `OutOfMemory`. Where the step
-    /// gives the worker a leaf, its waits follow the leaf's depth from then on. Nobody is woken before `release`.
-    pub fn offer(&mut self, backoff: &mut Backoff, step: &Step<Jamboree>) -> StepAnswer
+    /// Offers a worker's step to the hall, and returns what it did or why it is refused, which is never `OutOfMemory`. The badge's share
+    /// is raised by 1 exactly where the step was taken. Where the step gives the worker a leaf, the badge's waits follow the leaf's depth
+    /// from then on. Nobody is woken before `release`. With a badge whose share is 2^64 - 1 or more the call never returns.
+    pub fn offer<R: Wait>(
+        &mut self,
+        rt: &R,
+        badge: &mut SiteBadge,
+        step: &Step<Jamboree>,
+    ) -> StepAnswer
         requires { is_worker_step step.now ≡ true }
         ensures step { IsSiteStep self.old step.now result self.new }
+        ensures share { badge.new ≡ share_after badge.old result }
         ensures memory { result ≢ Err OutOfMemory }
     {
-        let answer = self.take(step);
-        if let Ok(DidOf::Computing(leaf)) = &answer {
-            backoff.before_leaf(leaf.depth);
+        if badge.steps >= u64::MAX as u128 {
+            // A badge can't count beyond 2^64 - 1 steps, which no worker reaches: it would stop here.
+            for _ in rt.forever() {}
+            unreachable!()
         }
-        answer
-    }
-
-    /// Offers a worker's step to the hall, and notes whom it wakes.
-    fn take(&mut self, step: &Step<Jamboree>) -> StepAnswer
-        requires { is_worker_step step.now ≡ true }
-        ensures step { IsSiteStep self.old step.now result self.new }
-        ensures memory { result ≢ Err OutOfMemory }
-    {
         let answer = self.kept.offer(step);
+        if answer.is_ok() {
+            badge.steps += 1;
+        }
+        if let Ok(DidOf::Computing(leaf)) = &answer {
+            badge.backoff.before_leaf(leaf.depth);
+        }
         match Change::of(&answer) {
             Change::InReady if self.kept.has_sleepers() => {
                 self.wakes = self.wakes.saturating_add(1);
@@ -90,12 +97,19 @@ impl<'d, A: Allocator + Clone> SiteGuard<'d, A> {
 
 // What is said of a pick is that it is a fair one at the hall as it is then.
 impl<'d, A: Allocator + Clone> HeldHall for SiteGuard<'d, A> {
-    ghost use Rattle.fair_pool.specs.Picks.{IsFairTask};
+    ghost use Rattle.fair_share.specs.Picks.{IsFairTask};
+
+    type Badge = SiteBadge;
 
     ghost is_fair = { λ site task. IsFairTask site.booked.hall.shared site.shares task };
 
-    fn offer(&mut self, step: &Step<Jamboree>) -> StepAnswer {
-        self.take(step)
+    fn offer<R: Wait>(
+        &mut self,
+        rt: &R,
+        badge: &mut SiteBadge,
+        step: &Step<Jamboree>,
+    ) -> StepAnswer {
+        self.offer(rt, badge, step)
     }
 
     fn pick(&mut self) -> Option<Task> {

@@ -3,8 +3,7 @@
 //! A [`SiteDesk`] is shared by all threads of a site. Who comes asks for a [`SiteSeat`] ([`SiteDesk::come`]): under one lock and by one
 //! call its budget is looked at, its tenant admitted, its grant entered and its session listed, or nothing of it. With a seat it
 //! reserves more, asks, gets, waits, cancels and leaves; leaving gives all back at once. Workers offer their steps by
-//! [`SiteDesk::hold`]; those of `fair_pool` by [`SiteDesk::work`], and they ask it for a fair pick among those who have a seat
-//! ([`SiteDesk::pick`]). An operator reads who is there, tells sessions to end, and brings in another plan.
+//! [`SiteDesk::hold`]: the desk is a [`steal_pool::Workplace`], which picks fairly among those who have a seat. An operator reads who is there, tells sessions to end, and brings in another plan.
 //!
 //! What lies under the lock (`LockedSite`) is a hall with its book, of which the grants are the tenants ([`BookedHall`]), the roll, and
 //! the shares of those who have a seat (`FairShare`: a guest's network is its first 64 bits, `specs/Sharing.antt`); its invariant is
@@ -32,6 +31,7 @@
 //! ```
 #![tactic(auto)]
 
+mod badge;
 mod bells;
 mod booked;
 mod came;
@@ -45,6 +45,7 @@ mod site_desk;
 mod steps;
 mod turned;
 
+pub use badge::SiteBadge;
 pub use booked::BookedHall;
 pub use entry::SeatOutcome;
 pub use guard::SiteGuard;

@@ -1,9 +1,9 @@
 //! As who a session shares the workers with others.
 ghost use Rattle.std.specs.Prelude.{◌≡◌};
-ghost use Rattle.fair_pool.specs.Shares.{tenant_entered};
+ghost use Rattle.fair_share.specs.Shares.{tenant_entered};
 ghost use Rattle.site_desk.specs.Sharing.{share_customer, share_network, unshared};
 
-use fair_pool::FairShare;
+use fair_share::FairShare;
 use site_book::Who;
 
 /// The first 16 bits of the addresses of IPv6 that 6to4 makes of those of IPv4, at their place in the first 64.

@@ -1,15 +1,16 @@
 //! The desk.
 ghost use Rattle.std.specs.Prelude.{◌≡◌, ◌≢◌, ◌≤◌, [], true, Err, None, Contains, IfErr};
+ghost use Rattle.steal_pool.specs.Works.{share_after};
 ghost use Rattle.sched_rules.specs.declared.refusal.Refusal.TheVariants.{NoJob, NoTenant, OutOfMemory};
 ghost use Rattle.site_desk.specs.declared.turned.Turned.TheVariants.{OldTenant as NumbersOut};
 ghost use Rattle.desk_rules.specs.hall.Journals.{is_worker_step};
 ghost use Rattle.desk_rules.specs.hall.jamboree_rules.othello_eval.othello_moves.declared.choices.TheConstants.{DEEPEST};
 ghost use Rattle.desk_rules.specs.Asked.{ask_refusals, cancel_refusals, seat_asked_at, IsShown};
-ghost use Rattle.fair_pool.specs.Lines.{empty_line};
-ghost use Rattle.task_deques.specs.Deals.{posts};
+ghost use Rattle.fair_share.specs.Lines.{empty_line};
 ghost use Rattle.site_desk.specs.Entries.{IsEntry};
 ghost use Rattle.site_desk.specs.Seats.{IsSiteAsk};
 
+use crate::badge::SiteBadge;
 use crate::bells::{Bells, SLEEP_SECS};
 use crate::booked::BookedHall;
 use crate::came::Came;
@@ -20,7 +21,7 @@ use crate::seat::SiteSeat;
 use crate::turned::Turned;
 use arrayvec::ArrayVec;
 use desk_rules::Backoff;
-use fair_pool::{FairShare, Hands, steps};
+use fair_share::FairShare;
 use frame_table::FrameId;
 use hall::{Jamboree, Outcome, Refusal, Step, StepAnswer};
 use position_text::Position;
@@ -34,6 +35,7 @@ use std::sync::atomic::AtomicU64;
 use std::sync::{Condvar, Mutex, MutexGuard, Wait};
 use std::thread::yield_now;
 use std::time::Duration;
+use steal_pool::{Gate, Tasks, Workplace, steps};
 use task_deques::pool_rules::{Holding, Task};
 use tenant_quota::{Left, Reserve};
 
@@ -287,30 +289,41 @@ impl<A: Allocator + Clone> SiteDesk<A> {
         self.enter(rt).listed()
     }
 
-    /// Locks the desk and offers a worker's step to the hall. Returns what the step did or why it is refused, which is never
-    /// `OutOfMemory`. A frame that became ready wakes a worker that sleeps, if one does, and the end of a job the seat that waits for it.
-    pub fn offer<R: Wait>(&self, rt: &R, backoff: &mut Backoff, step: &Step<Jamboree>) -> StepAnswer
-        requires { is_worker_step step.now ≡ true }
-        ensures { result ≢ Err OutOfMemory }
+    /// A new badge, with which a worker offers steps. Its share is 0.
+    pub fn badge(&self) -> SiteBadge
+        ensures { result ≡ 0 }
     {
-        let mut held = self.hold(rt, backoff);
-        let answer = held.offer(backoff, step);
+        SiteBadge::new()
+    }
+
+    /// Locks the desk and offers a worker's step to the hall. Returns what the step did or why it is refused, which is never
+    /// `OutOfMemory`. The badge's share is raised by 1 exactly where the step was taken. A frame that became ready wakes a worker that
+    /// sleeps, if one does, and the end of a job the seat that waits for it.
+    pub fn offer<R: Wait>(&self, rt: &R, badge: &mut SiteBadge, step: &Step<Jamboree>) -> StepAnswer
+        requires { is_worker_step step.now ≡ true }
+        ensures share { badge.new ≡ share_after badge.old result }
+        ensures memory { result ≢ Err OutOfMemory }
+    {
+        let mut held = self.hold(rt, badge);
+        let answer = held.offer(rt, badge, step);
         held.release();
         answer
     }
 
-    /// Locks the desk for several steps of the worker with this backoff: until [`SiteGuard::release`] all other threads wait. If the
-    /// lock is free at the first try, the backoff gets a little shorter; else it is doubled, up to what the last leaf's depth makes
-    /// worth it, and the worker waits that long before each further try.
-    pub fn hold<R: Wait>(&self, rt: &R, backoff: &mut Backoff) -> SiteGuard<'_, A> {
+    /// Locks the desk for several steps of the worker with this badge: until [`SiteGuard::release`] all other threads wait. If the
+    /// lock is free at the first try, the badge's backoff gets a little shorter; else it is doubled, up to what the last leaf's depth
+    /// makes worth it, and the worker waits that long before each further try.
+    pub fn hold<R: Wait>(&self, rt: &R, badge: &mut SiteBadge) -> SiteGuard<'_, A>
+        ensures { badge.new ≡ badge.old }
+    {
         let kept = match self.lock.try_lock() {
             Some(kept) => {
-                backoff.ease();
+                badge.backoff.ease();
                 kept
             }
             None => {
-                backoff.double();
-                self.enter_late(rt, *backoff)
+                badge.backoff.double();
+                self.enter_late(rt, badge.backoff)
             }
         };
         SiteGuard {
@@ -327,38 +340,6 @@ impl<A: Allocator + Clone> SiteDesk<A> {
     /// may have it.
     pub fn next_ready<R: Wait>(&self, rt: &R) -> Option<(FrameId, u8)> {
         self.await_news(rt).next_ready()
-    }
-
-    /// Locks the desk, lets a worker of the fair pool take its steps there ([`steps`]), unlocks it and wakes those who wait for what
-    /// became of it. Returns what the worker holds then; where that is a leaf to compute, the worker's waits follow its depth.
-    pub fn work<R: Wait>(
-        &self,
-        rt: &R,
-        backoff: &mut Backoff,
-        worker: Worker,
-        hands: &mut Hands,
-        holding: Holding,
-    ) -> Holding
-        ensures { posts hands.new.ends ≡ posts hands.old.ends }
-    {
-        let mut held = self.hold(rt, backoff);
-        let holding = steps(&mut held, worker, hands, holding);
-        held.release();
-        if let Holding::Computing(_, leaf) = &holding {
-            backoff.before_leaf(leaf.depth);
-        }
-        holding
-    }
-
-    /// The task that comes next, by who was served least; `None` where nobody who has a seat has a ready frame.
-    pub fn pick<R: Wait>(&self, rt: &R) -> Option<Task> {
-        self.enter(rt).pick()
-    }
-
-    /// Waits until a frame is ready or the desk is closed, and returns the task that comes next, as `pick` does, or else a ready frame;
-    /// `None` only where the desk is closed.
-    pub fn next_pick<R: Wait>(&self, rt: &R) -> Option<Task> {
-        self.await_news(rt).next_task()
     }
 
     /// Waits until a frame is ready or the desk is closed.
@@ -403,6 +384,42 @@ impl<A: Allocator + Clone> SiteDesk<A> {
             left: _left,
         } = self;
         lock.into_inner().into_booked()
+    }
+}
+
+// Its users share the hall: a worker's picks are by who was served least.
+impl<A: Allocator + Clone> Workplace for SiteDesk<A> {
+    type Badge = SiteBadge;
+
+    fn badge<R: Wait>(&self, _rt: &R) -> Option<SiteBadge> {
+        Some(self.badge())
+    }
+
+    fn close<R: Wait>(&self, rt: &R) {
+        self.close(rt);
+    }
+
+    fn work<G: Gate, R: Wait>(
+        &self,
+        rt: &R,
+        worker: Worker,
+        badge: &mut SiteBadge,
+        tasks: &mut Tasks<'_>,
+        gate: &G,
+        holding: Holding,
+    ) -> Holding {
+        let mut held = self.hold(rt, badge);
+        let holding = steps(rt, &mut held, worker, badge, tasks, gate, holding);
+        held.release();
+        holding
+    }
+
+    fn pick<R: Wait>(&self, rt: &R) -> Option<Task> {
+        self.enter(rt).pick()
+    }
+
+    fn next_task<R: Wait>(&self, rt: &R) -> Option<Task> {
+        self.await_news(rt).next_task()
     }
 }
 

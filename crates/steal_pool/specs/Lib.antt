@@ -1,4 +1,5 @@
 pub mod Announced
 pub mod Ends
 pub mod Faults
+pub mod Orders
 pub mod Works

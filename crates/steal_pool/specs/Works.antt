@@ -1,5 +1,5 @@
 -- Meaning: what one act of a worker comes to: its turn is the table's, its badge counts the steps that were taken, and the turn's task is pushed.
-use Rattle.std.specs.Prelude.{◌≡◌, ◌⊎◌, ℕ, ◌+◌, Option, Some, None, Result, Ok, Err}
+use Rattle.std.specs.Prelude.{◌≡◌, ◌⊎◌, ℕ, ◌+◌, true, Option, Some, None, Result, Ok, Err}
 use Rattle.frame_table.specs.declared.names.FrameId.{FrameId}
 use Rattle.sched_rules.specs.declared.refusal.Refusal.{Refusal}
 use Rattle.sched_rules.specs.declared.step.DidOf.{DidOf}
@@ -13,21 +13,19 @@ use Rattle.task_deques.specs.pool_rules.declared.turn.Action.TheVariants.{Bring,
 use Rattle.task_deques.specs.pool_rules.declared.turn.Holding.{Holding}
 use Rattle.task_deques.specs.pool_rules.declared.turn.Holding.TheVariants.{Nothing, Next}
 use Rattle.task_deques.specs.pool_rules.Turns.{turn_after}
+use Rattle.steal_pool.specs.declared.order.Order.{Order}
+use Rattle.steal_pool.specs.Orders.{is_due, since_after}
 
 -- a badge's share after an answer: one more where the step was taken
 abbrev pub share_after : ℕ → Result (DidOf Leaf) Refusal → ℕ
 share_after share (Ok did) = share + 1
 share_after share (Err refusal) = share
 
--- a worker's seats once it pushed a task: its own has it at the end, or it was handed back and nothing has changed
-abbrev pub IsPushed : Task → WorkerSeats → WorkerSeats → Type 0
-IsPushed task before after = (after ≡ record before { own = with_pushed task before.own }) ⊎ (after ≡ before)
-
--- a worker's seats after a turn: the turn's task, if it made one, was pushed or handed back, and else nothing has
+-- a worker's seats after a turn: the turn's task, if it made one, is the newest of its own deque or was handed back, and else nothing has
 -- changed
 abbrev pub IsPushedOf : Option Task → WorkerSeats → WorkerSeats → Type 0
 IsPushedOf None before after = after ≡ before
-IsPushedOf (Some task) before after = IsPushed task before after
+IsPushedOf (Some task) before after = (after ≡ record before { own = with_pushed task before.own }) ⊎ (after ≡ before)
 
 -- a turn of a worker: by some answer of the hall it holds what the table says next, its badge's share is that after the
 -- answer, and just the task that the table says is pushed
@@ -41,11 +39,20 @@ pub record IsTurn (worker : ℕ) (held next : Holding) (before after : ℕ) (sea
 abbrev pub IsTakenFromOwn : Task → WorkerSeats → WorkerSeats → Type 0
 IsTakenFromOwn task before after = after ≡ record before { own = with_taken task before.own }
 
+-- what a worker without a frame that has the hall locked does next: a fair pick, only where one is due, after which it has begun no other
+-- task; or the newest task of its own deque, which is counted; or nothing
+abbrev pub BeginsHere : (Task → Type 0) → Order → Option Task → WorkerSeats → WorkerSeats → ℕ → ℕ → Type 0
+BeginsHere fair order None before after since_before since = (after ≡ before) × (since ≡ since_before)
+BeginsHere fair order (Some task) before after since_before since =
+    ((is_due order since_before ≡ true) × fair task × (after ≡ before) × (since ≡ 0))
+    ⊎ (IsTakenFromOwn task before after × (since ≡ since_after order since_before))
+
 -- what a worker holds next under the same lock: what it held, and its seats haven't changed; or, where it was without a frame,
--- a task that its own seat has taken
-abbrev pub TakesOwnTask : Holding → Holding → WorkerSeats → WorkerSeats → Type 0
-TakesOwnTask held next before after =
-    ((next ≡ held) × (after ≡ before)) ⊎ ((task : Task) × (held ≡ Nothing) × (next ≡ Next (Get task)) × IsTakenFromOwn task before after)
+-- a task that it begins there
+abbrev pub GoesOnHere : (Task → Type 0) → Order → Holding → Holding → WorkerSeats → WorkerSeats → ℕ → ℕ → Type 0
+GoesOnHere fair order held next before after since_before since =
+    ((next ≡ held) × (after ≡ before) × (since ≡ since_before))
+    ⊎ ((task : Task) × (held ≡ Nothing) × (next ≡ Next (Get task)) × BeginsHere fair order (Some task) before after since_before since)
 
 -- a worker holds an answer to this frame, which it brings to the hall next, and which was computed from just this leaf
 abbrev pub BringsAnswerTo : FrameId → Leaf → Holding → Type 0

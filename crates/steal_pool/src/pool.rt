@@ -3,12 +3,14 @@ ghost use Rattle.std.specs.Prelude.{◌≡◌, ◌+◌, true, IfErr, IfOk, None}
 ghost use Rattle.steal_pool.specs.Announced.{IsUnsaid};
 ghost use Rattle.steal_pool.specs.Ends.{AreTasksOf};
 ghost use Rattle.steal_pool.specs.Faults.{pool_fault_number};
+ghost use Rattle.steal_pool.specs.declared.order.Order.TheVariants.{Specified};
 
 use crate::announce::{Announce, Quiet};
 use crate::gate::Gate;
+use crate::order::Order;
 use crate::tasks::SharedComputations;
-use crate::threads::{DeskCrew, Stock, Worked, run_all};
-use desk::{Badge, Desk, DeskLedger};
+use crate::threads::{Crew, Stock, Worked, run_all};
+use crate::workplace::Workplace;
 use sched_rules::Worker;
 use std::alloc::Global;
 use std::snapshot::Snapshot;
@@ -18,13 +20,13 @@ use std::thread::Threads;
 use task_deques::Returned;
 use thiserror::Error;
 
-/// Why no pool ran. The desk is closed then, and the workers that were started have ended.
+/// Why no pool ran. The workplace is closed then, and the workers that were started have ended.
 #[derive(Clone, Copy, Debug, PartialEq, Eq, Error)]
 pub enum PoolFault {
     /// 1: there was no memory for the deques of tasks, or for the threads' handles. No worker was started.
     #[error("out of memory")]
     OutOfMemory = 1,
-    /// 2: a worker's thread couldn't be started, or the desk had no badge left.
+    /// 2: a worker's thread couldn't be started, or the workplace had no badge left.
     #[error("no thread")]
     NoThread,
 }
@@ -38,7 +40,7 @@ impl PoolFault {
     }
 }
 
-/// Why a pool that was to be announced didn't run. The desk is closed then, and the workers that were started have
+/// Why a pool that was to be announced didn't run. The workplace is closed then, and the workers that were started have
 /// ended.
 #[derive(Clone, Copy, Debug, PartialEq, Eq, Error)]
 pub enum BeginFault {
@@ -52,11 +54,11 @@ pub enum BeginFault {
 
 /// What a pool ends with.
 #[derive(Drop)]
-pub struct PoolEnd<L: DeskLedger> {
+pub struct PoolEnd<B> {
     /// How many workers it had.
     pub workers: usize,
     /// All workers' badges, joined: its share is the number of steps that they took.
-    pub badge: Badge<L>,
+    pub badge: B,
     /// How many tasks were pushed on all deques together.
     pub pushed: u128,
     /// How many tasks were taken from them, by their owners or by thieves.
@@ -78,24 +80,28 @@ pub struct NotRun {
     pub ended: usize,
 }
 
-/// How many workers a pool has, and the size of their stacks.
+/// How many workers a pool has, the size of their stacks, and in which order they look for tasks.
 #[derive(Clone, Copy, Debug, PartialEq, Eq)]
 pub struct PoolConfig {
     /// The number of its last worker, which is how many it has: they are numbered from 1.
     pub workers: Worker,
     /// The size of a worker's stack in bytes; `None` for the usual size.
     pub stack: Option<usize>,
+    /// In which order its workers look for their next task.
+    pub order: Order,
 }
 
 impl PoolConfig {
-    /// The workers 1 to `workers`, with stacks of the usual size.
+    /// The workers 1 to `workers`, with stacks of the usual size, in the specified order.
     pub fn new(workers: Worker) -> PoolConfig
         ensures workers { result.workers ≡ workers }
         ensures stack { result.stack ≡ None }
+        ensures order { result.order ≡ Specified }
     {
         PoolConfig {
             workers,
             stack: None,
+            order: Order::Specified,
         }
     }
 }
@@ -105,20 +111,22 @@ impl PoolConfig {
 const ROOM: usize = 1_024;
 
 /// Runs the workers 1 to `workers`, each in a thread of its own. Returns what the pool ends with when the desk is
-/// closed and all workers have ended. Where not all of them could be started it closes the desk, waits for those that
+/// closed and all workers have ended. Where not all of them could be started it closes the workplace, waits for those that
 /// were, and returns why (`PoolFault`).
-pub fn run_pool<L: DeskLedger + Send + Sync, G: Gate + Sync, R: Threads + Wait + Sync>(
+pub fn run_pool<P: Workplace + Sync, G: Gate + Sync, R: Threads + Wait + Sync>(
     rt: &R,
     alloc: Global,
-    desk: &Desk<L>,
+    place: &P,
     workers: Worker,
     gate: &G,
-) -> Result<PoolEnd<L>, PoolFault>
-    requires { L.all ≡ L.parts }
+) -> Result<PoolEnd<P::Badge>, PoolFault>
+where
+    P::Badge: Send,
+    requires { P.Badge.may_join }
     ensures workers { IfOk result (λ end. end.workers ≡ workers) }
     ensures tasks { IfOk result (λ end. AreTasksOf end.ends.value end.workers end.pushed end.taken) }
 {
-    let (_quiet, ended) = run_pool_sized(rt, alloc, desk, PoolSizes::usual(workers), gate, Quiet);
+    let (_quiet, ended) = run_pool_sized(rt, alloc, place, PoolSizes::usual(workers), gate, Quiet);
     match ended {
         Ok(end) => Ok(end),
         Err(not_run) => match not_run.fault {
@@ -129,23 +137,25 @@ pub fn run_pool<L: DeskLedger + Send + Sync, G: Gate + Sync, R: Threads + Wait +
 }
 
 /// Runs a pool as `run_pool` does, with the stacks of `config`, and calls `announce` of `call` in this thread once all
-/// workers were started. Returns `call` too, and what the pool ends with when the desk is closed and all workers have
+/// workers were started. Returns `call` too, and what the pool ends with when the workplace is closed and all workers have
 /// ended. `Pool` where not all workers could be started: `announce` isn't called then. `Unsaid` where it returned
-/// false. In both cases the desk is closed, and the workers that were started have ended.
+/// false. In both cases the workplace is closed, and the workers that were started have ended.
 pub fn run_pool_announced<
-    L: DeskLedger + Send + Sync,
+    P: Workplace + Sync,
     G: Gate + Sync,
     R: Threads + Wait + Sync,
     A: Announce + Drop,
 >(
     rt: &R,
     alloc: Global,
-    desk: &Desk<L>,
+    place: &P,
     config: PoolConfig,
     gate: &G,
     call: A,
-) -> (A, Result<PoolEnd<L>, BeginFault>)
-    requires { L.all ≡ L.parts }
+) -> (A, Result<PoolEnd<P::Badge>, BeginFault>)
+where
+    P::Badge: Send,
+    requires { P.Badge.may_join }
     ensures workers { IfOk result.1 (λ end. end.workers ≡ config.workers) }
     ensures tasks { IfOk result.1 (λ end. AreTasksOf end.ends.value end.workers end.pushed end.taken) }
     ensures said { IfOk result.1 (λ _. A.says call true result.0) }
@@ -156,9 +166,10 @@ pub fn run_pool_announced<
             Some(size) => Some((1, size)),
             None => None,
         },
+        order: config.order,
         ..PoolSizes::usual(config.workers)
     };
-    let (call, ended) = run_pool_sized(rt, alloc, desk, sizes, gate, call);
+    let (call, ended) = run_pool_sized(rt, alloc, place, sizes, gate, call);
     match ended {
         Ok(end) => (call, Ok(end)),
         Err(not_run) => (call, Err(not_run.fault)),
@@ -180,11 +191,13 @@ pub struct PoolSizes {
     /// `Some((from, size))`: the workers from number `from` on have stacks of `size` bytes. All others, and all at
     /// `None`, have the usual size.
     pub stack: Option<(u8, usize)>,
+    /// In which order the workers look for their next task.
+    pub order: Order,
 }
 
 impl PoolSizes {
-    /// The workers 1 to `workers`, each with room for 1,024 tasks and a stack of the usual size; no more room than
-    /// needed for all else.
+    /// The workers 1 to `workers`, each with room for 1,024 tasks and a stack of the usual size, in the specified order; no more room
+    /// than needed for all else.
     pub fn usual(workers: Worker) -> PoolSizes
         ensures { result.workers ≡ workers }
     {
@@ -194,6 +207,7 @@ impl PoolSizes {
             more_ends: 0,
             more_threads: 0,
             stack: None,
+            order: Order::Specified,
         }
     }
 }
@@ -201,27 +215,30 @@ impl PoolSizes {
 /// Runs a pool with these sizes: what `run_pool` and `run_pool_announced` do, which say when it returns. At an error it
 /// also tells how many workers' threads were started and have ended. For tests (`thread_tests`).
 pub fn run_pool_sized<
-    L: DeskLedger + Send + Sync,
+    P: Workplace + Sync,
     G: Gate + Sync,
     R: Threads + Wait + Sync,
     A: Announce + Drop,
 >(
     rt: &R,
     alloc: Global,
-    desk: &Desk<L>,
+    place: &P,
     sizes: PoolSizes,
     gate: &G,
     call: A,
-) -> (A, Result<PoolEnd<L>, NotRun>)
-    requires { L.all ≡ L.parts }
+) -> (A, Result<PoolEnd<P::Badge>, NotRun>)
+where
+    P::Badge: Send,
+    requires { P.Badge.may_join }
     ensures workers { IfOk result.1 (λ end. end.workers ≡ sizes.workers) }
     ensures tasks { IfOk result.1 (λ end. AreTasksOf end.ends.value end.workers end.pushed end.taken) }
     ensures said { IfOk result.1 (λ _. A.says call true result.0) }
     ensures unsaid { IfErr result.1 (λ not_run. IsUnsaid A.says call not_run.fault result.0) }
 {
     let stack = sizes.stack;
+    let order = sizes.order;
     let Ok(stock) = Stock::made(alloc, sizes.workers, sizes) else {
-        desk.close(rt);
+        place.close(rt);
         let fault = BeginFault::Pool(PoolFault::OutOfMemory);
         return (call, Err(NotRun { fault, ended: 0 }));
     };
@@ -231,14 +248,15 @@ pub fn run_pool_sized<
         thread::scope_env(),
         rt,
         move |scope|
-            requires { L.all ≡ L.parts }
+            requires { P.Badge.may_join }
         {
-            let crew = DeskCrew {
+            let crew = Crew {
                 scope,
                 rt,
-                desk,
+                place,
                 shared,
                 gate,
+                order,
                 stack,
             };
             run_all(&crew, stock, call)
@@ -251,7 +269,7 @@ pub fn run_pool_sized<
 }
 
 /// What a pool ends with, by what its workers left: their joined badge, and what they did with their tasks.
-fn end_of<L: DeskLedger>(worked: Worked<L>) -> PoolEnd<L>
+fn end_of<B>(worked: Worked<B>) -> PoolEnd<B>
     ensures ends { result.ends.value ≡ worked.back }
     ensures badge { result.badge ≡ worked.badge }
     ensures tasks { AreTasksOf result.ends.value result.workers result.pushed result.taken }

@@ -9,12 +9,14 @@ ghost use Rattle.task_deques.specs.Deals.{posts, posts_of, returned, returned_ro
 ghost use Rattle.steal_pool.specs.Announced.{IsUnsaid};
 
 use crate::announce::Announce;
+use crate::badge::WorkerBadge;
 use crate::gate::Gate;
+use crate::order::Order;
 use crate::pool::{BeginFault, NotRun, PoolFault, PoolSizes};
 use crate::tasks::{SharedComputations, Tasks};
 use crate::worker::run_worker;
+use crate::workplace::Workplace;
 use core::thread::Stack;
-use desk::{Badge, Desk, DeskLedger};
 use sched_rules::Worker;
 use std::alloc::{AllocError, Global};
 use std::snapshot::Snapshot;
@@ -27,20 +29,20 @@ use task_deques::{DequeEnds, Returned, deal};
 #[derive(Drop)]
 pub(crate) struct SameEnds(Snapshot<DequeEnds>);
 
-impl<L: DeskLedger> Promise<(Badge<L>, DequeEnds)> for SameEnds {
+impl<B> Promise<(B, DequeEnds)> for SameEnds {
     ghost kept_by = { λ promise came. posts came.1 ≡ posts promise.0.value };
 }
 
 /// The handle of a worker's thread; joining it returns the worker's badge and its deque ends.
-type Handle<L> = PromisedHandle<(Badge<L>, DequeEnds), SameEnds>;
+type Handle<B> = PromisedHandle<(B, DequeEnds), SameEnds>;
 
 /// All memory that a pool takes at its start: its workers' deque ends, the room for those that come back, and the room
 /// for the threads' handles.
 #[derive(Drop)]
-pub(crate) struct Stock<L: DeskLedger> {
+pub(crate) struct Stock<B> {
     dealt: Vec<DequeEnds>,
     back: Returned,
-    handles: Vec<Handle<L>>,
+    handles: Vec<Handle<B>>,
     ghost whole: { IsWhole (map posts dealt.items) },
     ghost few: { vec_len dealt ≤ 32 },
     ghost none_back: { returned back ≡ [] },
@@ -49,13 +51,13 @@ pub(crate) struct Stock<L: DeskLedger> {
     ghost handle_room: { vec_len dealt ≤ vec_capacity handles },
 }
 
-impl<L: DeskLedger> Stock<L> {
+impl<B> Stock<B> {
     /// The memory for the workers 1 to `last`, with these sizes. `Err` only where memory is refused.
     pub(crate) fn made(
         alloc: Global,
         last: Worker,
         sizes: PoolSizes,
-    ) -> Result<Stock<L>, AllocError>
+    ) -> Result<Stock<B>, AllocError>
         ensures { IfOk result (λ stock. vec_len stock.dealt ≡ last) }
     {
         let dealt = deal(alloc, last, sizes.room)?;
@@ -72,12 +74,13 @@ impl<L: DeskLedger> Stock<L> {
 
 /// What all threads of a pool are started with.
 #[derive(Drop)]
-pub(crate) struct DeskCrew<'s, E, L: DeskLedger, G, R> {
+pub(crate) struct Crew<'s, E, P, G, R> {
     pub(crate) scope: &'s Scope<'s, E>,
     pub(crate) rt: &'s R,
-    pub(crate) desk: &'s Desk<L>,
+    pub(crate) place: &'s P,
     pub(crate) shared: &'s SharedComputations,
     pub(crate) gate: &'s G,
+    pub(crate) order: Order,
     /// `Some((from, size))`: the workers from number `from` on have stacks of `size` bytes. All others, and all at
     /// `None`, have the usual size.
     pub(crate) stack: Option<(u8, usize)>,
@@ -85,31 +88,37 @@ pub(crate) struct DeskCrew<'s, E, L: DeskLedger, G, R> {
 
 /// What the workers of a pool leave when they have ended: their badges, joined, and the ends of all deques.
 #[derive(Drop)]
-pub(crate) struct Worked<L: DeskLedger> {
-    pub(crate) badge: Badge<L>,
+pub(crate) struct Worked<B> {
+    pub(crate) badge: B,
     pub(crate) back: Returned,
     ghost whole: { IsWhole (map posts_of (returned back)) },
 }
 
-/// Starts all workers, calls `announce` of `call`, and waits until all workers have ended, which they do when the desk
-/// is closed. Where a worker can't be started, or `announce` returns false, it closes the desk, waits for the workers
+/// Starts all workers, calls `announce` of `call`, and waits until all workers have ended, which they do when the workplace
+/// is closed. Where a worker can't be started, or `announce` returns false, it closes the workplace, waits for the workers
 /// that it started, and returns the fault and how many these were.
 pub(crate) fn run_all<
     's,
     E,
-    L: DeskLedger + Send + Sync,
+    P: Workplace + Sync,
     G: Gate + Sync,
     R: Threads + Wait + Sync,
     A: Announce,
->(crew: &DeskCrew<'s, E, L, G, R>, stock: Stock<L>, call: A) -> (A, Result<Worked<L>, NotRun>)
-    requires { L.all ≡ L.parts }
+>(
+    crew: &Crew<'s, E, P, G, R>,
+    stock: Stock<P::Badge>,
+    call: A,
+) -> (A, Result<Worked<P::Badge>, NotRun>)
+where
+    P::Badge: Send,
+    requires { P.Badge.may_join }
     ensures all { IfOk result.1 (λ worked. length (returned worked.back) ≡ vec_len stock.dealt) }
     ensures said { IfOk result.1 (λ _. A.says call true result.0) }
     ensures unsaid { IfErr result.1 (λ not_run. IsUnsaid A.says call not_run.fault result.0) }
 {
     let mut call = call;
-    let Some(own) = crew.desk.badge(crew.rt) else {
-        crew.desk.close(crew.rt);
+    let Some(own) = crew.place.badge(crew.rt) else {
+        crew.place.close(crew.rt);
         let fault = BeginFault::Pool(PoolFault::NoThread);
         return (call, Err(NotRun { fault, ended: 0 }));
     };
@@ -123,9 +132,9 @@ pub(crate) fn run_all<
     let started = start_all(crew, dealt, &mut handles);
     let begun = announced(started, &mut call);
     if begun.is_err() {
-        crew.desk.close(crew.rt);
+        crew.place.close(crew.rt);
     }
-    let badge = join_all(crew.rt, own, handles, &mut back);
+    let badge = join_all::<P, R>(crew.rt, own, handles, &mut back);
     let ended = back.count();
     match begun {
         Ok(()) => (call, Ok(Worked { badge, back })),
@@ -152,11 +161,13 @@ fn announced<A: Announce>(started: Result<(), PoolFault>, call: &mut A) -> Resul
 
 /// Starts a worker with each of these deque ends, numbered from 1 on. `NoThread` at the first that can't be started;
 /// those before it run then, and their handles are in `handles`.
-fn start_all<'s, E, L: DeskLedger + Send + Sync, G: Gate + Sync, R: Wait + Sync>(
-    crew: &DeskCrew<'s, E, L, G, R>,
+fn start_all<'s, E, P: Workplace + Sync, G: Gate + Sync, R: Wait + Sync>(
+    crew: &Crew<'s, E, P, G, R>,
     dealt: Vec<DequeEnds>,
-    handles: &mut Vec<Handle<L>>,
+    handles: &mut Vec<Handle<P::Badge>>,
 ) -> Result<(), PoolFault>
+where
+    P::Badge: Send,
     requires none { vec_len handles.old ≡ 0 }
     requires room { vec_len dealt ≤ vec_capacity handles.old }
     requires few { vec_len dealt ≤ 32 }
@@ -177,22 +188,25 @@ fn start_all<'s, E, L: DeskLedger + Send + Sync, G: Gate + Sync, R: Wait + Sync>
 
 /// Starts a worker with a new badge in a thread of its own. `NoThread` where no badge or no thread can be had; the
 /// deque ends are dropped then.
-fn start<'s, E, L: DeskLedger + Send + Sync, G: Gate + Sync, R: Wait + Sync>(
-    crew: &DeskCrew<'s, E, L, G, R>,
+fn start<'s, E, P: Workplace + Sync, G: Gate + Sync, R: Wait + Sync>(
+    crew: &Crew<'s, E, P, G, R>,
     worker: Worker,
     ends: DequeEnds,
-) -> Result<Handle<L>, PoolFault>
+) -> Result<Handle<P::Badge>, PoolFault>
+where
+    P::Badge: Send,
     ensures { IfOk result (λ handle. posts handle.promise.0.value ≡ posts ends) }
 {
-    let DeskCrew {
+    let Crew {
         scope,
         rt,
-        desk,
+        place,
         shared,
         gate,
+        order,
         stack,
     } = *crew;
-    let Some(badge) = desk.badge(rt) else {
+    let Some(badge) = place.badge(rt) else {
         return Err(PoolFault::NoThread);
     };
     let thread = match stack {
@@ -203,7 +217,7 @@ fn start<'s, E, L: DeskLedger + Send + Sync, G: Gate + Sync, R: Wait + Sync>(
     match thread.spawn_scoped_with(
         scope,
         promise,
-        move || work(rt, desk, worker, badge, shared, ends, gate),
+        move || work(rt, place, worker, badge, shared.tasks_in(ends, order), gate),
     ) {
         Ok(handle) => Ok(handle),
         Err(_) => Err(PoolFault::NoThread),
@@ -211,31 +225,30 @@ fn start<'s, E, L: DeskLedger + Send + Sync, G: Gate + Sync, R: Wait + Sync>(
 }
 
 /// What a worker's thread does: runs the worker until it ends, and returns its badge and its deque ends.
-fn work<L: DeskLedger, G: Gate, R: Wait>(
+fn work<P: Workplace, G: Gate, R: Wait>(
     rt: &R,
-    desk: &Desk<L>,
+    place: &P,
     worker: Worker,
-    badge: Badge<L>,
-    shared: &SharedComputations,
-    ends: DequeEnds,
+    badge: P::Badge,
+    tasks: Tasks<'_>,
     gate: &G,
-) -> (Badge<L>, DequeEnds)
-    ensures { posts result.1 ≡ posts ends }
+) -> (P::Badge, DequeEnds)
+    ensures { posts result.1 ≡ posts tasks.entry.ends }
 {
-    let (badge, tasks) = run_worker(rt, desk, worker, badge, shared.tasks(ends), gate);
+    let (badge, tasks) = run_worker(rt, place, worker, badge, tasks, gate);
     let Tasks { ends, .. } = tasks;
     (badge, ends)
 }
 
 /// Waits until all these threads have ended, adds the deque ends that they return to `back`, and returns their badges,
 /// joined to `own`.
-fn join_all<L: DeskLedger, R: Threads>(
+fn join_all<P: Workplace, R: Threads>(
     rt: &R,
-    own: Badge<L>,
-    handles: Vec<Handle<L>>,
+    own: P::Badge,
+    handles: Vec<Handle<P::Badge>>,
     back: &mut Returned,
-) -> Badge<L>
-    requires hands { L.all ≡ L.parts }
+) -> P::Badge
+    requires hands { P.Badge.may_join }
     requires none { returned back.old ≡ [] }
     requires room { vec_len handles ≤ returned_room back.old }
     ensures { map posts_of (returned back.new) ≡ map (λ handle. posts handle.promise.0.value) handles.items }
@@ -244,7 +257,7 @@ fn join_all<L: DeskLedger, R: Threads>(
     for handle in handles {
         let (badge, ends) = handle.join(rt);
         back.put(ends);
-        all = all.join(badge);
+        all = all.joined(badge);
     }
     all
 }

@@ -12,7 +12,7 @@ use std::net::{Net, OpenListener, SocketAddr, TcpStream};
 use std::sync::Wait;
 use std::sync::atomic::{AtomicBool, Ordering};
 use std::thread::{self, Builder, Scope, Threads};
-use steal_pool::desk::{Desk, DeskLedger};
+use steal_pool::desk::{Badge, Desk, DeskLedger};
 use steal_pool::{Announce, BeginFault, Gate, PoolConfig, PoolEnd, Quiet, run_pool_announced};
 use tcp_door::Door;
 
@@ -72,7 +72,7 @@ pub fn serve<
     listener: N,
     config: ServerConfig,
     gate: &G,
-) -> Result<PoolEnd<L>, ServeFault>
+) -> Result<PoolEnd<Badge<L>>, ServeFault>
     requires { L.all ≡ L.parts }
     ensures workers { IfOk result (λ end. end.workers ≡ config.pool.workers) }
     ensures tasks { IfOk result (λ end. AreTasksOf end.ends.value end.workers end.pushed end.taken) }
@@ -100,7 +100,7 @@ pub fn serve_announced<
     config: ServerConfig,
     gate: &G,
     call: A,
-) -> Result<(A, PoolEnd<L>), ServeFault>
+) -> Result<(A, PoolEnd<Badge<L>>), ServeFault>
     requires { L.all ≡ L.parts }
     ensures said { IfOk result (λ served. A.says call true served.0) }
     ensures workers { IfOk result (λ served. served.1.workers ≡ config.pool.workers) }
@@ -119,8 +119,8 @@ pub fn serve_announced<
 
 /// The result of `run_pool_announced` as that of `serve_announced`; at an error the announcer is dropped.
 fn ended_as<A: Drop, L: DeskLedger>(
-    came: (A, Result<PoolEnd<L>, BeginFault>),
-) -> Result<(A, PoolEnd<L>), ServeFault>
+    came: (A, Result<PoolEnd<Badge<L>>, BeginFault>),
+) -> Result<(A, PoolEnd<Badge<L>>), ServeFault>
     ensures call { IfOk result (λ served. came.0 ≡ served.0) }
     ensures end { IfOk result (λ served. came.1 ≡ Ok served.1) }
 {

@@ -2,13 +2,12 @@
 //! another's job.
 use super::holds;
 use super::sites::{amount, desk_of, seat_of};
-use desk_rules::Backoff;
 use frame_table::FrameId;
 use hall::{DidOf, LeafAnswer, Outcome, StepOf, Worker};
 use othello_board::Board;
 use position_text::{Position, Side};
 use site_book::{Told, Who, Whom};
-use site_desk::{SiteDesk, SiteGuard, SiteSeat};
+use site_desk::{SiteBadge, SiteDesk, SiteGuard, SiteSeat};
 use std::alloc::Global;
 use std::process::Abort;
 use std::sync::Wait;
@@ -105,31 +104,35 @@ fn come_to_rest<C: Clock + CpuClock>(clock: &C) -> bool {
 }
 
 /// The five steps of a worker that compute and finish the job of a frame, while it holds the desk. Whether they are taken.
-fn finish(held: &mut SiteGuard<'_>, worker: Worker, root: FrameId) -> bool {
-    let mut backoff = Backoff::new();
-    let taken = held.offer(&mut backoff, &StepOf::Steal(worker, 0, root));
-    let begun = held.offer(&mut backoff, &StepOf::Advance(worker, root));
+fn finish<R: Wait>(
+    rt: &R,
+    held: &mut SiteGuard<'_>,
+    badge: &mut SiteBadge,
+    worker: Worker,
+    root: FrameId,
+) -> bool {
+    let taken = held.offer(rt, badge, &StepOf::Steal(worker, 0, root));
+    let begun = held.offer(rt, badge, &StepOf::Advance(worker, root));
     let (Ok(_), Ok(DidOf::Computing(leaf))) = (taken, begun) else {
         return false;
     };
     let answer = LeafAnswer::compute(leaf);
-    held.offer(&mut backoff, &StepOf::Answer(worker, root, answer))
+    held.offer(rt, badge, &StepOf::Answer(worker, root, answer))
         .is_ok()
         && held
-            .offer(&mut backoff, &StepOf::Advance(worker, root))
+            .offer(rt, badge, &StepOf::Advance(worker, root))
             .is_ok()
-        && held
-            .offer(&mut backoff, &StepOf::Finish(worker, root))
-            .is_ok()
+        && held.offer(rt, badge, &StepOf::Finish(worker, root)).is_ok()
 }
 
 /// The jobs of this serial of the sessions from one number to before another are finished under one lock.
 fn finish_all<R: Wait + Abort>(rt: &R, desk: &SiteDesk, from: u64, to: u64, serial: u64) {
     let worker = Worker::new(1).expect(rt, "a worker");
-    let mut held = desk.hold(rt, &mut Backoff::new());
+    let badge = &mut desk.badge();
+    let mut held = desk.hold(rt, badge);
     let mut all = true;
     for tenant in from..to {
-        all = finish(&mut held, worker, FrameId { tenant, serial }) && all;
+        all = finish(rt, &mut held, badge, worker, FrameId { tenant, serial }) && all;
     }
     held.release();
     holds(rt, all);

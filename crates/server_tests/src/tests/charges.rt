@@ -2,13 +2,12 @@
 use super::bells::{OPENING, desk_for_all};
 use super::holds;
 use super::sites::seat_of;
-use desk_rules::Backoff;
-use fair_pool::Hands;
 use hall::{LeafAnswer, Worker};
 use site_book::Who;
 use site_desk::{SiteDesk, SiteSeat};
 use std::process::Abort;
 use std::sync::Wait;
+use steal_pool::{OpenGate, SharedComputations, Workplace};
 use task_deques::deal;
 use task_deques::pool_rules::{Action, Holding, Task};
 
@@ -36,21 +35,24 @@ fn who_was_served_owes_it(rt: HostRuntime) {
     let desk = &desk_for_all(rt, rt.alloc());
     let worker = Worker::new(1).expect(rt, "a worker");
     let mut ends = deal(rt.alloc(), worker, 8).expect(rt, "there is memory");
-    let mut hands = Hands::new(ends.pop().expect(rt, "the worker's ends"));
-    let backoff = &mut Backoff::new();
+    let shared = SharedComputations::new();
+    let mut tasks = shared.tasks(ends.pop().expect(rt, "the worker's ends"));
+    let badge = &mut desk.badge();
+    let gate = &OpenGate;
     let _first = asked_twice(rt, desk, 1);
     let _second = asked_twice(rt, desk, 2);
     let begun = Holding::Next(Action::Get(picked(rt, desk, 1)));
-    let Holding::Computing(frame, leaf) = desk.work(rt, backoff, worker, &mut hands, begun) else {
+    let Holding::Computing(frame, leaf) = desk.work(rt, worker, badge, &mut tasks, gate, begun)
+    else {
         return holds(rt, false);
     };
     let task = picked(rt, desk, 2);
-    holds(rt, hands.ends.push(task).is_ok());
-    hands.cost = 5;
+    holds(rt, tasks.ends.push(task).is_ok());
+    tasks.cost = 5;
     let brings = Holding::Next(Action::Bring(frame, LeafAnswer::compute(leaf)));
-    let Holding::Computing(next, _) = desk.work(rt, backoff, worker, &mut hands, brings) else {
+    let Holding::Computing(next, _) = desk.work(rt, worker, badge, &mut tasks, gate, brings) else {
         return holds(rt, false);
     };
-    holds(rt, next.tenant == 2 && hands.cost == 0);
+    holds(rt, next.tenant == 2 && tasks.cost == 0);
     let _task = picked(rt, desk, 2);
 }

@@ -21,7 +21,7 @@ use std::sync::atomic::{AtomicU32, Ordering};
 use std::sync::ledger::Blank;
 use std::thread::Threads;
 use std::time::{Clock, CpuClock, Duration};
-use tcp_server::desk::{Desk, DeskLedger, Hall, Jamboree, Opened, PARTS, Step};
+use tcp_server::desk::{Badge, Desk, DeskLedger, Hall, Jamboree, Opened, PARTS, Step};
 use tcp_server::steal_pool::{Announce, OpenGate, PoolEnd};
 use tcp_server::{ServeFault, ServerConfig, serve, serve_announced};
 
@@ -320,7 +320,7 @@ fn visitors<R: Net<Stream = TcpStream> + Host>(
 }
 
 /// Whether a server has ended well, and all steps are accounted for.
-fn is_whole<L: DeskLedger>(desk: Desk<L>, served: Result<PoolEnd<L>, ServeFault>) -> bool
+fn is_whole<L: DeskLedger>(desk: Desk<L>, served: Result<PoolEnd<Badge<L>>, ServeFault>) -> bool
     requires { L.all ≡ L.parts }
 {
     match served {

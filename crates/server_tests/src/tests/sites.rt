@@ -2,7 +2,7 @@
 ghost use Rattle.std.specs.Prelude.{◌≡◌};
 
 use crate::tests::{holds, spell};
-use fair_pool::FairShare;
+use fair_share::FairShare;
 use hall::{Config, Hall};
 use line_io::{FromReader, FromWriter};
 use site_book::{Amount, Comer, CustomerBook, Plan, Who};

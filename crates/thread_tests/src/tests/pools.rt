@@ -156,7 +156,7 @@ fn run_sized<L: DeskLedger + Send + Sync, G: Gate + Sync, R: Threads + Wait + Sy
     sizes: PoolSizes,
     gate: &G,
     works: bool,
-) -> (u32, Result<PoolEnd<L>, NotRun>)
+) -> (u32, Result<PoolEnd<Badge<L>>, NotRun>)
     requires { L.all ≡ L.parts }
 {
     let call = Counted { count: 0, works };

@@ -1,6 +1,0 @@
-mod Common
-pub mod NameLemmas
-mod WaitLemmas
-mod LeadLemmas
-pub mod PickLemmas
-pub mod StepLemmas

@@ -1,5 +1,0 @@
-use Rattle.fair_pool.proofs.Common.{◌≡◌, drop, has_member}
-use Rattle.fair_pool.proofs.line.has_member.Given as goal
-
-abbrev pub invariant-loop-account : goal.invariant-loop-account
-invariant-loop-account l = has_member l.group (drop l.account-index l.accounts) ≡ has_member l.group l.accounts

@@ -1,5 +1,0 @@
-use Rattle.fair_pool.proofs.Common.{◌≡◌, drop, has_rival}
-use Rattle.fair_pool.proofs.line.has_rival.Given as goal
-
-abbrev pub invariant-loop-account : goal.invariant-loop-account
-invariant-loop-account l = has_rival l.group (drop l.account-index l.accounts) ≡ has_rival l.group l.accounts

@@ -1,5 +1,0 @@
-use Rattle.fair_pool.proofs.Common.{◌≡◌, None, drop, least_from}
-use Rattle.fair_pool.proofs.line.least_served.Given as goal
-
-abbrev pub invariant-loop-account : goal.invariant-loop-account
-invariant-loop-account l = least_from l.least l.group (drop l.account-index l.accounts) ≡ least_from None l.group l.accounts

@@ -1,5 +1,0 @@
-use Rattle.fair_pool.proofs.Common.{IsBestBelow}
-use Rattle.fair_pool.proofs.line.next_in.Given as goal
-
-abbrev pub invariant-loop-place : goal.invariant-loop-place
-invariant-loop-place l = IsBestBelow l.group l.accounts l.place l.best

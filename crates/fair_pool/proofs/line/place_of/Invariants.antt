@@ -1,5 +1,0 @@
-use Rattle.fair_pool.proofs.Common.{◌≡◌, drop, place_from}
-use Rattle.fair_pool.proofs.line.place_of.Given as goal
-
-abbrev pub invariant-loop-place : goal.invariant-loop-place
-invariant-loop-place l = place_from l.place l.group l.name (drop l.place l.accounts) ≡ place_from 0 l.group l.name l.accounts

@@ -1,5 +1,0 @@
-use Rattle.fair_pool.proofs.Common.{◌≡◌, seen_up_to}
-use Rattle.fair_pool.proofs.picks.see_all.Given as goal
-
-abbrev pub invariant-loop-place : goal.invariant-loop-place
-invariant-loop-place g l = l.shares ≡ seen_up_to l.hall.shared l.place l.initial.shares

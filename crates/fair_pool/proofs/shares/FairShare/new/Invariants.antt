@@ -1,5 +1,0 @@
-use Rattle.fair_pool.proofs.Common.{◌≡◌, ◌≤◌, replicate, vec_capacity}
-use Rattle.fair_pool.proofs.shares.FairShare.new.Given as goal
-
-abbrev pub invariant-loop-customer : goal.invariant-loop-customer
-invariant-loop-customer l = record { items : l.kept.items ≡ replicate l._customer 0; room : l.customers ≤ vec_capacity l.kept }

@@ -1,0 +1,5 @@
+mod Common
+pub mod NameLemmas
+mod WaitLemmas
+mod LeadLemmas
+pub mod PickLemmas

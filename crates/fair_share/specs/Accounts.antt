@@ -1,0 +1,35 @@
+-- Meaning: what is kept of one that shares with others, and who comes before whom.
+use Rattle.std.specs.Prelude.{ℕ, ◌+◌, ◌-◌, ◌==◌, nat_lt, Bool, ◌&&◌, ◌||◌, if◌then◌else◌}
+use Rattle.fair_share.specs.declared.account.ShareAccount.{ShareAccount}
+
+-- the account of a free place
+abbrev pub free_account : ShareAccount
+free_account = record { name = 0; group = 0; served = 0; since = 0 }
+
+-- whether it is active: it has something to be served with
+abbrev pub is_active : ShareAccount → Bool
+is_active account = nat_lt 0 account.since
+
+-- whether it is active in this group
+abbrev pub is_rival : ℕ → ShareAccount → Bool
+is_rival group account = is_active account && (account.group == group)
+
+-- whether the first comes before the second: it was served less, or as much and it became active earlier
+abbrev pub is_before : ShareAccount → ShareAccount → Bool
+is_before first second = nat_lt first.served second.served || ((first.served == second.served) && nat_lt first.since second.since)
+
+-- the sum, or the greatest count where it is more
+abbrev pub capped_sum : ℕ → ℕ → ℕ
+capped_sum a b = if nat_lt (18446744073709551615 - a) b then 18446744073709551615 else a + b
+
+-- after it was served so much more
+abbrev pub account_charged : ℕ → ShareAccount → ShareAccount
+account_charged amount account = record account { served = capped_sum account.served amount }
+
+-- active since this turn, served as much as it was, or as this floor where that is more
+abbrev pub woken_from : ℕ → ℕ → ShareAccount → ShareAccount
+woken_from floor turn account = record account { served = if nat_lt account.served floor then floor else account.served; since = turn }
+
+-- no more active
+abbrev pub rested : ShareAccount → ShareAccount
+rested account = record account { since = 0 }

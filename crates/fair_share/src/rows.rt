@@ -1,0 +1,72 @@
+//! Worked examples of picks and shares, computed from the definitions alone.
+ghost use Rattle.std.specs.Prelude.{◌≡◌, true, false, ℕ, [], ◌∷◌, Some, None, map};
+ghost use Rattle.fair_share.specs.Accounts.{is_before, capped_sum};
+ghost use Rattle.fair_share.specs.Lines.{account_at, least_served, floor_of, has_rival, woken, rested_at, charged};
+ghost use Rattle.fair_share.specs.Waits.{is_ahead, Comes, Wakes, Rests, Serves, Picks, picks_in, tasks_in};
+ghost use Rattle.fair_share.specs.Shares.{new_shares, tenant_entered, entered_place, customer_at, network_at, tenant_seen, left_all};
+ghost use Rattle.fair_share.specs.Rows.{account, four, three, served};
+
+/// Two were served as much: the one that has been active for longer comes before the other. One that was served less comes before
+/// both.
+pub fn who_comes_before_whom()
+    ensures longer { is_before (account 2 0 50 2) (account 1 0 50 3) ≡ true }
+    ensures shorter { is_before (account 1 0 50 3) (account 2 0 50 2) ≡ false }
+    ensures less { is_before (account 3 0 49 9) (account 2 0 50 2) ≡ true }
+    ensures itself { is_before (account 1 0 50 3) (account 1 0 50 3) ≡ false }
+{}
+
+/// Whoever becomes active starts where the least served active one of its group is, and not below its own count; its turn is the
+/// line's. Who is active already stays.
+pub fn where_one_starts()
+    ensures floor { floor_of 0 four.accounts ≡ 50 }
+    ensures nobody { least_served 2 four.accounts ≡ None }
+    ensures starts { account_at (woken 2 four).accounts 2 ≡ account 3 0 50 4 }
+    ensures next_turn { (woken 2 four).turn ≡ 5 }
+    ensures stays { woken 0 four ≡ four }
+    ensures greater { account_at (woken 2 (charged 2 70 four)).accounts 2 ≡ account 3 0 80 4 }
+    ensures alone { account_at (woken 3 (rested_at 3 four)).accounts 3 ≡ account 4 1 0 4 }
+{}
+
+/// A count stays at the greatest.
+pub fn a_count_stays_at_the_greatest()
+    ensures below { capped_sum 18446744073709551610 5 ≡ 18446744073709551615 }
+    ensures at { capped_sum 18446744073709551610 6 ≡ 18446744073709551615 }
+{}
+
+/// Two tenants of one network have a place each of a network and a customer that they share.
+pub fn places()
+    ensures tenants { entered_place 9 1 700 (tenant_entered 8 0 500 (tenant_entered 7 0 500 (new_shares 2))) ≡ Some 2 }
+    ensures network { network_at three 1 ≡ 0 }
+    ensures customer { customer_at three 1 ≡ 0 }
+    ensures other_network { network_at three 2 ≡ 1 }
+    ensures other_customer { customer_at three 2 ≡ 1 }
+{}
+
+/// A tenant's 100 are its network's and its customer's too, and not its neighbour's.
+pub fn what_is_charged()
+    ensures customers { ((account_at served.customers.accounts 0).served ≡ 100) × ((account_at served.customers.accounts 1).served ≡ 30) }
+    ensures networks { ((account_at served.networks.accounts 0).served ≡ 100) × ((account_at served.networks.accounts 1).served ≡ 30) }
+    ensures tenants { ((account_at served.tenants.accounts 0).served ≡ 100) × ((account_at served.tenants.accounts 1).served ≡ 0) × ((account_at served.tenants.accounts 2).served ≡ 30) }
+{}
+
+/// A customer is active while one of its tenants is, and its count is kept when the last has left; then it begins there again, a
+/// network anew.
+pub fn a_count_outlives_its_tenants()
+    ensures one_rests { has_rival 0 (tenant_seen 0 false served).networks.accounts ≡ true }
+    ensures both_rest { has_rival 0 (tenant_seen 1 false (tenant_seen 0 false served)).networks.accounts ≡ false }
+    ensures one_left { (left_all 0 served).kept ≡ 0 ∷ 0 ∷ [] }
+    ensures both_left { (left_all 1 (left_all 0 served)).kept ≡ 100 ∷ 0 ∷ [] }
+    ensures again { account_at (tenant_entered 12 0 500 (left_all 1 (left_all 0 served))).customers.accounts 0 ≡ account 1 0 100 0 }
+    ensures anew { account_at (tenant_entered 12 0 500 (left_all 1 (left_all 0 served))).networks.accounts 0 ≡ account 501 0 0 0 }
+{}
+
+/// Of the four those that don't come after the first in its group: itself, and the one that has been active for longer.
+pub fn who_is_ahead()
+    ensures { map (is_ahead 0 (account 1 0 50 3)) four.accounts ≡ true ∷ true ∷ false ∷ false ∷ [] }
+{}
+
+/// Picks are tasks too.
+pub fn tasks_and_picks()
+    ensures picks { picks_in (Wakes 1 ∷ Serves 0 5 ∷ Picks 1 7 ∷ Rests 1 ∷ Picks 0 1 ∷ []) ≡ 2 }
+    ensures tasks { tasks_in (Wakes 1 ∷ Serves 0 5 ∷ Picks 1 7 ∷ Rests 1 ∷ Picks 0 1 ∷ []) ≡ 3 }
+{}

@@ -1,0 +1,65 @@
+//! A worker's badge at a site.
+ghost use Rattle.std.specs.Prelude.{◌≡◌, ◌+◌, ◌<◌, ◌^◌};
+
+use desk_rules::Backoff;
+use std::marker::Model;
+use steal_pool::WorkerBadge;
+
+/// What a worker offers steps with. Contracts see its share: how many of the steps offered with it, and with the badges that were joined
+/// to it, were taken.
+#[derive(Drop)]
+pub struct SiteBadge {
+    /// Its share.
+    pub(crate) steps: u128,
+    /// How long its worker waits between two tries to take the lock.
+    pub(crate) backoff: Backoff,
+}
+
+// Clauses see the share.
+impl Model for SiteBadge {
+    ghost use Rattle.std.specs.Prelude.{ℕ};
+
+    ghost Value = { ℕ };
+
+    ghost view = { λ b. b.steps };
+}
+
+impl SiteBadge {
+    /// That of a worker that begins.
+    pub(crate) fn new() -> SiteBadge
+        ensures { result ≡ 0 }
+    {
+        SiteBadge {
+            steps: 0,
+            backoff: Backoff::new(),
+        }
+    }
+
+    /// Its share: how many steps were taken with it, and with the badges that were joined to it; it stays at 2^128 - 1.
+    pub fn share(&self) -> u128
+        ensures { result ≡ self.now }
+    {
+        self.steps
+    }
+
+    /// One badge in place of two, with the sum of their shares, and the waits of the first.
+    pub fn join(self, other: SiteBadge) -> SiteBadge
+        ensures { self + other < 2 ^ 128 → result ≡ self + other }
+    {
+        let SiteBadge { steps, backoff } = self;
+        SiteBadge {
+            steps: steps.saturating_add(other.steps),
+            backoff,
+        }
+    }
+}
+
+impl WorkerBadge for SiteBadge {
+    ghost share = { λ badge. badge };
+
+    ghost may_join = { Unit {0} };
+
+    fn joined(self, other: SiteBadge) -> SiteBadge {
+        self.join(other)
+    }
+}

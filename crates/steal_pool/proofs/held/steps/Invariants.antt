@@ -1,0 +1,6 @@
+use Rattle.std.proofs.Common.{◌≡◌, ◌+◌, ◌≤◌}
+use Rattle.task_deques.specs.Deals.{posts}
+use Rattle.steal_pool.proofs.held.steps.Given as goal
+
+abbrev pub invariant-loop : goal.invariant-loop
+invariant-loop g l = (posts l.tasks.ends ≡ posts l.initial.tasks.ends) × (g.H.Badge.WorkerBadge.share l.badge ≤ g.H.Badge.WorkerBadge.share l.initial.badge + l.counter)

@@ -1,6 +1,0 @@
-use Rattle.std.proofs.Common.{◌≡◌, ◌+◌, ◌≤◌}
-use Rattle.task_deques.specs.Deals.{posts}
-use Rattle.steal_pool.proofs.worker.steps.Given as goal
-
-abbrev pub invariant-loop : goal.invariant-loop
-invariant-loop g l = (posts l.tasks.ends ≡ posts l.initial.tasks.ends) × (l.badge ≤ l.initial.badge + l.counter)

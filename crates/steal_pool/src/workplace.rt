@@ -1,0 +1,105 @@
+//! Where workers work: a hall under a lock.
+use crate::badge::WorkerBadge;
+use crate::gate::Gate;
+use crate::held::{HeldHall, steps};
+use crate::tasks::Tasks;
+use desk::jamboree::Jamboree;
+use desk::{Badge, Desk, DeskGuard, DeskLedger, StepAnswer};
+use sched_rules::{Step, Worker};
+use std::sync::Wait;
+use task_deques::pool_rules::{Holding, Task};
+
+/// What workers ask of the place that they work at: a hall under a lock, and, where its users share it by what each was served, who comes
+/// next.
+pub trait Workplace {
+    ghost use Rattle.std.specs.Prelude.{◌≡◌, ◌+◌, ◌≤◌};
+    ghost use Rattle.task_deques.specs.Deals.{posts};
+
+    /// What a worker offers its steps with.
+    type Badge: WorkerBadge;
+
+    /// A badge for a worker that begins. `None` where none is left.
+    fn badge<R: Wait>(&self, rt: &R) -> Option<Self::Badge>;
+
+    /// Closes the workplace for good: from then on nobody waits.
+    fn close<R: Wait>(&self, rt: &R);
+
+    /// Locks the hall, lets the worker take its steps there ([`steps`](crate::steps)), unlocks it and wakes those who wait for what
+    /// became of it. Returns what the worker holds then.
+    fn work<G: Gate, R: Wait>(
+        &self,
+        rt: &R,
+        worker: Worker,
+        badge: &mut Self::Badge,
+        tasks: &mut Tasks<'_>,
+        gate: &G,
+        holding: Holding,
+    ) -> Holding
+        ensures ends { posts tasks.new.ends ≡ posts tasks.old.ends }
+        ensures few { Self.Badge.share badge.new ≤ Self.Badge.share badge.old + 32 };
+
+    /// The task that comes next, by who was served least; `None` where nobody who shares has a ready frame, or nobody shares.
+    fn pick<R: Wait>(&self, rt: &R) -> Option<Task>;
+
+    /// Waits until a frame is ready or the workplace is closed, and returns the task that comes next: a pick where users share, else any
+    /// frame that is ready. `None` only where it is closed.
+    fn next_task<R: Wait>(&self, rt: &R) -> Option<Task>;
+}
+
+// Nobody shares a desk's hall, so nothing that was picked would be fair, and nobody is charged.
+impl<'d, L: DeskLedger> HeldHall for DeskGuard<'d, L> {
+    type Badge = Badge<L>;
+
+    ghost is_fair = { λ _ _. ⊥ };
+
+    fn offer<R: Wait>(
+        &mut self,
+        rt: &R,
+        badge: &mut Badge<L>,
+        step: &Step<Jamboree>,
+    ) -> StepAnswer {
+        self.offer(rt, badge, step)
+    }
+
+    fn pick(&mut self) -> Option<Task> {
+        None
+    }
+
+    fn charge(&mut self, _tenant: u64, _amount: u64) {}
+}
+
+impl<L: DeskLedger> Workplace for Desk<L> {
+    type Badge = Badge<L>;
+
+    fn badge<R: Wait>(&self, rt: &R) -> Option<Badge<L>> {
+        self.badge(rt)
+    }
+
+    fn close<R: Wait>(&self, rt: &R) {
+        self.close(rt);
+    }
+
+    fn work<G: Gate, R: Wait>(
+        &self,
+        rt: &R,
+        worker: Worker,
+        badge: &mut Badge<L>,
+        tasks: &mut Tasks<'_>,
+        gate: &G,
+        holding: Holding,
+    ) -> Holding {
+        let mut held = self.hold(rt, badge);
+        let holding = steps(rt, &mut held, worker, badge, tasks, gate, holding);
+        held.release();
+        holding
+    }
+
+    fn pick<R: Wait>(&self, _rt: &R) -> Option<Task> {
+        None
+    }
+
+    fn next_task<R: Wait>(&self, rt: &R) -> Option<Task> {
+        let (frame, home) = self.next_ready(rt)?;
+        Some(Task { frame, home })
+    }
+}
