@@ -4,7 +4,7 @@ that are written by hand. Every link, also to a part of a document, and every pa
 also in the heads of crates and their examples, is there in code, definitions or scripts (a comment or another document shows nothing); every
 counted figure, list and excerpt is what the tree says (so the transcripts are those of the texts that ./gate plays); docs/promises and
 docs/pictures are what their scripts write. Of every other document (README.md of a folder) the links are checked, and everywhere the
-version, which is that of VERSION, with the date that CHANGELOG.md has for it. A reader's page has 1,200 words at most, all others together 18,000.
+version, which is that of VERSION, with the date that CHANGELOG.md has for it. A reader's page has 1,200 words at most.
 
 usage: tools/docs/check.py [FILE..]     (all where none is named)
        tools/docs/check.py write        writes the counted figures, the pages of promises and the tables anew
@@ -30,7 +30,7 @@ LIST = re.compile(r"(<!--made:([\w:,-]+)-->\n).*?(<!--/made-->)", re.S)
 PROMISES = TOP / "docs/promises"
 BY_HAND = [PROMISES / "HOW-TO-READ.md", PROMISES / "WHAT-IS-ASSUMED.md"]
 READERS = [TOP / f"docs/{name}.md" for name in ("SITE", "TESTER", "TEACHER", "PROGRAMMER", "SCEPTIC", "MAINTAINER")]
-MOST, MOST_FOR_A_READER = 18_000, 1_200  # words
+MOST_FOR_A_READER = 1_200  # words
 VERSIONED = {  # where the version stands beside VERSION itself; in documents it stands in the names of a release's files
     "crates/command_line/src/commands.rt": r'const VERSION: &str = "(.*?)"',
     "crates/othello_site/src/running.rt": r'"othello_site (.*?)\\n"',
@@ -373,7 +373,7 @@ def count_words():
     counts = {document: words_in(document) for document in documents() if not is_made(document)}
     total = sum(count for document, count in counts.items() if document not in READERS)
     faults = [f"{page.relative_to(TOP)}: {counts[page]} words, and {MOST_FOR_A_READER} at most" for page in READERS if counts[page] > MOST_FOR_A_READER]
-    return counts, total, faults + ([f"{total} words by hand, and {MOST} at most"] if total > MOST else [])
+    return counts, total, faults
 
 
 def write(counted):
