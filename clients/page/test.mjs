@@ -12,15 +12,20 @@ import * as ggf from "./js/formats/ggf.js";
 import { filesRead, textRead, titleOf } from "./js/formats/read.js";
 import * as sgf from "./js/formats/sgf.js";
 import * as wthor from "./js/formats/wthor.js";
+import { lessonOf } from "./js/classroom.js";
+import { besides } from "./js/files.js";
 import { mistakesOf, totalsOf } from "./js/judge.js";
-import { pairsOf } from "./js/moves.js";
+import { isPass, pairsOf } from "./js/moves.js";
+import { MOST_LINES } from "./js/formats/read.js";
 import { LINES, openingOf } from "./js/openings.js";
 import { LEVELS, choiceOf } from "./js/program.js";
 import { modules } from "./js/qr.js";
+import { questionsOf } from "./js/quiz.js";
 import { SQUARES, START, isOver, legal, mirrored, played, positionOf, result, useEngine, wordsOf } from "./js/rules.js";
-import { brief, flipped, lossOf, scoreOf, share, tintOf, tournament, words } from "./js/scores.js";
-import { speak, t } from "./js/texts.js";
-import { TABLE } from "./js/table.js";
+import { listOf, nodeScore, pointOf, sceneOf, wantedOf } from "./js/scene.js";
+import { LIMITS, MEASURED, brief, flipped, lossOf, scoreOf, share, tintOf, tournament, words } from "./js/scores.js";
+import { newState } from "./js/state.js";
+import { LANGUAGES, speak, t } from "./js/texts.js";
 import { treeOf } from "./js/tree.js";
 
 const GAME = "f5d6c3d3c4f4f6g5e3f3g4h5";
@@ -56,8 +61,27 @@ test("the spellings of games and positions", () => {
     assert.equal(found.faults.length, faults, text);
     for (const fault of found.faults) assert.ok(!fault.text.includes("⟨"), fault.text);
   }
+  const lines = Array.from({ length: MOST_LINES + 1 }, () => "f5d6c3").join("\n"), before = performance.now(), many = textRead(lines);
+  assert.deepEqual([many.games.length, many.faults.map((fault) => fault.text)], [0, [`these are ${MOST_LINES + 1} lines, and the board reads ${MOST_LINES} at once`]]);
+  assert.ok(performance.now() - before < 500);
   assert.match(textRead("f5d6\nc3a1").faults[0].text, /^line 2, column 3: move 4, a1/);
   assert.match(textRead(`${one}\n\nd6\na1`).faults[0].text, /^line 4, column 1: move 2, a1/);
+});
+
+test("each row of spellings is read as Python reads it", () => {
+  const rows = fs.readFileSync(new URL("../spellings.txt", import.meta.url), "utf8").split("\n").filter((line) => line && line[0] !== "#").map((line) => line.split("\t"));
+  assert.ok(rows.length > 25);
+  for (const [text, moves, result] of rows) {
+    const { games, faults } = textRead(text.replaceAll("\\n", "\n"));
+    if (moves === "fault") assert.ok(faults.length, text);
+    else assert.deepEqual([games.map((game) => [treeOf(game.moves).tree.text(), game.result ?? ""]), faults.map((fault) => fault.text)], [[[moves, result]], []], text);
+  }
+  const whole = fs.readFileSync(new URL("../python/tests/fixtures/transcripts.txt", import.meta.url), "utf8").split("\n").filter((line) => line && line[0] !== "#"), told = whole.map((line) => textRead(line));
+  assert.equal(new Set(told.map(({ games: [game] }) => treeOf(game.moves).tree.text())).size, 1);
+  assert.deepEqual(told.map(({ games: [game], faults }) => [game.result ?? "", faults.length]).slice(0, 2), [["10", 0], ["10", 0]]);
+  assert.match(textRead(`${whole[0].slice(0, 120)} 38-26`).faults[0].text, /the score is said to be 12 for black, and is 10/);
+  const [game] = textRead(fs.readFileSync(new URL("../python/tests/fixtures/heads.pgn", import.meta.url), "utf8")).games;
+  assert.deepEqual([game.black, game.white, game.event, game.date, game.result, treeOf(game.moves).tree.main().length], ["one", "other", "a place", "2026-11-28", "10", 60]);
 });
 
 test("a game keeps its names, date, result and moves through GGF, SGF, WTHOR and an address", () => {
@@ -113,9 +137,9 @@ test("what a score says", () => {
   assert.ok(share({ points: 0 }) === 0.5 && share({ points: 40 }) > share({ points: 10 }) && share({ discs: 64 }) > 0.99 && share({ discs: -2 }) < 0.5);
 });
 
-test("grave is said of discs alone, and a loss in points is an opinion", () => {
+test("grave and weak are said of discs alone, and a loss in points is doubtful at most", () => {
   const points = (n) => ({ sign: "=", points: n }), discs = (n) => ({ sign: "=", discs: n });
-  assert.deepEqual([lossOf(points(400), points(-700)).class, lossOf(points(10), points(0)).class], ["opinion", "good"]);
+  assert.deepEqual([lossOf(points(400), points(-700)).class, lossOf(points(LIMITS.WORSE), points(0)).class, lossOf(points(LIMITS.WORSE - 1), points(0)).class], ["doubtful", "worse", "good"]);
   assert.deepEqual([lossOf(discs(10), discs(8)).class, lossOf(discs(10), discs(2)).class, lossOf(discs(2), discs(-2)).class, lossOf(discs(2), discs(0)).class, lossOf(discs(3), discs(2)).class], ["weak", "grave", "grave", "grave", "good"]);
   assert.equal(lossOf(discs(10), points(2)), null);
   assert.equal(lossOf(points(2), { sign: "<", points: -9 }), null);
@@ -130,11 +154,116 @@ test("mistakes stand by their marks, each scale apart", () => {
   know(line[1], discs(2), discs(-2)); // grave, 4
   know(line[2], discs(20), discs(14)); // weak, 6
   know(line[3], discs(20), discs(4)); // grave, 16
-  know(line[4], points(20), points(0));
+  know(line[4], points(LIMITS.WORSE), points(0));
   know(line[5], discs(20), discs(2), false); // not searched to the end: no fact
   const analyst = { of: (position) => table.get(position) }, found = mistakesOf(line, analyst);
   assert.deepEqual([found.discs.map(({ node }) => node.ply), found.points.map(({ node }) => node.ply)], [[4, 2, 3], [1, 5]]);
-  assert.deepEqual(totalsOf(line, "X", analyst), { discs: 6, points: 720, weak: 1, grave: 0, inDiscs: 1, inPoints: 2 });
+  assert.deepEqual(totalsOf(line, "X", analyst), { discs: 6, weak: 1, grave: 0, doubtful: 1, inDiscs: 1, inPoints: 2 });
+  table.get(line[0].parent.position).depth = MEASURED.depth - 1; // less deep than was measured
+  assert.deepEqual([totalsOf(line, "X", analyst).doubtful, mistakesOf(line, analyst).points.map(({ loss }) => loss.class)], [0, ["worse", "worse"]]);
+});
+
+/** A state of a game, and an analyst that knows of the positions before its moves what is given: {best: [move, score], own: [move, score], ..}. */
+function stateOf(text, known = {}) {
+  const state = newState(), analyst = new Analyst({ engine: {} }, () => {});
+  state.tree = treeOf(text).tree;
+  for (const [ply, { best, ends = false, depth = MEASURED.depth, ...table }] of Object.entries(known)) {
+    const { position } = state.tree.main()[ply - 1].parent;
+    analyst.learn(position, { depth, best, ends, score: table[best], line: [best], table: new Map(Object.entries(table)) });
+  }
+  return { state, analyst };
+}
+
+const points = (n) => ({ sign: "=", points: n }), discs = (n) => ({ sign: "=", discs: n });
+
+test("a mistake is looked at before its move, with the better ones", () => {
+  const { state, analyst } = stateOf("f5d6c3d3c4", { 4: { best: "c4", c4: points(90), f4: points(30), d3: points(10), e3: points(-40) } }), node = state.tree.main()[3];
+  state.mistake = node;
+  assert.equal(sceneOf(state, analyst).mistake, null); // elsewhere
+  state.tree.go(node.parent);
+  const { mistake } = sceneOf(state, analyst);
+  assert.deepEqual([mistake.node.move, mistake.better, mistake.loss.amount, mistake.loss.class], ["d3", ["c4", "f4"], 80, "doubtful"]);
+  assert.deepEqual(listOf(sceneOf(state, analyst)).map((one) => one.node.move), ["d3"]);
+});
+
+test("in a variation the game stays, and both its ends lead back", () => {
+  const { state, analyst } = stateOf("f5d6(f4c3d6)c3d3"), { tree } = state, moves = (line) => line.map(({ move }) => move).join(" ");
+  tree.goTo(tree.nodes().findIndex(({ move, isMain }) => move === "c3" && !isMain) + 1);
+  const scene = sceneOf(state, analyst);
+  assert.deepEqual([moves(scene.game), moves(scene.variation), scene.left.move], ["f5 d6 c3 d3", "f4 c3 d6", "f5"]);
+  assert.equal(wantedOf(state).length, 8); // the start, the game and the variation
+  tree.last();
+  assert.equal(moves([tree.current]), "d6");
+  tree.forward();
+  assert.deepEqual([tree.current.move, tree.current.isMain], ["f5", true]);
+  tree.go(tree.current.children[1]);
+  tree.back();
+  tree.forward();
+  assert.deepEqual([tree.current.move, tree.current.isMain], ["d6", true]); // the game's own move, and not the variation's
+});
+
+test("all values have the sign that is chosen", () => {
+  const { state, analyst } = stateOf("f5d6c3", { 1: { best: "f5", f5: points(8) }, 2: { best: "d6", d6: points(20) }, 3: { best: "c3", c3: discs(4), ends: true } });
+  const told = () => {
+    const scene = sceneOf(state, analyst), game = scene.game;
+    return [game.map((node) => brief(scene.seen(scene.of(node.parent.position).table.get(node.move), node.side))), game.slice(0, 2).map((node) => nodeScore(scene, node)).map((score) => score.points ?? score.discs), pointOf(scene, game[1]).side];
+  };
+  assert.deepEqual(told(), [["+8", "-20", "W4"], [-20, 4], "O"]);
+  state.options.view = "mover";
+  assert.deepEqual(told(), [["+8", "+20", "W4"], [-20, -4], "O"]);
+});
+
+test("no pass stands behind a last move", () => {
+  const passes = (text) => pairsOf(treeOf(text).tree.main()).filter((pair) => !(pair.X && pair.O)).map(isPass);
+  assert.deepEqual([passes("f5"), passes("f5d6c3")], [[false], [false]]);
+  const line = [1, 2, 3, 4, 5, 6, 7, 8].map((seed) => treeOf(whole(seed)).tree.main()).find((one) => one.slice(0, -1).some(({ passed }) => passed));
+  assert.ok(pairsOf(line).some((pair) => !(pair.X && pair.O) && isPass(pair)));
+});
+
+test("where nothing gives values, or nothing is asked, counts end and it is said why", () => {
+  const { state, analyst } = stateOf("f5d6"), rest = () => {
+    const { rest: why, progress } = sceneOf(state, analyst);
+    return [why, progress.known, progress.all];
+  };
+  analyst.wanted = wantedOf(state);
+  assert.deepEqual(rest(), ["", 0, 3]);
+  state.options.analyse = false;
+  assert.deepEqual(rest(), ["off", 0, 0]);
+  Object.assign(state.options, { analyse: true });
+  state.stopped = true;
+  assert.deepEqual(rest(), ["stopped", 0, 0]);
+  state.stopped = false;
+  analyst.local = { engine: null, fault: new Error("no WebAssembly") };
+  assert.deepEqual(rest(), ["engine", 0, 0]);
+  analyst.service = [4];
+  assert.equal(rest()[0], "");
+});
+
+test("the quiz asks what is certain, and else what is doubtful", () => {
+  const { state, analyst } = stateOf("f5d6c3d3c4", { 3: { best: "f4", f4: points(90), c3: points(0) }, 4: { best: "c4", c4: points(30), d3: points(0) } }), ask = () => questionsOf(state.tree.main(), "", analyst).map(({ node }) => node.move);
+  assert.deepEqual(ask(), ["c3"]);
+  analyst.learn(state.tree.main()[4].parent.position, { depth: 12, ends: true, best: "b4", line: [], score: discs(8), table: new Map([["b4", discs(8)], ["c4", discs(2)]]) });
+  assert.deepEqual(ask(), ["c4"]);
+});
+
+test("a class from which values are hidden gets the moves up to here, and nothing of what they are worth", () => {
+  const { state } = stateOf("f5!{Good}d6??(f4c3)c3d3"), app = { state, address: () => "#all" };
+  state.tree.goTo(2);
+  assert.equal(state.tree.current.move, "d6");
+  assert.equal(lessonOf(app), "#all");
+  state.lesson.hides = true;
+  assert.deepEqual(read({ hash: lessonOf(app) }), { moves: "f5d6", at: "2", hide: "1" });
+  const pupil = newState();
+  pupil.lesson.hidden = true;
+  const scene = sceneOf(pupil, new Analyst({ engine: {} }, () => {}));
+  assert.deepEqual([scene.rest, scene.veil, scene.known], ["hidden", "class", undefined]);
+});
+
+test("what is saved is the game, and what a format doesn't have is counted", () => {
+  const { tree } = treeOf("f5!d6{Good}(f4c3)(f6)c3");
+  tree.goTo(3);
+  assert.deepEqual([besides(tree), tree.current.isMain], [{ variations: 2, notes: 2 }, false]);
+  assert.match(ggf.write({ start: START, line: tree.main() }), /B\[f5\]W\[d6\]B\[c3\];\)/);
 });
 
 test("the eight pictures of a square", () => assert.deepEqual([0, 1, 2, 3, 4, 5, 6, 7].map((number) => mirrored(1, number)), [1, 57, 6, 62, 8, 15, 48, 55]));
@@ -222,16 +351,20 @@ test("a QR code has the size of its version, its finders and one dark module", (
   assert.deepEqual([sum("http://192.168.1.5:8047/#follow=abcdefghij"), sum("b".repeat(180)), sum("a")], ["47dce2446c7dcdff", "9317e2882c7b30df", "2e7add7dfd3288d4"]); // all are read by zbarimg
 });
 
-test("both languages say the same things, and every text that is named is there", () => {
+test("all languages say the same things, and every text that is named is there", () => {
   const places = (text) => [...new Set(JSON.stringify(text).match(/\{\w+\}/g) ?? [])].sort();
-  for (const [name, { en, de }] of Object.entries(TABLE)) {
-    assert.ok(en && de, name);
-    assert.deepEqual(places(en), places(de), name);
+  for (const [language, table] of Object.entries(LANGUAGES)) {
+    assert.deepEqual(Object.keys(table), Object.keys(LANGUAGES.en), language);
+    for (const [name, text] of Object.entries(table)) {
+      assert.ok(text, name);
+      assert.deepEqual(places(text), places(LANGUAGES.en[name]), `${language} ${name}`);
+      if (typeof text === "object") assert.ok(new Intl.PluralRules(language).resolvedOptions().pluralCategories.every((form) => form in text), `${language} ${name}`);
+    }
   }
-  const folder = new URL("js/", import.meta.url);
-  const source = [...["read.js", "unread.js"].map((name) => new URL(`js/formats/${name}`, import.meta.url)), ...fs.readdirSync(folder).filter((name) => name.endsWith(".js") && name !== "table.js").map((name) => new URL(name, folder)), new URL("index.html", import.meta.url)].map((name) => fs.readFileSync(name, "utf8")).join("\n");
-  for (const name of [...source.matchAll(/\bt\("([^"$]+)"|data-(?:text|label|hint)="([^"]+)"/g)].map(([, one, two]) => one ?? two)) assert.ok(TABLE[name], name);
-  const used = (name) => source.includes(name) || ["read.", "glyph.", "export.", "state.", "class.", "lost.", "mistakes.", "legend.", "said.", "quiz."].some((start) => name.startsWith(start));
-  assert.deepEqual(Object.keys(TABLE).filter((name) => !used(name)), []);
+  const folder = new URL("js/", import.meta.url), formats = new URL("formats/", folder);
+  const source = [...[folder, formats].flatMap((one) => fs.readdirSync(one).filter((name) => name.endsWith(".js")).map((name) => new URL(name, one))), new URL("index.html", import.meta.url)].map((name) => fs.readFileSync(name, "utf8")).join("\n");
+  for (const name of [...source.matchAll(/\bt\("([^"$]+)"|data-(?:text|label|hint)="([^"]+)"/g)].map(([, one, two]) => one ?? two)) assert.ok(LANGUAGES.en[name], name);
+  const used = (name) => source.includes(`"${name}"`) || ["read.", "glyph.", "export.", "state.", "class.", "lost.", "mistakes.", "legend.", "said.", "quiz.", "strip.", "sign."].some((start) => name.startsWith(start));
+  assert.deepEqual(Object.keys(LANGUAGES.en).filter((name) => !used(name)), []);
   assert.equal(t("no.such"), "⟨no.such⟩");
 });

@@ -6,7 +6,7 @@
 import { START, positionOf } from "./rules.js";
 
 export const FIELDS = ["black", "white", "event", "date", "result"]; // what is told of a game
-const KNOWN = ["moves", "at", "start", ...FIELDS, "depth", "follow", "view"];
+const KNOWN = ["moves", "at", "start", ...FIELDS, "depth", "follow", "view", "hide"]; // `hide`: of a class, that values are hidden
 
 /** What an address says, as an object of texts. */
 export function read({ search = "", hash }) {

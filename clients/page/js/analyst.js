@@ -9,7 +9,7 @@ import { count, isOver, result, sideOf } from "./rules.js";
 import { flipped, isExact } from "./scores.js";
 
 export const TO_THE_END = 12; // empty squares with which a position is searched to the end of the game
-const DEEPEST = 12; // plies that the engine looks
+export const DEEPEST = 12; // plies that the engine looks
 const QUICK = 8; // plies for which it takes less than a second
 const AT_ONCE = 3; // questions of the game's other positions
 const LONGEST_PAUSE = 8; // seconds between two tries of a service that can't be reached
@@ -26,7 +26,7 @@ export function stepsOf(position, depth) {
 /** About how many milliseconds of a processor a position takes at a depth. */
 function workOf(position, depth) {
   const empty = count(position, "-");
-  return empty <= TO_THE_END ? 40 / 2 ** (TO_THE_END - empty) : 0.004 * 5 ** (depth - 2);
+  return empty <= TO_THE_END ? 40 / 2 ** (TO_THE_END - empty) : 0.02 * 3.5 ** (depth - 2);
 }
 
 export class Analyst {
@@ -44,6 +44,11 @@ export class Analyst {
   /** How the question of a position stands: {kind: waiting, searching, lost or fault, ..}, or nothing. */
   stateOf(position) {
     return this.asked.get(position)?.state ?? this.faults.get(position);
+  }
+
+  /** Whether anything here gives values, or may yet. */
+  get isAble() {
+    return Boolean(this.local.engine && !this.local.engine.closed) || this.service.length > 0 || !this.local.fault;
   }
 
   /** The next depth that a position is to be looked at; nothing where it is known as deep as that. */

@@ -1,32 +1,35 @@
-// The game that is open: what changes it, undoes it, goes through it, and writes it into the address. Whoever shows something of it is told
-// by `shown`.
+// What changes the page's state, undoes it, goes through the game, and writes it into the address. Each change is shown at once.
 
 import { Changes, FIELDS, read, startOf, written } from "./address.js";
-import { TO_THE_END } from "./analyst.js";
 import { turnText } from "./board.js";
 import { $, say } from "./dom.js";
-import { START, count, isOver, sideOf } from "./rules.js";
+import { START, isOver, sideOf } from "./rules.js";
+import { DEPTH, keepOptions, newState } from "./state.js";
 import { t } from "./texts.js";
 import { Tree, treeOf } from "./tree.js";
 
-const DEPTH = 10; // of the position that is looked at, where nothing else is wished
-const GAME_DEPTH = 8; // of the whole game, at most
 const SEEN = 5000; // milliseconds for which what was said is seen
 
 export class App {
   constructor() {
-    Object.assign(this, { tree: new Tree(), info: {}, changes: new Changes(), faults: [], views: [], leavers: [], depth: DEPTH, setting: false, stopped: false, veiled: false, hint: "", collapses: false });
+    Object.assign(this, { state: newState(), changes: new Changes(), views: [], leavers: [], collapses: false });
+  }
+
+  get tree() {
+    return this.state.tree;
   }
 
   // --- The state: what is there, as the address and the undoing know it ---
 
   snapshot() {
-    return { start: this.tree.start, moves: this.tree.text(), at: String(this.tree.numberOf(this.tree.current)), ...this.info };
+    const { tree, info } = this.state;
+    return { start: tree.start, moves: tree.text(), at: String(tree.numberOf(tree.current)), ...info };
   }
 
   /** The state as an address; `follow` names a class that is followed. */
-  address(follow = this.follow) {
-    return written({ ...this.snapshot(), depth: this.depth === DEPTH ? "" : String(this.depth), view: $("view").value === "mover" ? "mover" : "", follow });
+  address(follow = this.state.lesson.follow) {
+    const { depth, view } = this.state.options;
+    return written({ ...this.snapshot(), depth: depth === DEPTH ? "" : String(depth), view: view === "mover" ? "mover" : "", follow });
   }
 
   /** Writes the state into the address: as a new entry of the browser's list, or in the place of the last one. */
@@ -36,30 +39,37 @@ export class App {
     const path = location.pathname + address;
     if (entry) history.pushState(null, "", path);
     else history.replaceState(null, "", path);
-    this.remembered?.(address);
   }
 
   /** Takes over a state. What of it can't be played is told. */
-  take(state) {
-    const start = startOf(state), { tree, faults } = treeOf(state.moves ?? "", start ?? START);
-    this.tree = tree;
-    this.info = Object.fromEntries(FIELDS.filter((name) => state[name]).map((name) => [name, state[name]]));
-    this.faults = [...(start ? [] : [t("fault.start")]), ...faults.map(({ kind, word, number }) => t(`read.${kind}`, { word, number }))];
-    if (state.at === undefined) tree.last();
-    else tree.goTo(Number(state.at));
-    if (state.depth) this.depth = Math.min(Math.max(Number(state.depth) || DEPTH, 1), 60);
-    if (state.view !== undefined) $("view").value = state.view === "mover" ? "mover" : "black";
+  take(said) {
+    const start = startOf(said), { tree, faults } = treeOf(said.moves ?? "", start ?? START), { state } = this;
+    state.tree = tree;
+    state.info = Object.fromEntries(FIELDS.filter((name) => said[name]).map((name) => [name, said[name]]));
+    state.faults = [...(start ? [] : [t("fault.start")]), ...faults.map(({ kind, word, number }) => t(`read.${kind}`, { word, number }))];
+    if (said.at === undefined) tree.last();
+    else tree.goTo(Number(said.at));
+    if (said.depth) state.options.depth = Math.min(Math.max(Number(said.depth) || DEPTH, 1), 60);
+    if (["mover", "black"].includes(said.view)) state.options.view = said.view;
   }
 
   /** Opens what an address says. */
   open(location) {
-    const state = read(location);
-    this.take({ view: "", ...state });
+    const said = read(location);
+    this.take(said);
     this.show();
-    return state;
+    return said;
   }
 
   // --- What changes it ---
+
+  /** Chooses options. */
+  set(options) {
+    Object.assign(this.state.options, options);
+    keepOptions(this.state.options);
+    if ("depth" in options || "view" in options) this.remember(false);
+    this.show();
+  }
 
   /** Makes a change that can be undone, and says it. */
   change(make, said) {
@@ -70,18 +80,30 @@ export class App {
     if (said) this.tell(said());
   }
 
-  /** Goes to another move; steps by keys after one another are one entry of the browser's list. */
-  step(make, byKey = false) {
-    const before = this.tree.current;
+  /** Goes to another move; steps after one another are one entry of the browser's list. */
+  step(make, mistake = null) {
+    const { state } = this, before = state.tree.current;
     make();
-    if (this.tree.current === before) return;
-    this.moved(!(byKey && this.collapses), byKey);
+    if (state.tree.current === before && state.mistake === mistake) return;
+    state.mistake = mistake;
+    this.moved(!this.collapses, true);
     this.tell(this.where());
+  }
+
+  /** Looks at the position before a move of the game, with that move and the better ones. */
+  showMistake(node) {
+    this.step(() => this.tree.go(node.parent), node);
+  }
+
+  /** From a variation back to where it left the game. */
+  toGame() {
+    this.step(() => this.tree.go(this.tree.left));
   }
 
   moved(entry, collapses = false) {
     this.collapses = collapses;
-    this.hint = "";
+    if (!collapses) this.state.mistake = null;
+    this.state.hint = "";
     for (const leave of this.leavers) leave();
     this.remember(entry);
     this.show();
@@ -101,8 +123,8 @@ export class App {
 
   begin(start, said) {
     this.change(() => {
-      this.tree = new Tree(start);
-      this.info = {};
+      this.state.tree = new Tree(start);
+      this.state.info = {};
     }, said);
   }
 
@@ -114,7 +136,7 @@ export class App {
     this.tell(t(`said.${kind}`));
   }
 
-  // --- What is told and asked ---
+  // --- What is told ---
 
   show() {
     for (const view of this.views) view();
@@ -137,13 +159,5 @@ export class App {
     const { current } = this.tree;
     const place = current.parent ? t("said.move", { ply: current.ply, side: t(current.side === "X" ? "black" : "white"), move: current.move }) : t("said.start");
     return [place, ...(current.passed ? [t("said.passed", { side: t(sideOf(current.position) === "X" ? "white" : "black") })] : []), turnText(current.position)].join(" ");
-  }
-
-  /** What is to be known: of the position that is looked at, and of the game. */
-  wanted() {
-    const { tree } = this;
-    const need = (node, depth) => ({ position: node.position, depth: Math.min(count(node.position, "-") <= TO_THE_END ? 60 : depth, count(node.position, "-")) });
-    const line = $("game").checked ? [tree.root, ...tree.line()] : [];
-    return [need(tree.current, this.depth), ...line.filter((node) => node !== tree.current).map((node) => need(node, Math.min(this.depth, GAME_DEPTH)))];
   }
 }

@@ -2,12 +2,12 @@
 
 import { made, put, shape } from "./dom.js";
 import { SQUARES, count, isOver, legal, sideOf } from "./rules.js";
-import { brief, tintOf, words } from "./scores.js";
+import { brief, lossOf, lossWords, tintOf, words } from "./scores.js";
 import { t } from "./texts.js";
 
 const STEPS = { ArrowLeft: [-1, 0], ArrowRight: [1, 0], ArrowUp: [0, -1], ArrowDown: [0, 1] };
 const LEAST_WIDTH = 1.7; // in letters' heights, so that short numbers aren't larger than others
-const ARROWS = 3; // moves of the best line that are drawn
+const NUMBERED = 3; // moves of the best line that are shown
 
 const widths = new Map();
 let paper = null;
@@ -38,18 +38,26 @@ export class Board {
       button.addEventListener("focus", () => this.reach(at));
       return button;
     });
-    this.arrows = shape("svg", { class: "arrows", viewBox: "0 0 8 8", "aria-hidden": "true" });
-    this.draw();
+    this.marks = shape("svg", { class: "marks", viewBox: "0 0 8 8", "aria-hidden": "true" });
+    this.turn(0);
     this.reach(SQUARES.indexOf("d3"));
     element.addEventListener("keydown", (event) => this.key(event));
   }
 
-  draw() {
-    const edge = (text) => made("span", { class: "edge", "aria-hidden": "true" }, text);
-    this.element.append(edge(""), ...[..."abcdefgh"].map(edge));
-    for (let row = 0; row < 8; row += 1) this.element.append(edge(String(row + 1)), ...this.squares.slice(8 * row, 8 * row + 8));
+  /** Lays the board out, so many quarter turns from where a1 is at the top left. */
+  turn(turned) {
+    if (this.turned === turned) return;
+    this.turned = turned;
+    const order = Array.from({ length: 64 }, (_, place) => squareAt(place, turned)), focused = document.activeElement;
+    const edge = (text) => made("span", { class: "edge", "aria-hidden": "true" }, text), of = (place, step) => [SQUARES[order[place]], SQUARES[order[place + step]]];
+    const letter = ([one, other]) => (one[0] === other[0] ? one[0] : one[1]);
+    const parts = [edge(""), ...Array.from({ length: 8 }, (_, column) => edge(letter(of(column, 8))))];
+    for (let row = 0; row < 8; row += 1) parts.push(edge(letter(of(8 * row, 1))), ...order.slice(8 * row, 8 * row + 8).map((at) => this.squares[at]));
     const points = [[2, 2], [6, 2], [2, 6], [6, 6]].map(([x, y]) => shape("circle", { class: "point", cx: x, cy: y, r: 0.07 }));
-    this.element.append(shape("svg", { class: "arrows", viewBox: "0 0 8 8", "aria-hidden": "true" }, ...points), this.arrows);
+    this.element.replaceChildren(...parts, shape("svg", { class: "marks", viewBox: "0 0 8 8", "aria-hidden": "true" }, ...points), this.marks);
+    this.places = SQUARES.map((_, at) => order.indexOf(at));
+    this.line = undefined;
+    if (this.squares.includes(focused)) focused.focus();
   }
 
   /** The square that Tab reaches. */
@@ -62,10 +70,10 @@ export class Board {
   key(event) {
     const step = STEPS[event.key];
     if (!step || event.altKey || event.ctrlKey || event.metaKey) return;
-    const column = (this.reached % 8) + step[0], row = (this.reached >> 3) + step[1];
+    const place = this.places[this.reached], column = (place % 8) + step[0], row = (place >> 3) + step[1];
     event.preventDefault();
     event.stopPropagation();
-    if (column >= 0 && column < 8 && row >= 0 && row < 8) this.squares[8 * row + column].focus();
+    if (column >= 0 && column < 8 && row >= 0 && row < 8) this.squares[squareAt(8 * row + column, this.turned)].focus();
   }
 
   get hasFocus() {
@@ -73,25 +81,30 @@ export class Board {
   }
 
   /**
-   * Shows a position: `last` is the square of the move that led here, `next` of the one that was played here, `table` what is known of
-   * each move (a map from square to score), `best` the best one, `line` the best line; `setting` says that the start is set up, `hint`
-   * names a square that is pointed at, `tinted` says whether squares are tinted.
+   * Shows a position: `last` is the square of the move that led here, `next` {move, ply} the one that was played here, `table` what is known of
+   * each move (a map from square to score), `seen` gives these the sign that is chosen, `best` is the best one, `better` are those that are better than a
+   * mistake `next`, `line` is the best line; `setting` says that the start is set up, `hint` names a square that is pointed at, `tinted` says whether
+   * squares are tinted, `turned` how the board lies.
    */
-  show({ position, last = "", next = "", table = new Map(), best = "", line = [], setting = false, hint = "", tinted = true }) {
+  show({ position, last = "", next = null, table = new Map(), seen = (score) => score, best = "", better = null, line = [], setting = false, hint = "", tinted = true, turned = 0 }) {
+    this.turn(turned);
     const free = new Set(setting ? [] : legal(position)), family = (this.family ??= getComputedStyle(this.element).fontFamily); // asked once, as each asking lays out the page
     let widest = LEAST_WIDTH;
     SQUARES.forEach((name, at) => {
-      const score = free.has(at) ? table.get(name) : undefined, text = score ? brief(score) : "";
+      const own = free.has(at) ? table.get(name) : undefined, score = own && seen(own, sideOf(position)), text = score ? brief(score) : "";
       if (text) widest = Math.max(widest, widthOf(text, family));
-      const square = { name, cell: position[at], legal: free.has(at), score, text, last: name === last, next: name === next, best: name === best, hint: name === hint, setting };
-      square.tint = tinted && score ? tintOf(table.get(best), score) : null;
+      const square = { name, cell: position[at], legal: free.has(at), score, text, last: name === last, next: name === next?.move ? next.ply : 0, best: name === best, hint: name === hint, setting };
+      square.tint = tinted && own ? tintOf(table.get(best), own) : null;
+      square.slip = Boolean(better) && square.next > 0;
+      square.better = Boolean(better?.includes(name));
+      square.lost = square.slip ? lossWords(lossOf(table.get(best), own)) : "";
       const sign = JSON.stringify(square);
       if (this.signs[at] !== sign) this.showSquare(this.squares[at], square);
       this.signs[at] = sign;
     });
     if (widest !== this.widest) this.element.style.setProperty("--widest", widest.toFixed(3));
     this.widest = widest;
-    this.showLine(line.filter((move) => SQUARES.includes(move)).slice(0, ARROWS));
+    this.showLine(line.filter((move) => SQUARES.includes(move)).slice(0, NUMBERED));
   }
 
   showSquare(button, square) {
@@ -103,50 +116,40 @@ export class Board {
     } else if (square.legal) {
       label.push(t("square.legal"));
       if (square.best) label.push(t("square.best"));
-      if (square.next) label.push(t("square.next"));
+      if (square.better && !square.best) label.push(t("square.better"));
+      if (square.next) label.push(square.slip ? t("square.mistake", { lost: square.lost || t("lost.unknown") }) : t("square.next"));
       if (square.hint) label.push(t("square.hint"));
       if (score) label.push(t("square.value", { text: words(score) }));
     } else label.push(t("square.empty"));
     if (text) parts.push(made("span", { class: "score", "aria-hidden": "true" }, text));
     else if (square.legal) parts.push(made("span", { class: "dot", "aria-hidden": "true" }));
     if (square.legal && square.best) parts.push(made("span", { class: "star", "aria-hidden": "true" }, "★"));
-    if (square.legal && square.next) parts.push(made("span", { class: "next", "aria-hidden": "true" }, "▸"));
-    const kinds = ["legal", "best", "hint"].filter((kind) => square.legal && square[kind]);
+    if (square.legal && square.next) parts.push(made("span", { class: "next", "aria-hidden": "true" }, String(square.next)));
+    const kinds = ["legal", "best", "better", "next", "slip", "hint"].filter((kind) => square.legal && square[kind]);
     button.className = ["square", ...kinds, ...(square.tint === null ? [] : [`tint${square.tint}`])].join(" ");
     button.setAttribute("aria-label", label.join(", "));
     button.setAttribute("aria-disabled", String(!square.legal && !square.setting));
     button.replaceChildren(...parts);
   }
 
-  /** Draws arrows along a line of moves, each with its number but the first, whose square says what it is worth. */
+  /** Numbers the moves of a line but the first, whose square says what it is worth. */
   showLine(line) {
     const sign = line.join();
     if (this.line === sign) return;
     this.line = sign;
-    const middle = (move) => [SQUARES.indexOf(move) % 8, SQUARES.indexOf(move) >> 3].map((one) => one + 0.5);
-    const parts = line.slice(1).flatMap((move, at) => arrow(middle(line[at]), middle(move), at + 2));
-    this.arrows.replaceChildren(...parts);
+    const parts = line.slice(1).flatMap((move, at) => {
+      const place = this.places[SQUARES.indexOf(move)], x = (place % 8) + 0.82, y = (place >> 3) + 0.82;
+      return [shape("circle", { class: "knob", cx: x, cy: y, r: 0.14 }), shape("text", { x, y: y + 0.07, "text-anchor": "middle" }, String(at + 2))];
+    });
+    this.marks.replaceChildren(...parts);
   }
 }
 
-/** An arrow between two squares' middles, bent so that it leaves their values free, and its number at its head. */
-function arrow([x, y], [toX, toY], number) {
-  const length = Math.hypot(toX - x, toY - y), bend = Math.min(0.2 * length, 0.55) / length;
-  const [midX, midY] = [(x + toX) / 2 - bend * (toY - y), (y + toY) / 2 + bend * (toX - x)];
-  const [fromX, fromY] = toward(x, y, midX, midY, 0.4), [tipX, tipY] = toward(toX, toY, midX, midY, 0.36), [backX, backY] = toward(tipX, tipY, midX, midY, 0.2);
-  const [wideX, wideY] = [(backY - tipY) / 2, (tipX - backX) / 2], n = (one) => one.toFixed(3);
-  return [
-    shape("path", { class: "shaft", d: `M${n(fromX)} ${n(fromY)}Q${n(midX)} ${n(midY)} ${n(backX)} ${n(backY)}` }),
-    shape("path", { class: "head", d: `M${n(tipX)} ${n(tipY)}L${n(backX + wideX)} ${n(backY + wideY)}L${n(backX - wideX)} ${n(backY - wideY)}z` }),
-    shape("circle", { class: "knob", cx: toX + 0.33, cy: toY + 0.33, r: 0.14 }),
-    shape("text", { x: toX + 0.33, y: toY + 0.4, "text-anchor": "middle" }, String(number)),
-  ];
-}
-
-/** The place so far from one place on the way to another. */
-function toward(x, y, toX, toY, far) {
-  const length = Math.hypot(toX - x, toY - y) || 1;
-  return [x + (far * (toX - x)) / length, y + (far * (toY - y)) / length];
+/** The square that lies at a place, counted from the top left, of a board that was turned so many quarters clockwise. */
+function squareAt(place, turned) {
+  let [row, column] = [place >> 3, place % 8];
+  for (let quarter = 0; quarter < turned; quarter += 1) [row, column] = [7 - column, row];
+  return 8 * row + column;
 }
 
 /** Whose turn it is, and how many discs there are, in words. */

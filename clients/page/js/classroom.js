@@ -1,8 +1,10 @@
-// The part of the page for a class: its link with a QR code, how many follow and who raises a hand; for pupils how to follow and to raise one.
+// The part of the page for a class: its link with a QR code, who follows and who raises a hand; for pupils how to look alone, to follow again and to
+// raise a hand. What a class sees follows from the state: the teacher's board, or where values are hidden from it the moves up to the one that is shown.
 
-import { read } from "./address.js";
-import { Pupil, Teacher, raise } from "./class.js";
+import { read, written } from "./address.js";
+import { Pupil, Teacher, tellOf } from "./class.js";
 import { $, made, put, reveal, say, shape } from "./dom.js";
+import { keep, kept } from "./keep.js";
 import { ServiceFault } from "./lines.js";
 import { modules } from "./qr.js";
 import { t } from "./texts.js";
@@ -16,54 +18,141 @@ function codeOf(text) {
   return svg;
 }
 
+const isLocal = (address) => /^https?:\/\/(localhost|127\.|\[::1\])/.test(address);
+
+/** What a class sees of a state: its address; where values are hidden nothing of what moves are worth, and of the game only what has been played up to here. */
+export function lessonOf(app) {
+  const { tree, info, lesson } = app.state;
+  if (!lesson.hides) return app.address("");
+  const moves = [];
+  for (let node = tree.current; node.parent; node = node.parent) moves.unshift(node.move);
+  return written({ ...info, result: "", start: tree.start, moves: moves.join(""), at: String(moves.length), hide: "1" });
+}
+
 export class Classroom {
   constructor(app, files) {
-    Object.assign(this, { app, files, about: null, pupil: null, left: null, how: "", raised: false, number: Math.random().toString(36).slice(2, 14) });
-    this.teacher = new Teacher((how) => this.show(how), (told) => this.heard(told));
+    Object.assign(this, { app, files, pupil: null, last: null, signs: {} });
+    this.number = kept("pupil") ?? Math.random().toString(36).slice(2, 14);
+    keep("pupil", this.number);
+    $("pupil-name").value = kept("name") ?? "";
+    this.lesson.hides = Boolean(kept("hides"));
+    this.teacher = new Teacher((how) => this.turn(how), (told) => this.heard(told));
     const on = (id, does) => $(id).addEventListener("click", does);
     on("class-open", () => this.open());
-    on("class-close", () => this.teacher.close().then(() => this.show("")));
+    on("class-close", () => this.teacher.close().then(() => this.turn("")));
     on("class-alone", () => this.leave());
-    on("class-again", () => this.follow(this.left));
+    on("class-again", () => this.again());
     on("class-copy", () => this.files.copied(this.link()));
+    on("class-hide", () => this.hide());
     on("hand", () => this.hand());
+    $("class-address").addEventListener("change", () => this.app.show());
+    $("pupil-name").addEventListener("change", () => {
+      keep("name", $("pupil-name").value.trim());
+      this.say();
+    });
     app.leavers.push(() => this.leave());
-    app.remembered = (address) => this.teacher.show(address);
+  }
+
+  get lesson() {
+    return this.app.state.lesson;
   }
 
   /** What the page's service says of itself: {depths, addresses}; nothing where there is none. */
   know(about) {
-    this.about = about;
-    if (this.teacher.room && about) this.teacher.show(this.app.address());
-    this.show(this.how);
+    this.lesson.about = about;
+    this.app.show();
   }
 
-  get room() {
-    return this.pupil?.room ?? this.left;
+  /** How the class stands. */
+  turn(how) {
+    this.lesson.how = how;
+    if (how === "closed") {
+      this.pupil = null;
+      Object.assign(this.lesson, { follow: "", alone: false, hidden: false, looking: null });
+    }
+    this.app.show();
   }
+
+  // --- The teacher ---
 
   async open() {
-    if (!this.about || this.teacher.room) return;
+    if (!this.lesson.about || this.teacher.room) return;
     try {
-      await this.teacher.open(this.app.address());
-      this.show("");
+      await this.teacher.open(lessonOf(this.app));
+      this.turn("");
       this.app.tell(t("class.teaching"));
     } catch (fault) {
       this.app.tell(fault instanceof ServiceFault ? fault.message : t("state.unreachable", { n: 1 }));
     }
   }
 
+  /** Hides values from the class, or shows them. */
+  hide() {
+    this.lesson.hides = !this.lesson.hides;
+    keep("hides", this.lesson.hides);
+    this.app.show();
+    this.app.tell(t(this.lesson.hides ? "class.hides" : "class.shows"));
+  }
+
+  /** Who follows, and who raises a hand: their boards can be looked at, by the teacher alone. */
+  heard({ followers, pupils }) {
+    const { lesson } = this, raised = (list) => list.filter(({ state }) => state !== null), before = raised(lesson.pupils).length;
+    Object.assign(lesson, { followers, pupils });
+    if (raised(pupils).length > before) this.app.tell(t("class.raised", { name: raised(pupils).at(-1).name || t("class.nameless") }));
+    this.app.show();
+  }
+
+  look({ name, state }) {
+    this.lesson.looking ??= { before: this.app.snapshot() };
+    this.lesson.looking.name = name;
+    this.app.change(() => this.app.take(read({ hash: state })), () => this.app.where());
+  }
+
+  /** From a pupil's board to the teacher's own. */
+  mine() {
+    const { before } = this.lesson.looking;
+    this.app.change(() => this.app.take(before), () => this.app.where());
+    this.lesson.looking = null;
+    this.app.show();
+  }
+
+  /** Shows the class the pupil's board that is looked at. */
+  share() {
+    this.lesson.looking = null;
+    this.app.show();
+  }
+
+  /** The link by which others come: by an address of this host that they reach, where there is one. */
+  link() {
+    const here = location.origin + location.pathname, others = this.lesson.about?.addresses ?? [], wished = $("class-address").value;
+    const base = !isLocal(here) && !others.includes(wished) ? here : others.includes(wished) ? wished : (others[0] ?? here);
+    return `${base}#follow=${this.teacher.room?.room ?? ""}`;
+  }
+
+  // --- A pupil ---
+
+  who() {
+    return { pupil: this.number, name: $("pupil-name").value.trim().slice(0, 40), alone: Boolean(this.lesson.alone), state: this.lesson.raised ? this.app.address("") : null };
+  }
+
+  say() {
+    return this.pupil ? tellOf(this.pupil.room, this.who()) : Promise.resolve(false);
+  }
+
+  /** Follows a class; until its first state has come nothing is searched here, as its values may be hidden. */
   follow(room) {
-    if (!room) return;
-    this.left = null;
-    this.pupil = new Pupil(room, (address) => this.shown(address), (how) => this.show(how));
-    this.app.follow = room;
-    this.show("following");
+    if (!room || this.pupil) return;
+    Object.assign(this.lesson, { follow: room, alone: false, hidden: true });
+    this.pupil = new Pupil(room, () => this.who(), (address) => this.shown(address), (how) => this.turn(how === "following" && this.lesson.alone ? "left" : how));
+    this.turn("following");
   }
 
   shown(address) {
-    const { app } = this;
-    app.take({ view: "", ...read({ search: "", hash: address }) });
+    const { app, lesson } = this, said = read({ hash: address });
+    this.last = address;
+    lesson.hidden = Boolean(said.hide);
+    if (lesson.alone) return app.show();
+    app.take({ ...said, depth: undefined, view: undefined });
     history.replaceState(null, "", location.pathname + app.address());
     app.show();
     app.tell(app.where());
@@ -71,63 +160,65 @@ export class Classroom {
 
   /** Whoever changes something by himself follows no more; a button leads back. */
   leave() {
-    if (!this.pupil) return;
-    this.left = this.pupil.room;
-    this.pupil.leave();
-    this.pupil = null;
-    this.app.follow = "";
-    this.show("left");
+    if (!this.pupil || this.lesson.alone) return;
+    this.lesson.alone = true;
+    this.turn("left");
+    this.say();
+  }
+
+  again() {
+    this.lesson.alone = false;
+    this.turn("following");
+    if (this.last !== null) this.shown(this.last);
+    this.say();
   }
 
   async hand() {
-    const up = !this.raised;
-    if (await raise(this.room, this.number, $("pupil-name").value.trim(), up ? this.app.address("") : null)) this.raised = up;
-    this.show(this.how);
+    this.lesson.raised = !this.lesson.raised;
+    if (!(await this.say())) this.lesson.raised = !this.lesson.raised;
+    this.app.show();
   }
 
-  /** Who follows, and who raises a hand: their boards can be looked at. */
-  heard({ followers, hands }) {
-    say($("class-count"), t("class.count", { n: followers }));
-    const rows = hands.map(({ name, state }) => {
-      const look = () => this.app.change(() => this.app.take(read({ hash: state })), () => this.app.where());
-      return made("li", {}, made("span", {}, t("class.raised", { name: name || t("class.nameless"), move: "" })), made("button", { type: "button", onclick: look }, t("class.look")));
-    });
-    if (rows.length > this.app.hands) this.app.tell(rows.at(-1).firstChild.textContent);
-    this.app.hands = rows.length;
-    $("class-hands").replaceChildren(...rows);
-  }
+  // --- What is shown ---
 
-  /** The link by which others come: by an address of this host that they reach, where there is one. */
-  link() {
-    const here = location.origin + location.pathname, isLocal = /^(localhost|127\.|\[::1\])/.test(location.hostname), [other] = this.about?.addresses ?? [];
-    return `${isLocal && other ? other : here}#follow=${this.teacher.room?.room ?? ""}`;
-  }
-
-  show(how) {
-    if (how === "closed" && (this.pupil || this.left)) {
-      this.pupil = this.left = null;
-      this.app.follow = "";
-    }
-    this.how = how;
-    const teaching = Boolean(this.teacher.room), told = teaching && how !== "lost" ? t("class.teaching") : how ? t(`class.${how}`) : "";
+  show() {
+    const { lesson, teacher } = this, { how, about, alone } = lesson, teaching = Boolean(teacher.room), follows = Boolean(this.pupil);
+    if (teaching && !lesson.looking) teacher.show(lessonOf(this.app));
+    const told = teaching && how !== "lost" ? t(lesson.looking ? "class.private" : lesson.hides ? "class.teaching.hidden" : "class.teaching") : how ? t(`class.${how}`) : "";
     say($("class-told"), told);
     reveal($("class-told"), told);
-    reveal($("class-open"), !teaching && !this.pupil && this.about);
-    reveal($("class-close"), teaching);
-    reveal($("class-copy"), teaching);
-    reveal($("class-alone"), this.pupil);
-    reveal($("class-again"), this.left);
-    reveal($("class-hand"), this.room && how !== "lost");
-    put($("hand"), "aria-pressed", this.raised);
-    say($("hand"), t(this.raised ? "class.down" : "class.hand"));
-    if (!teaching) this.heard({ followers: 0, hands: [] });
-    if (!teaching) say($("class-count"), "");
-    const link = teaching ? this.link() : "", onlyHere = /^https?:\/\/(localhost|127\.|\[::1\])/.test(link);
-    say($("class-help"), t(!this.about ? "class.none" : onlyHere ? "class.local" : "class.help"));
-    if (this.linked !== link) {
+    for (const [id, is] of Object.entries({ "class-open": !teaching && !follows && about, "class-close": teaching, "class-copy": teaching, "class-hide": teaching, "class-alone": follows && !alone, "class-again": follows && alone, "class-hand": follows })) reveal($(id), is);
+    put($("class-hide"), "aria-pressed", Boolean(lesson.hides));
+    put($("hand"), "aria-pressed", lesson.raised);
+    say($("hand"), t(lesson.raised ? "class.down" : "class.hand"));
+    say($("class-count"), teaching ? t("class.count", { n: lesson.followers }) : "");
+    this.showAddresses(teaching, about?.addresses ?? []);
+    const link = teaching ? this.link() : "", onlyHere = isLocal(link);
+    say($("class-help"), t(!about ? "class.none" : onlyHere ? "class.local" : "class.help"));
+    this.once("link", [link], () => {
       $("class-link").replaceChildren(...(link ? [made("a", { href: link }, link)] : []));
       $("class-code").replaceChildren(...(link && !onlyHere ? [codeOf(link)] : []));
-    }
-    this.linked = link;
+    });
+    const pupils = teaching ? lesson.pupils : [];
+    this.once("pupils", pupils, () => $("class-pupils").replaceChildren(...pupils.map((one) => this.row(one))));
+  }
+
+  /** Draws something where it is another than before. */
+  once(name, what, draw) {
+    const sign = JSON.stringify(what);
+    if (this.signs[name] !== sign) draw();
+    this.signs[name] = sign;
+  }
+
+  showAddresses(teaching, addresses) {
+    reveal($("class-addresses"), teaching && addresses.length > 1);
+    this.once("addresses", addresses, () => $("class-address").replaceChildren(...addresses.map((address) => made("option", { value: address }, address))));
+  }
+
+  /** A pupil: who it is, whether it follows, and with a raised hand its board. */
+  row(one) {
+    const name = one.name || t("class.nameless"), how = t(!one.follows ? "class.gone" : one.alone ? "class.looks" : "class.follows");
+    const text = one.state === null ? name : t("class.raised", { name });
+    return made("li", { class: one.follows ? "" : "dim" }, made("span", {}, `${text} · ${how}`), one.state === null ? "" : made("button", { type: "button", onclick: () => this.look(one) }, t("class.look")));
   }
 }

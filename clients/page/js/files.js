@@ -1,7 +1,7 @@
 // Games in and out: texts and files that are read, what is told of a game, what is copied and saved, and the shelf.
 
 import { FIELDS, read } from "./address.js";
-import { $, made, reveal } from "./dom.js";
+import { $, made, reveal, say } from "./dom.js";
 import * as ggf from "./formats/ggf.js";
 import { filesRead, textRead, titleOf } from "./formats/read.js";
 import * as sgf from "./formats/sgf.js";
@@ -11,24 +11,34 @@ import { Shelf, copy, save } from "./keep.js";
 import { painted, pictureText } from "./picture.js";
 import { START } from "./rules.js";
 import { t } from "./texts.js";
+import { able } from "./told.js";
 import { treeOf } from "./tree.js";
 
 const KINDS = ["txt", "ggf", "sgf", "wtb", "svg", "png"];
+const MAIN_LINES = ["ggf", "wtb"]; // these have no variations and no notes
+const FIELD = "textarea, select, input:not([type=checkbox], [type=file], [type=range])";
 
 export class Files {
-  constructor(app, analyst) {
-    Object.assign(this, { app, analyst, found: [], shelf: new Shelf() });
+  constructor(app) {
+    Object.assign(this, { app, shelf: new Shelf() });
     $("save-as").replaceChildren(...KINDS.map((kind) => made("option", { value: kind }, t(`export.${kind}`))));
     const on = (id, event, does) => $(id).addEventListener(event, does);
     on("import", "click", () => this.took(textRead($("pasted").value)));
     on("file", "change", () => this.open([...$("file").files]).then(() => ($("file").value = "")));
     on("games", "change", () => this.choose(Number($("games").value)));
-    on("copy-text", "click", () => this.copied(app.tree.text({ between: " " })));
-    on("copy-link", "click", () => this.copied(this.link()));
-    on("save", "click", () => this.save($("save-as").value));
+    on("copy-text", "click", () => this.copied(app.tree.text({ variations: false, notes: false })));
+    on("copy-position", "click", () => this.copied(app.tree.current.position));
+    on("copy-link", "click", () => this.link() && this.copied(this.link()));
+    on("save", "click", () => this.save(app.state.options.saveAs));
     on("print", "click", () => window.print());
     on("shelf-keep", "click", () => this.keep());
-    for (const name of FIELDS) on(`field-${name}`, "change", () => app.change(() => void (app.info = { ...app.info, [name]: $(`field-${name}`).value.trim() })));
+    for (const name of FIELDS) on(`field-${name}`, "change", () => app.change(() => void (app.state.info = { ...app.state.info, [name]: $(`field-${name}`).value.trim() })));
+    document.addEventListener("paste", (event) => {
+      const text = event.clipboardData?.getData("text") ?? "";
+      if (event.target.closest?.(FIELD) || !text.trim()) return;
+      event.preventDefault();
+      this.took(textRead(text), true);
+    });
     document.addEventListener("dragover", (event) => event.preventDefault());
     document.addEventListener("drop", (event) => {
       event.preventDefault();
@@ -44,41 +54,45 @@ export class Files {
     if (read.length) this.took(filesRead(read));
   }
 
-  /** Takes over what was read: the first game is opened, and all are in a list. */
-  took({ games, faults }) {
-    this.found = games;
+  /** Takes over what was read: the first game is opened, and all are in a list; where it was `pasted` anywhere, what there is to choose or to mend is shown. */
+  took({ games, faults }, pasted = false) {
+    const { state } = this.app;
+    state.found = games;
     reveal($("found"), games.length > 1);
+    if (pasted && (games.length > 1 || faults.length)) this.app.choose?.("files");
     $("games").replaceChildren(...games.map((game, at) => made("option", { value: at }, `${at + 1}. ${titleOf(game) || t("import.position", { n: game.start.split("-").length - 1 })}`)));
     if (games.length) {
       $("games").value = "0";
       this.choose(0);
     }
-    const own = games.length && !games[0].isRead ? this.app.faults : [];
-    this.app.faults = [...new Set([...faults.map((fault) => fault.text), ...own])];
+    const own = games.length && !games[0].isRead ? state.faults : [];
+    state.faults = [...new Set([...faults.map((fault) => fault.text), ...own])];
     this.showFaults();
-    if (!this.app.faults.length) this.app.tell(t("said.read", { n: games.length }));
+    if (!state.faults.length) this.app.tell(t("said.read", { n: games.length }));
   }
 
   /** Opens a game of the list. */
   choose(at) {
-    const { start = START, moves, ...info } = this.found[at], { tree, faults } = treeOf(moves, start);
-    this.app.faults = faults.map(({ kind, word, number }) => t(`read.${kind}`, { word, number }));
+    const { state } = this.app, { start = START, moves, ...info } = state.found[at], { tree, faults } = treeOf(moves, start);
+    state.faults = faults.map(({ kind, word, number }) => t(`read.${kind}`, { word, number }));
     this.app.change(() => {
-      this.app.tree = tree;
-      this.app.info = Object.fromEntries(FIELDS.filter((name) => info[name]).map((name) => [name, info[name]]));
+      state.tree = tree;
+      state.info = Object.fromEntries(FIELDS.filter((name) => info[name]).map((name) => [name, info[name]]));
     }, () => this.app.where());
     this.showFaults();
   }
 
   showFaults() {
-    const { faults } = this.app;
+    const { faults } = this.app.state;
     $("faults").replaceChildren(...faults.map((text) => made("li", {}, text)));
     reveal($("faults"), faults.length);
     if (faults.length) this.app.tell(faults.length === 1 ? faults[0] : t("said.faults", { n: faults.length }));
   }
 
+  /** A link that others can open: to this page's address, or, of a page from a disk, to the one that is set; none where none is. */
   link() {
-    return location.href.split(/[?#]/)[0] + this.app.address("");
+    const set = this.app.state.options.address.trim(), own = location.protocol.startsWith("http") ? location.href.split(/[?#]/)[0] : /^https?:\/\/[^\s?#]+$/.test(set) ? set : "";
+    return own && own + this.app.address("");
   }
 
   async copied(text) {
@@ -91,13 +105,14 @@ export class Files {
 
   /** What a picture of the board shows. */
   picture() {
-    const { current } = this.app.tree, known = this.app.veiled ? null : this.analyst.of(current.position);
-    return { position: current.position, table: known?.table, best: known?.best, last: current.move };
+    const { current, known, seen } = this.scene;
+    return { position: current.position, table: known?.table, seen, best: known?.best, last: current.move };
   }
 
   async save(kind) {
-    const { tree, info } = this.app, game = { ...info, start: tree.start, root: tree.root, line: tree.line() };
+    const { tree, info } = this.app.state, game = { ...info, start: tree.start, root: tree.root, line: tree.main() };
     const text = { txt: () => `${tree.text({ between: " " })}\n`, ggf: () => ggf.write(game), sgf: () => sgf.write(game) }[kind]?.();
+    const lost = MAIN_LINES.includes(kind) ? besides(tree) : null;
     try {
       if (text !== undefined) {
         $("given").value = text;
@@ -105,6 +120,7 @@ export class Files {
       } else if (kind === "wtb") for (const [suffix, bytes] of Object.entries(wthor.write(game))) save(`game.${suffix}`, "application/octet-stream", bytes);
       else if (kind === "svg") save("board.svg", "image/svg+xml", pictureText(this.picture()));
       else save("board.png", "image/png", await painted(this.picture()));
+      this.app.tell(lost?.variations || lost?.notes ? t("export.lost", { kind: kind === "ggf" ? "GGF" : "WTHOR", variations: t("export.variations", { n: lost.variations }), notes: t("export.notes", { n: lost.notes }) }) : t("export.saved"));
     } catch (fault) {
       if (!(fault instanceof Unread)) throw fault;
       this.app.tell(fault.text);
@@ -112,7 +128,7 @@ export class Files {
   }
 
   keep() {
-    const { info, tree } = this.app, names = [info.black, info.white].filter(Boolean).join(" – ");
+    const { info, tree } = this.app.state, names = [info.black, info.white].filter(Boolean).join(" – ");
     const name = $("shelf-name").value.trim() || [names, info.date].filter(Boolean).join(", ") || tree.text({ variations: false, notes: false }).slice(0, 24) || "–";
     this.app.tell(t(this.shelf.put(name, this.app.address("")) ? "shelf.kept" : "shelf.no"));
     this.showShelf();
@@ -132,10 +148,21 @@ export class Files {
     $("shelf").replaceChildren(...(rows.length ? rows : [made("li", { class: "dim" }, t("shelf.none"))]));
   }
 
-  show() {
+  show(scene) {
+    this.scene = scene;
     for (const name of FIELDS) {
-      const field = $(`field-${name}`), value = this.app.info[name] ?? "";
+      const field = $(`field-${name}`), value = scene.state.info[name] ?? "";
       if (field.value !== value && document.activeElement !== field) field.value = value;
     }
+    const isFile = !location.protocol.startsWith("http"), link = this.link();
+    able("copy-link", link);
+    reveal($("address-field"), isFile);
+    say($("link-told"), link ? "" : t("export.nolink"));
   }
+}
+
+/** What of a game isn't its main line: how many variations, and how many moves with a sign or comment. */
+export function besides(tree) {
+  const all = [tree.root, ...tree.nodes()];
+  return { variations: all.reduce((sum, node) => sum + Math.max(node.children.length - 1, 0), 0), notes: all.filter((node) => node.glyph || node.comment).length };
 }

@@ -1,8 +1,8 @@
-// The graph of values over a game, as a picture; the list of moves says the same in words.
+// The graph of values over the game, as a picture; the list of moves says the same in words. A variation that is looked at is drawn beside it.
 //
-// Always black's view: above the middle black is better. Points and discs have scales of their own, the one's at the left and the other's
-// at the right, and a line between them where exact values begin, so that nothing falls where only the unit changes. Marks have shapes: a
-// triangle is a weak move, a diamond a grave one.
+// By Black's sign it is one curve, above whose middle Black is better; by the mover's, one for the moves of each player. Points and discs have scales
+// of their own, the one's at the left and the other's at the right, and a line between them where exact values begin, so that nothing falls where only
+// the unit changes. Marks are rings: a full one where discs were lost for certain, the larger the graver, and an empty one for a doubtful move.
 
 import { shape } from "./dom.js";
 import { isEnd } from "./scores.js";
@@ -18,55 +18,72 @@ function scaleOf(points, unit) {
 }
 
 export class Graph {
-  /** `chosen` is called with the number of a move that was clicked, 0 for the start. */
+  /** `chosen` is called with the number of a move of the game that was clicked, 0 for the start. */
   constructor(element, chosen) {
     this.element = element;
-    this.shown = { points: [], current: 0 };
+    this.shown = { points: [], beside: [], from: 0, current: 0, isSplit: false };
     element.addEventListener("click", (event) => {
-      const count = this.shown.points.length - 1, box = element.getBoundingClientRect();
-      if (count > 0) chosen(Math.min(Math.max(Math.round(((event.clientX - box.left - LEFT) / (box.width - LEFT - RIGHT)) * count), 0), count));
+      const last = this.last, box = element.getBoundingClientRect();
+      const ply = Math.round(((event.clientX - box.left - LEFT) / (box.width - LEFT - RIGHT)) * last);
+      if (last > 0) chosen(Math.min(Math.max(ply, 0), this.shown.points.length - 1));
     });
     new ResizeObserver(() => this.draw(true)).observe(element);
   }
 
-  /** `points` has for the start and each move {score (black's view, or null), mark (weak, grave or null)}. */
-  show(points, current) {
-    this.shown = { points, current };
+  /** The greatest number of a move that has a place. */
+  get last() {
+    const { points, beside, from } = this.shown;
+    return Math.max(points.length - 1, beside.length ? from + beside.length : 0);
+  }
+
+  /**
+   * `points` has for the start and each move of the game {score, side, mark (grave, weak, doubtful or null)}, `beside` the same of a variation behind move
+   * `from`; `isSplit` says that each player's moves are a curve of their own.
+   */
+  show(shown) {
+    this.shown = shown;
     this.draw();
   }
 
   draw(resized = false) {
-    const { points, current } = this.shown;
+    const { points, beside, from, current, isSplit } = this.shown;
     if (resized || !this.width) [this.width, this.height] = [Math.max(this.element.clientWidth, 200), Math.max(this.element.clientHeight, 80)];
-    const { width, height } = this, sign = JSON.stringify([points, width, height]);
-    const x = (at) => LEFT + ((width - LEFT - RIGHT) * at) / Math.max(points.length - 1, 1);
+    const { width, height, last } = this, sign = JSON.stringify([points, beside, from, isSplit, width, height]);
+    const x = (at) => LEFT + ((width - LEFT - RIGHT) * at) / Math.max(last, 1);
     if (sign !== this.sign) this.element.replaceChildren((this.svg = this.picture(x)));
     this.sign = sign;
     for (const [name, value] of [["x1", x(current)], ["x2", x(current)]]) this.here.setAttribute(name, value);
   }
 
   picture(x) {
-    const { width, height } = this, { points } = this.shown, half = (height - TOP - BOTTOM) / 2, middle = TOP + half;
-    const scales = { points: scaleOf(points, "points"), discs: scaleOf(points, "discs") };
+    const { width, height, last } = this, { points, beside, from, isSplit } = this.shown, half = (height - TOP - BOTTOM) / 2, middle = TOP + half;
+    const whole = [...points, ...beside], scales = { points: scaleOf(whole, "points"), discs: scaleOf(whole, "discs") };
     const y = (score) => middle - half * (isEnd(score) ? score.discs / scales.discs : score.points / scales.points);
     const svg = shape("svg", { viewBox: `0 0 ${width} ${height}`, width, height, role: "img", "aria-label": this.label() });
-    this.drawScales(svg, scales, points, y);
+    this.drawScales(svg, scales, whole, y);
     this.here = shape("line", { class: "here", y1: TOP, y2: height - BOTTOM });
     svg.append(this.here);
-    for (const ends of [false, true]) {
-      let path = "";
-      points.forEach(({ score }, at) => {
-        const before = points[at - 1]?.score;
-        if (score && isEnd(score) === ends) path += `${before && isEnd(before) === ends ? "L" : "M"}${x(at).toFixed(1)} ${y(score).toFixed(1)}h.01`;
-      });
-      svg.append(shape("path", { class: ends ? "curve end" : "curve", d: path }));
+    const game = points.map((point, at) => ({ ...point, at })), left = beside.length ? [game[from], ...beside.map((point, at) => ({ ...point, at: from + 1 + at }))] : [];
+    for (const [some, name] of left.length ? [[game, "curve"], [left, "curve beside"]] : [[game, "curve"]]) {
+      for (const side of isSplit ? ["X", "O"] : [""]) this.drawCurve(svg, some.filter((point) => !side || point.side === side), x, y, `${name}${side && ` of-${side}`}`);
     }
     const first = points.findIndex(({ score }) => score && isEnd(score));
     if (first > 0) svg.append(shape("line", { class: "border", x1: (x(first - 1) + x(first)) / 2, x2: (x(first - 1) + x(first)) / 2, y1: TOP, y2: height - BOTTOM }));
-    points.forEach(({ score, mark }, at) => score && mark && svg.append(markOf(x(at), y(score), mark)));
-    for (let at = 0; at < points.length; at += points.length > 31 && width < 420 ? 20 : 10)
-      svg.append(shape("text", { x: x(at), y: height - 4, "text-anchor": "middle" }, String(at)));
+    for (const { score, mark, at } of game) if (score && mark) svg.append(shape("circle", { class: mark, cx: x(at), cy: y(score), r: { grave: 5.5, weak: 4, doubtful: 4 }[mark] }));
+    for (let at = 0; at <= last; at += last > 30 && width < 420 ? 20 : 10) svg.append(shape("text", { x: x(at), y: height - 4, "text-anchor": "middle" }, String(at)));
     return svg;
+  }
+
+  /** Points and discs of some places, each joined with the one before where both have the same unit. */
+  drawCurve(svg, some, x, y, name) {
+    for (const ends of [false, true]) {
+      let path = "";
+      some.forEach(({ score, at }, number) => {
+        const before = some[number - 1]?.score;
+        if (score && isEnd(score) === ends) path += `${before && isEnd(before) === ends ? "L" : "M"}${x(at).toFixed(1)} ${y(score).toFixed(1)}h.01`;
+      });
+      svg.append(shape("path", { class: ends ? `${name} end` : name, d: path }));
+    }
   }
 
   drawScales(svg, scales, points, y) {
@@ -85,12 +102,7 @@ export class Graph {
   }
 
   label() {
-    const known = this.shown.points.filter((one) => one.score).length;
-    return t("graph.label", { n: this.shown.points.length - 1, known });
+    const { points, isSplit } = this.shown, known = points.filter((one) => one.score).length;
+    return `${t("graph.label", { n: points.length - 1, known })} ${t(isSplit ? "sign.mover" : "sign.black")}`;
   }
-}
-
-function markOf(x, y, mark) {
-  if (mark === "grave") return shape("path", { class: "grave", d: `M${x} ${y - 7}l7 7l-7 7l-7 -7z` });
-  return shape("path", { class: "weak", d: `M${x} ${y - 6}l6 11h-12z` });
 }

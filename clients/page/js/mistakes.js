@@ -1,27 +1,36 @@
-// The mistakes of a game in their order: first the discs that were lost for certain, by their marks and then by how many; then points, an
-// opinion, on a scale of their own.
+// The mistakes of the game in their order: first the discs that were lost for certain, by their marks and then by how many; then what is worse by
+// the evaluation, on a scale of its own. A click opens the position before the move.
 
 import { made, put } from "./dom.js";
 import { mistakesOf, totalsOf } from "./judge.js";
 import { MARKS } from "./moves.js";
-import { lossWords, words } from "./scores.js";
+import { LIMITS, MEASURED, isEnd, lossWords, words } from "./scores.js";
 import { t } from "./texts.js";
 
 const MOST = { discs: 60, points: 12 };
 
+/** A score with the sign that is chosen; Black's discs name who wins. */
+function worded(score, view) {
+  if (view !== "black" || !isEnd(score) || !score.discs) return words(score);
+  return t("by.side", { side: t(score.discs > 0 ? "side.black" : "side.white"), n: Math.abs(score.discs) });
+}
+
 /** A mistake in words. */
-export function rowText(unit, { node, loss, best, bestMove, score, depth }) {
-  const side = t(node.side === "X" ? "black" : "white");
-  return t(`mistakes.row.${unit}`, { ply: node.ply, side, move: node.move, lost: lossWords(loss), best: bestMove, worth: words(best), value: words(score), depth });
+export function rowText(unit, { node, loss, best, bestMove, score, depth }, scene) {
+  const side = t(node.side === "X" ? "black" : "white"), seen = (one) => worded(scene.seen(one, node.side), scene.options.view);
+  return t(`mistakes.row.${unit}`, { ply: node.ply, side, move: node.move, lost: lossWords(loss), best: bestMove, worth: seen(best), value: seen(score), depth });
 }
 
 /** What both players lost, in words. */
 export function totalsText(line, analyst) {
   return ["X", "O"].map((side) => {
     const all = totalsOf(line, side, analyst);
-    return t("totals", { ...all, side: t(side === "X" ? "side.black" : "side.white"), discs: t("unit.discs", { n: all.discs }), points: t("unit.points", { n: all.points }) });
+    return t("totals", { ...all, side: t(side === "X" ? "side.black" : "side.white"), discs: t("unit.discs", { n: all.discs }) });
   });
 }
+
+/** What a list's section is about. */
+export const helpText = (unit, { view }) => `${t(`mistakes.${unit}.help`, { worse: LIMITS.WORSE, doubtful: LIMITS.DOUBTFUL, ...MEASURED })} ${t(`sign.${view}`)}`;
 
 export class Mistakes {
   /** Shows mistakes in an element; `chosen` is called with the node of one that was clicked. */
@@ -29,29 +38,30 @@ export class Mistakes {
     Object.assign(this, { element, chosen, sign: "", buttons: new Map() });
   }
 
-  show(tree, analyst) {
-    const line = tree.line(), { known, all } = analyst.progress(), found = mistakesOf(line, analyst);
-    const parts = line.length ? this.lists(found) : [[], []], totals = line.length ? totalsText(line, analyst) : [];
-    const wait = !line.length ? t("mistakes.none") : known < all ? t("mistakes.wait", { known, all }) : "";
-    const sign = JSON.stringify([wait, totals, parts.map((rows) => rows.map(({ text }) => text))]);
-    if (sign !== this.sign) this.fill(wait, parts, totals);
+  /** `rest` says why no values come, where none do. */
+  show(scene, rest) {
+    const { game, progress: { known, all } } = scene, found = mistakesOf(game, scene);
+    const parts = game.length ? this.lists(found, scene) : [[], []], totals = game.length && !scene.veil ? totalsText(game, scene) : [];
+    const wait = !game.length ? t("mistakes.none") : rest || (known < all ? t("mistakes.wait", { known, all }) : "");
+    const sign = JSON.stringify([wait, totals, scene.options.view, parts.map((rows) => rows.map(({ text }) => text))]);
+    if (sign !== this.sign) this.fill(wait, parts, totals, scene);
     this.sign = sign;
-    for (const [node, button] of this.buttons) put(button, "aria-current", node === tree.current);
+    for (const [node, button] of this.buttons) put(button, "aria-current", node === scene.mistake?.node);
   }
 
-  lists(found) {
-    return ["discs", "points"].map((unit) => found[unit].map((one) => ({ ...one, text: rowText(unit, one) })));
+  lists(found, scene) {
+    return ["discs", "points"].map((unit) => found[unit].map((one) => ({ ...one, text: rowText(unit, one, scene) })));
   }
 
   /** Buttons stay the same where their mistake does, so that they keep their clicks. */
-  fill(wait, parts, totals) {
+  fill(wait, parts, totals, scene) {
     const before = this.buttons;
     this.buttons = new Map();
     const sections = parts.flatMap((rows, at) => {
       const unit = ["discs", "points"][at], shown = rows.slice(0, MOST[unit]), more = rows.length - shown.length;
       const list = made("ol", {}, ...shown.map((row) => made("li", {}, this.button(row, before))));
       if (more) list.append(made("li", { class: "dim" }, t("mistakes.more", { n: more })));
-      return [made("h2", {}, t(`mistakes.${unit}`)), made("p", { class: "dim" }, t(`mistakes.${unit}.help`)), rows.length ? list : made("p", {}, t("mistakes.no"))];
+      return [made("h2", {}, t(`mistakes.${unit}`)), made("p", { class: "dim" }, helpText(unit, scene.options)), rows.length ? list : made("p", {}, t("mistakes.no"))];
     });
     const about = [...(wait ? [made("p", { class: "dim" }, wait)] : []), ...totals.map((text) => made("p", {}, text))];
     this.element.replaceChildren(...(totals.length ? [...about, ...sections] : about));

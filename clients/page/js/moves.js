@@ -1,13 +1,13 @@
-// The moves of the line that is looked at, two in a row, with what each is worth; variations and comments below the moves that they are
+// The moves of the game, two in a row, with what each is worth; variations and comments below the moves that they are
 // about. Rows and buttons stay the same while their values change: a button that is made anew between press and release would lose the
 // click, and a long game would be slow.
 
 import { made, put, reveal, say } from "./dom.js";
 import { judged } from "./judge.js";
-import { brief, forBlack, lossWords, words } from "./scores.js";
+import { brief, lossWords, words } from "./scores.js";
 import { t } from "./texts.js";
 
-export const MARKS = { weak: "?", grave: "??" };
+export const MARKS = { doubtful: "?!", weak: "?", grave: "??" };
 
 /** The moves in pairs: black's and white's; who has to pass has an empty place. */
 export function pairsOf(line) {
@@ -26,15 +26,18 @@ export class Moves {
     Object.assign(this, { element, chosen, cells: new WeakMap(), rows: new WeakMap(), smalls: new WeakMap(), below: new WeakMap() });
     this.body = made("div", { class: "pairs", role: "list", "aria-label": t("moves") });
     this.none = made("p", { class: "none" }, t("moves.none"));
-    element.append(this.body, this.none);
+    this.rest = made("p", { class: "rest", hidden: true });
+    element.append(this.rest, this.body, this.none);
   }
 
-  /** Shows the tree's line. */
-  show(tree, analyst, view) {
-    const line = tree.line(), focused = this.element.contains(document.activeElement), rows = [];
+  /** Shows the game of a scene; `rest` says why no values come, where none do. */
+  show(scene, rest) {
+    const { tree, game: line } = scene, focused = this.element.contains(document.activeElement), rows = [];
     reveal(this.none, !line.length);
+    say(this.rest, line.length ? rest : "");
+    reveal(this.rest, this.rest.textContent);
     for (const pair of pairsOf(line)) {
-      rows.push(this.row(pair, analyst, view));
+      rows.push(this.row(pair, scene));
       for (const node of [pair.X, pair.O]) if (node) rows.push(...this.notes(node));
     }
     const there = this.body.children;
@@ -60,36 +63,42 @@ export class Moves {
     this.seen = tree.current;
   }
 
+  /** Has the current move seen, where the list was hidden. */
+  reveal() {
+    if (this.here) requestAnimationFrame(() => this.scroll(this.here));
+  }
+
   /** Moves the list, and nothing else, so that a row can be seen; with the next picture, as places are known then. */
   scroll(button) {
-    const list = this.element.closest(".panel") ?? this.element;
-    if (list.scrollHeight <= list.clientHeight + 1) return;
+    const list = [this.element.closest(".panel"), this.element.closest(".side")].find((one) => one && one.scrollHeight > one.clientHeight + 1 && getComputedStyle(one).overflowY !== "visible");
+    if (!list || !button.isConnected) return;
     const box = button.getBoundingClientRect(), frame = list.getBoundingClientRect();
     if (box.top < frame.top) list.scrollTop -= frame.top - box.top + 8;
     else if (box.bottom > frame.bottom - 8) list.scrollTop += box.bottom - frame.bottom + 40;
   }
 
-  row(pair, analyst, view) {
+  row(pair, scene) {
     const first = pair.X ?? pair.O, row = this.rows.get(first) ?? made("div", { class: "pair", role: "listitem" }, made("span", { class: "number" }, String(first.ply)));
     this.rows.set(first, row);
-    const cells = ["X", "O"].map((side) => (pair[side] ? this.cell(pair[side], analyst, view) : (row.empty ??= made("span", { class: "empty" }, t("pass")))));
+    const cells = ["X", "O"].map((side) => (pair[side] ? this.cell(pair[side], scene) : (row.empty ??= made("span", { class: "empty" }))));
+    if (row.empty) say(row.empty, isPass(pair) ? t("pass") : "");
     if (cells[0] !== row.children[1] || cells[1] !== row.children[2]) row.replaceChildren(row.children[0], ...cells);
     return row;
   }
 
   /** The button of a move, with what is known now; nothing is worded anew where nothing else is known than before. */
-  cell(node, analyst, view) {
-    const cell = this.cells.get(node) ?? this.newCell(node), known = analyst.of(node.parent.position), sign = `${view}${node.glyph}`;
+  cell(node, scene) {
+    const cell = this.cells.get(node) ?? this.newCell(node), known = scene.of(node.parent.position), sign = `${scene.options.view}${node.glyph}`;
     if (cell.known === known && cell.sign === sign) return cell.button;
     Object.assign(cell, { known, sign });
-    const { score, loss, best, bestMove, depth } = judged(node, analyst);
-    const value = score ? brief(view === "black" ? forBlack(score, node.side) : score) : "", mark = node.glyph || (MARKS[loss?.class] ?? "");
+    const { score, loss, best, bestMove, depth } = judged(node, scene), seen = (one) => scene.seen(one, node.side);
+    const value = score ? brief(seen(score)) : "", mark = node.glyph || (MARKS[loss?.class] ?? "");
     say(cell.value, value);
     say(cell.mark, mark);
     const kind = node.glyph ? "glyph" : (loss?.class ?? "good");
     put(cell.button, "class", `move ${kind} ${loss?.unit === "points" && loss.tint ? `lost${loss.tint}` : ""}`.trim());
-    put(cell.button, "aria-label", [cell.name, mark && t(`glyph.${mark}`), score && words(score), lossWords(loss) && t("moves.lost", { lost: lossWords(loss) })].filter(Boolean).join(", "));
-    put(cell.button, "title", best ? t(score === best ? "moves.best" : "moves.told", { best: bestMove, worth: words(best), lost: lossWords(loss) || t("lost.unknown"), depth }) : "");
+    put(cell.button, "aria-label", [cell.name, mark && t(`glyph.${mark}`), score && words(seen(score)), lossWords(loss) && t("moves.lost", { lost: lossWords(loss) })].filter(Boolean).join(", "));
+    put(cell.button, "title", best ? t(score === best ? "moves.best" : "moves.told", { best: bestMove, worth: words(seen(best)), lost: lossWords(loss) || t("lost.unknown"), depth }) : "");
     return cell.button;
   }
 
@@ -129,6 +138,9 @@ export class Moves {
     return button;
   }
 }
+
+/** Whether the empty place of a pair is a pass: the other player moved, and nothing could be played. */
+export const isPass = ({ X, O }) => (O ?? { parent: X }).parent.passed;
 
 /** What a variation looks like. */
 const signOf = (node) => `${node.move}${node.glyph}(${node.children.map(signOf).join(",")})`;

@@ -12,13 +12,13 @@ const INK = { ...COLOURS, felt: "#ffffff", line: "#444444", white: "#ffffff", be
  * What a picture has, as shapes that SVG and a canvas both can draw: discs, coordinates, and what is known of each legal square; `numbers`
  * has numbers that stand on squares, and `ink` says that it is printed.
  */
-function* shapesOf({ position, table = new Map(), best = "", last = "", numbers = new Map(), ink = false }) {
+function* shapesOf({ position, table = new Map(), seen = (score) => score, best = "", last = "", numbers = new Map(), ink = false }) {
   const colours = ink ? INK : COLOURS;
   yield { kind: "rect", x: 0, y: 0, width: SIDE, height: SIDE, fill: "#ffffff" };
   const free = new Set(legal(position));
   for (const [at, name] of SQUARES.entries()) {
     const x = EDGE + CELL * (at % 8), y = EDGE + CELL * (at >> 3), cx = x + CELL / 2, cy = y + CELL / 2, cell = position[at];
-    const score = free.has(at) && table.get(name), number = numbers.get(name);
+    const own = free.has(at) && table.get(name), score = own && seen(own, position[65]), number = numbers.get(name);
     yield { kind: "rect", x, y, width: CELL, height: CELL, fill: colours.felt, stroke: colours.line, width_: 1 };
     if (cell !== "-") yield { kind: "circle", cx, cy, r: 20, fill: cell === "X" ? colours.black : colours.white, stroke: colours.line };
     if (name === last) yield { kind: "circle", cx, cy, r: 5, fill: "#e8590c" };

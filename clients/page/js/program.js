@@ -2,8 +2,7 @@
 
 import { able } from "./told.js";
 import { $, made, say } from "./dom.js";
-import { START, isOver, other, sideOf } from "./rules.js";
-import { blackScore } from "./judge.js";
+import { START, count, isOver, other, sideOf } from "./rules.js";
 import { rank } from "./scores.js";
 import { t } from "./texts.js";
 
@@ -20,51 +19,43 @@ export function choiceOf({ table, best }, mistakes, chance = Math.random) {
 
 export class Program {
   constructor(app, local, analyst) {
-    Object.assign(this, { app, local, analyst, side: null });
+    Object.assign(this, { app, local, analyst });
     $("level").replaceChildren(...LEVELS.map((_, at) => made("option", { value: at }, String(at + 1))));
-    $("level").value = "2";
-    const on = (id, event, does) => $(id).addEventListener(event, does);
-    on("level", "change", () => this.show());
-    on("play-begin", "click", () => this.begin(true));
-    on("play-here", "click", () => this.begin(false));
-    on("play-end", "click", () => this.end());
-    on("take-back", "click", () => this.takeBack());
-    on("hint", "click", () => this.hint());
-    on("play-values", "change", () => this.app.show());
+    const on = (id, does) => $(id).addEventListener("click", does);
+    on("play-begin", () => this.begin(true));
+    on("play-here", () => this.begin(false));
+    on("play-end", () => this.end());
+    on("take-back", () => this.takeBack());
+    on("hint", () => this.hint());
   }
 
-  get level() {
-    return LEVELS[Number($("level").value)];
-  }
-
-  /** Whether values are hidden: one who plays sees them only where he wants to. */
-  get hides() {
-    return this.side !== null && !$("play-values").checked && !isOver(this.app.tree.current.position);
+  get match() {
+    return this.app.state.match;
   }
 
   begin(fresh) {
-    this.side = $("play-side").value;
-    const name = t("play.program.name", { n: Number($("level").value) + 1 }), seat = this.side === "X" ? "white" : "black";
+    const { state } = this.app, { level, seat } = state.options;
+    state.match = { side: seat, level, fault: "" };
     if (fresh) this.app.begin(START, () => t("said.fresh"));
-    this.app.info = { ...this.app.info, [seat]: name };
+    state.info = { ...state.info, [seat === "X" ? "white" : "black"]: t("play.program.name", { n: level + 1 }) };
     this.app.remember(false);
     this.app.show();
   }
 
   end() {
-    this.side = null;
+    this.app.state.match = null;
     this.thinking?.abort();
     this.app.show();
   }
 
   /** Goes back to the move before the player's last one. */
   takeBack() {
-    if (this.side === null) return;
-    const { tree } = this.app;
+    if (!this.match) return;
+    const { tree } = this.app, { side } = this.match;
     this.thinking?.abort();
     this.app.change(() => {
       let node = tree.current;
-      while (node.parent && node.side !== this.side) node = node.parent;
+      while (node.parent && node.side !== side) node = node.parent;
       if (!node.parent) return false;
       tree.go(node);
       return tree.remove();
@@ -73,40 +64,56 @@ export class Program {
 
   async hint() {
     const { position } = this.app.tree.current;
-    if (isOver(position) || !this.local.engine) return;
-    const known = this.analyst.of(position) ?? (await this.local.table(position, 6));
-    if (this.app.tree.current.position !== position) return;
-    this.app.hint = known.best;
+    if (isOver(position) || !this.canMove) return;
+    const known = this.analyst.of(position) ?? (await this.local.table(position, 6).catch(() => null));
+    if (!known || this.app.tree.current.position !== position) return;
+    this.app.state.hint = known.best;
     this.app.show();
     this.app.tell(t("play.hinted", { move: known.best }));
   }
 
-  show() {
-    const { current } = this.app.tree, isOn = this.side !== null, turn = isOn && !this.app.setting && sideOf(current.position) !== this.side;
-    const [depth, mistakes] = this.level;
+  /** Whether the engine, by which the program moves, runs here, or may yet. */
+  get canMove() {
+    return this.local.engine ? !this.local.engine.closed : !this.local.fault;
+  }
+
+  show(scene) {
+    const { state, current, setting } = scene, { match } = state, [depth, mistakes] = LEVELS[match?.level ?? state.options.level];
     say($("level-told"), t("play.level.told", { n: depth, share: mistakes }));
-    able("play-end", isOn);
-    able("take-back", isOn && current.parent);
-    able("hint", !isOver(current.position));
-    const score = isOver(current.position) && blackScore(current, this.analyst);
-    const text = !isOn ? "" : score ? t("play.over", { text: t("discs", { black: current.position.split("X").length - (sideOf(current.position) === "X" ? 2 : 1), white: current.position.split("O").length - (sideOf(current.position) === "O" ? 2 : 1) }) }) : current.next ? t("play.paused") : t(turn ? "play.thinks" : "play.your");
-    say($("play-told"), text);
-    if (turn && !current.next && !score) this.move(current);
+    able("play-end", match);
+    able("take-back", match && current.parent);
+    able("hint", !isOver(current.position) && this.local.engine && !state.lesson.hidden);
+    say($("play-told"), this.textOf(scene));
+    const isTurn = match && !setting && sideOf(current.position) !== match.side;
+    if (isTurn && !current.next && !isOver(current.position) && !state.stopped && !match.fault && this.local.engine) this.move(current);
     else this.thinking?.abort();
+  }
+
+  /** How the game stands: nobody is said to think who doesn't. */
+  textOf({ state: { match, stopped }, current }) {
+    if (!match) return this.canMove ? "" : t("play.engine");
+    const { position } = current, isTurn = sideOf(position) !== match.side;
+    if (isOver(position)) return t("play.over", { text: t("discs", { black: count(position, "X"), white: count(position, "O") }) });
+    if (current.next) return t("play.paused");
+    if (!isTurn) return t("play.your");
+    if (!this.canMove) return t("play.engine");
+    return match.fault ? t("play.fault", { text: match.fault }) : t(stopped ? "play.stopped" : "play.thinks");
   }
 
   /** Makes the program's move, if it isn't thinking of it already. */
   async move(node) {
     if (this.thinking && !this.thinking.signal.aborted && this.node === node) return;
     this.thinking?.abort();
-    const stop = (this.thinking = new AbortController()), [depth, mistakes] = this.level;
+    const stop = (this.thinking = new AbortController()), { match } = this, [depth, mistakes] = LEVELS[match.level];
     this.node = node;
     try {
       const [found] = await Promise.all([this.local.table(node.position, depth, stop.signal), new Promise((done) => setTimeout(done, SHORTEST))]);
-      if (stop.signal.aborted || this.app.tree.current !== node || this.side !== other(sideOf(node.position))) return;
+      if (stop.signal.aborted || this.app.tree.current !== node || this.match?.side !== other(sideOf(node.position))) return;
       this.app.play(choiceOf(found, mistakes));
-    } catch {
-      // it was stopped: the next that is shown begins anew
+    } catch (fault) {
+      if (stop.signal.aborted || this.match !== match || fault?.name === "AbortError") return; // it was stopped: the next that is shown begins anew
+      match.fault = fault.message;
+      this.app.show();
     } finally {
       if (this.thinking === stop) this.thinking = null;
     }

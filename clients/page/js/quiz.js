@@ -1,4 +1,5 @@
-// Find the best move: the mistakes of the game that is open, one after another, with values hidden until an answer stands on the board.
+// Find the best move: the mistakes of the game that is open, one after another, with values hidden until an answer stands on the board. Those that lost
+// discs for certain are asked; where there are none, doubtful moves, whose answers are said to be the evaluation's.
 
 import { able } from "./told.js";
 import { $, say } from "./dom.js";
@@ -6,84 +7,93 @@ import { mistakesOf } from "./judge.js";
 import { isExact, lossOf, lossWords, words } from "./scores.js";
 import { t } from "./texts.js";
 
-const WORTH_ASKING = 24; // points: what is lost less isn't asked
+/** The questions of a game: mistakes that are certain, else doubtful moves. */
+export function questionsOf(line, side, analyst) {
+  const { discs, points } = mistakesOf(line, analyst), own = ({ node }) => !side || node.side === side;
+  const certain = discs.filter(own);
+  return certain.length ? certain : points.filter(({ loss }) => loss.class === "doubtful").filter(own);
+}
 
 export class Quiz {
   constructor(app, analyst) {
-    Object.assign(this, { app, analyst, questions: null, at: 0, right: 0, answered: 0, open: false });
+    Object.assign(this, { app, analyst, said: "" });
     const on = (id, does) => $(id).addEventListener("click", does);
     on("quiz-begin", () => this.begin());
-    on("quiz-next", () => this.isOn && this.ask(this.at + 1));
-    on("quiz-show", () => this.open && this.reveal("quiz.answer"));
+    on("quiz-next", () => this.next());
+    on("quiz-show", () => this.giveUp());
     on("quiz-end", () => this.end());
   }
 
-  get isOn() {
-    return this.questions !== null;
-  }
-
-  /** Whether values are hidden: a question waits for its answer, and it is its position that is looked at. */
-  get hides() {
-    return this.isOn && this.open && this.app.tree.current === this.question.node.parent;
+  get state() {
+    return this.app.state.quiz;
   }
 
   get question() {
-    return this.questions[this.at];
+    return this.state.questions[this.state.at];
+  }
+
+  /** Whether a square that is clicked is an answer: a question waits for one, and its position is looked at. */
+  get isAsked() {
+    return Boolean(this.state?.open) && this.app.tree.current === this.question.node.parent;
   }
 
   begin() {
-    const side = $("quiz-side").value, { discs, points } = mistakesOf(this.app.tree.line(), this.analyst);
-    const all = [...discs, ...points.filter(({ loss }) => loss.amount >= WORTH_ASKING)].filter(({ node }) => !side || node.side === side);
-    this.say = "";
-    if (!all.length) {
-      this.end();
-      this.tell(t("quiz.none"));
-      return;
-    }
-    Object.assign(this, { questions: all, right: 0, answered: 0 });
+    const { tree, options } = this.app.state, questions = questionsOf(tree.main(), options.quizSide, this.analyst);
+    if (!questions.length) return this.end(t("quiz.none"));
+    this.app.state.quiz = { questions, at: 0, right: 0, answered: 0, open: true, said: "" };
     this.ask(0);
   }
 
+  next() {
+    if (this.state) this.ask(this.state.at + 1);
+  }
+
   ask(at) {
-    if (at >= this.questions.length) return this.end(t("quiz.score", { right: this.right, n: this.answered }));
-    Object.assign(this, { at, open: true });
-    this.app.step(() => this.app.tree.go(this.question.node.parent));
-    this.tell(t("quiz.ask", { n: at + 1, all: this.questions.length, side: t(this.question.node.side === "X" ? "black" : "white") }));
+    const { state } = this;
+    if (at >= state.questions.length) return this.end(t("quiz.score", { right: state.right, n: state.answered }));
+    Object.assign(state, { at, open: true });
+    const { node, loss } = this.question, values = { n: at + 1, all: state.questions.length, side: t(node.side === "X" ? "black" : "white") };
+    state.said = t(loss.unit === "discs" ? "quiz.ask" : "quiz.ask.points", values);
+    this.app.step(() => this.app.tree.go(node.parent));
     this.app.show();
+    this.app.tell(state.said);
   }
 
   /** A square that was clicked is an answer. */
   answer(move) {
-    const known = this.analyst.of(this.question.node.parent.position), score = known.table.get(move), best = known.table.get(known.best);
+    const { state } = this, known = this.analyst.of(this.question.node.parent.position), score = known.table.get(move), best = known.table.get(known.best);
     if (!score) return;
     const loss = lossOf(best, score), isRight = isExact(score) && loss?.amount === 0;
-    this.answered += 1;
-    this.right += isRight ? 1 : 0;
+    state.answered += 1;
+    state.right += isRight ? 1 : 0;
     this.reveal(isRight ? "quiz.right" : "quiz.wrong", { move, lost: lossWords(loss) || t("lost.unknown") });
   }
 
+  giveUp() {
+    if (this.state?.open) this.reveal("quiz.answer");
+  }
+
   reveal(name, values = {}) {
-    const { node } = this.question, known = this.analyst.of(node.parent.position);
-    this.open = false;
-    this.tell([t(name, { best: known.best, worth: words(known.table.get(known.best)), played: node.move, ...values }), this.answered ? t("quiz.score", { right: this.right, n: this.answered }) : ""].filter(Boolean).join(" "));
+    const { state } = this, { node, loss } = this.question, known = this.analyst.of(node.parent.position);
+    const said = t(name, { best: known.best, worth: words(known.table.get(known.best)), played: node.move, ...values });
+    state.open = false;
+    state.said = [said, loss.unit === "points" ? t("quiz.points", { n: known.depth }) : "", state.answered ? t("quiz.score", { right: state.right, n: state.answered }) : ""].filter(Boolean).join(" ");
+    this.app.state.mistake = this.app.tree.current === node.parent ? node : null;
     this.app.show();
+    this.app.tell(state.said);
   }
 
   end(text = "") {
-    Object.assign(this, { questions: null, open: false });
-    this.tell(text);
-    this.app.show();
-  }
-
-  tell(text) {
+    this.app.state.quiz = null;
     this.said = text;
+    this.app.show();
     if (text) this.app.tell(text);
   }
 
-  show() {
-    say($("quiz-told"), this.said ?? "");
-    able("quiz-next", this.isOn);
-    able("quiz-show", this.open);
-    able("quiz-end", this.isOn);
+  show({ state: { quiz } }) {
+    say($("quiz-told"), quiz?.said ?? this.said);
+    able("quiz-next", quiz);
+    able("quiz-show", quiz?.open);
+    able("quiz-end", quiz);
   }
 }

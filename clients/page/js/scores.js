@@ -70,19 +70,20 @@ export function tintOf(best, score) {
   return TINTS[unit].filter((least) => lost >= least).length;
 }
 
-export const LIMITS = { WEAK: 2, GRAVE: 8 }; // discs
-const SMALLEST = 12; // points, below which a loss isn't listed
+/** From how much on a loss is weak and grave, in discs; and is told at all and doubtful, in points, by the table of docs/VALUES.md. */
+export const LIMITS = { WEAK: 2, GRAVE: 8, WORSE: 24, DOUBTFUL: 48 };
+export const MEASURED = { depth: 8, share: 79, doubtfulShare: 92 }; // by the same table: plies, and of 100 moves of a step (worse, but not doubtful; doubtful) those that lose discs
 
 /**
  * What a move lost beside the best one, both seen by its player: null where that isn't known exactly, else {unit, amount, class}. Discs
- * are lost for certain: their class is good, weak, or grave where many are or the game's result changes. Points are an opinion, which has
- * no such word: their class is `opinion`, or good where few are.
+ * are lost for certain: their class is good, weak, or grave where many are or the game's result changes. Points are an opinion, which is often
+ * wrong: their class is good, `worse` or `doubtful`, and never more.
  */
 export function lossOf(best, score) {
   if (!isExact(best) || !isExact(score) || isEnd(best) !== isEnd(score)) return null;
   if (!isEnd(best)) {
     const amount = Math.max(best.points - score.points, 0);
-    return { unit: "points", amount, class: amount >= SMALLEST ? "opinion" : "good", tint: tintOf(best, score) };
+    return { unit: "points", amount, class: amount >= LIMITS.DOUBTFUL ? "doubtful" : amount >= LIMITS.WORSE ? "worse" : "good", tint: tintOf(best, score) };
   }
   const amount = Math.max(best.discs - score.discs, 0), changed = Math.sign(best.discs) !== Math.sign(score.discs);
   const kind = changed || amount >= LIMITS.GRAVE ? "grave" : amount >= LIMITS.WEAK ? "weak" : "good";

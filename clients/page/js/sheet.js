@@ -1,13 +1,14 @@
-// The sheet for print: the game's names, its position and its moves as diagrams, the moves with what they are worth, and the mistakes.
+// The sheet for print: the game's names, its position and its moves as diagrams, and where it is
+// asked for what the moves are worth, and the mistakes.
 
 import { turnText } from "./board.js";
 import { $, made } from "./dom.js";
 import { judged, mistakesOf } from "./judge.js";
-import { rowText, totalsText } from "./mistakes.js";
+import { helpText, rowText, totalsText } from "./mistakes.js";
 import { MARKS, pairsOf } from "./moves.js";
 import { openingOf } from "./openings.js";
 import { picture } from "./picture.js";
-import { brief, forBlack } from "./scores.js";
+import { brief } from "./scores.js";
 import { t } from "./texts.js";
 
 /** What is told of a game in one line. */
@@ -16,32 +17,43 @@ export function namesText({ black, white, event, date, result }) {
   return [names, event, date, result].filter(Boolean).join(", ");
 }
 
-function movesPart(line, analyst) {
+function movesPart(scene, answers) {
   const text = (node) => {
-    const { score, loss } = judged(node, analyst);
-    return `${node.move}${node.glyph || MARKS[loss?.class] || ""}${score ? ` (${brief(forBlack(score, node.side))})` : ""}`;
+    const { score, loss } = judged(node, scene);
+    return answers ? `${node.move}${node.glyph || MARKS[loss?.class] || ""}${score ? ` (${brief(scene.seen(score, node.side))})` : ""}` : node.move;
   };
-  return made("div", { class: "moves" }, ...pairsOf(line).map(({ X, O }) => made("p", {}, made("b", {}, `${(X ?? O).ply}. `), X ? text(X) : t("pass"), O ? `  ${text(O)}` : "")));
+  const pair = ({ X, O }) => made("p", {}, made("b", {}, `${(X ?? O).ply}. `), X ? text(X) : O.parent.passed ? t("pass") : "…", O ? `  ${text(O)}` : X.passed ? `  ${t("pass")}` : "");
+  return made("div", { class: "moves" }, ...pairsOf(scene.game).map(pair));
 }
 
-/** Fills the sheet. */
-export function fillSheet(app, analyst) {
-  const { tree, info } = app, line = tree.line(), { current } = tree, { discs, points } = mistakesOf(line, analyst), turn = turnText(current.position);
-  const known = analyst.of(current.position), numbers = new Map(line.map((node) => [node.move, node.ply]));
-  const figure = (what, text) => made("figure", {}, picture({ ...what, ink: true }), made("figcaption", {}, text));
-  const now = figure({ position: current.position, table: known?.table, best: known?.best, last: current.move }, current.parent ? t("sheet.position", { ply: current.ply, turn }) : t("sheet.start", { turn }));
-  const whole = line.length ? [figure({ position: line.at(-1).position, numbers }, t("sheet.game"))] : [];
-  const list = (unit, rows) => (rows.length ? [made("h2", {}, t(`mistakes.${unit}`)), made("ol", {}, ...rows.map((row) => made("li", {}, `${MARKS[row.loss.class] ?? ""} ${rowText(unit, row)}`)))] : []);
-  const comments = line.filter(({ comment }) => comment).map((node) => made("li", {}, `${node.ply}. ${node.move}: ${node.comment}`));
-  $("sheet").replaceChildren(
-    made("h1", {}, namesText(info) || t("title")),
-    made("p", {}, openingOf(line[Math.min(line.length, 20) - 1])),
-    made("div", { class: "diagrams" }, now, ...whole),
-    ...(line.length ? [made("h2", {}, t("moves")), movesPart(line, analyst)] : []),
+/** What was worth what: comments, mistakes and sums. */
+function answersOf(scene) {
+  const { game } = scene, { discs, points } = mistakesOf(game, scene);
+  const list = (unit, rows) => (rows.length ? [made("h2", {}, t(`mistakes.${unit}`)), made("p", {}, helpText(unit, scene.options)), made("ol", {}, ...rows.map((row) => made("li", {}, `${MARKS[row.loss.class] ?? ""} ${rowText(unit, row, scene)}`)))] : []);
+  const comments = game.filter(({ comment }) => comment).map((node) => made("li", {}, `${node.ply}. ${node.move}: ${node.comment}`));
+  const deepest = Math.max(0, ...game.map((node) => judged(node, scene)).filter(({ loss }) => loss?.unit === "points").map(({ depth }) => depth));
+  return [
     ...(comments.length ? [made("ol", {}, ...comments)] : []),
     ...list("discs", discs),
     ...list("points", points.slice(0, 10)),
-    ...(line.length ? totalsText(line, analyst).map((text) => made("p", {}, text)) : []),
-    made("p", {}, t("sheet.depth", { n: Math.max(0, ...line.map((node) => judged(node, analyst)).filter(({ loss }) => loss?.unit === "points").map(({ depth }) => depth)) })),
+    ...(game.length ? totalsText(game, scene).map((text) => made("p", {}, text)) : []),
+    made("p", {}, t("sheet.depth", { n: deepest })),
+  ];
+}
+
+/** Fills the sheet: position, game and moves, and where answers are asked for what they are worth. */
+export function fillSheet(scene) {
+  const { state, game: line, current, known, seen, options } = scene, turn = turnText(current.position), answers = options.answers && !scene.veil;
+  const numbers = new Map(line.map((node) => [node.move, node.ply]));
+  const figure = (what, text) => made("figure", {}, picture({ ...what, ink: true }), made("figcaption", {}, text));
+  const worth = answers ? { table: known?.table, seen, best: known?.best } : {};
+  const now = figure({ position: current.position, last: current.move, ...worth }, current.parent ? t("sheet.position", { ply: current.ply, turn }) : t("sheet.start", { turn }));
+  const whole = line.length ? [figure({ position: line.at(-1).position, numbers }, t("sheet.game"))] : [];
+  $("sheet").replaceChildren(
+    made("h1", {}, namesText(state.info) || t("title")),
+    made("p", {}, openingOf(line[Math.min(line.length, 20) - 1])),
+    made("div", { class: "diagrams" }, now, ...whole),
+    ...(line.length ? [made("h2", {}, t("moves")), movesPart(scene, answers)] : []),
+    ...(answers ? answersOf(scene) : []),
   );
 }

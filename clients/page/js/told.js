@@ -1,10 +1,9 @@
-// What is told of the position that is looked at: whose turn it is, what it is worth and by what that is judged, the best line, the
-// opening's name, and how the analysis stands. Each has its place, whether it says something or not, so that nothing jumps.
+// What is told of the position that is looked at: whose turn it is, what it is worth and by what that is judged, the best line, and how the
+// analysis stands. Each has its place, whether it says something or not, so that nothing jumps.
 
 import { turnText } from "./board.js";
 import { $, put, reveal, say } from "./dom.js";
 import { blackScore } from "./judge.js";
-import { openingOf } from "./openings.js";
 import { count, isOver, sideOf } from "./rules.js";
 import { forBlack, isEnd, share, tournament, words } from "./scores.js";
 import { t } from "./texts.js";
@@ -21,55 +20,58 @@ export function sentence(score) {
 /** What a value is: an opinion so many plies deep, or a fact, and how empty squares count. */
 function noteOf(position, known, score) {
   const { empty } = known.score, text = isEnd(score) ? sentence({ discs: tournament({ ...score, empty }) }) : "";
-  if (isOver(position)) return empty && score.discs ? t("note.over", { n: empty, text }) : "";
+  if (isOver(position)) return empty && score.discs ? t("note.over", { n: empty, text }) : t("note.whole");
   if (!isEnd(score)) return t("note.points", { n: known.depth });
   if (empty === 0) return t("note.full");
   if (empty && score.discs) return t("note.empty", { n: empty, text });
   return known.depth >= count(position, "-") ? t("note.end") : t("note.sure", { n: known.depth });
 }
 
+/** Why there are no values, as a sentence; nothing where they come. */
+export function restText({ rest, veil }, analyst) {
+  if (veil === "class") return t("state.hidden");
+  return rest === "engine" ? t("fault.engine", { text: analyst.local.fault?.message ?? analyst.local.engine?.closed ?? "" }) : rest ? t(`state.${rest}`) : "";
+}
+
 export class Told {
-  constructor(app, analyst, bar) {
-    Object.assign(this, { app, analyst, bar });
+  constructor(analyst, bar) {
+    Object.assign(this, { analyst, bar });
   }
 
-  show() {
-    const { app } = this, { current } = app.tree, position = app.setting ? app.tree.start : current.position;
-    const known = app.setting || app.veiled ? null : this.analyst.of(position);
+  show(scene) {
+    const { position, known, setting, current } = scene, score = known && forBlack(known.score, sideOf(position));
     say($("turn"), turnText(position));
-    say($("opening-name"), openingOf(current));
-    const score = known && forBlack(known.score, sideOf(position));
     say($("value"), !score ? "" : isOver(position) ? t("value.over", { text: sentence(score) }) : sentence(score));
     say($("value-note"), score ? noteOf(position, known, score) : "");
     say($("line"), known?.line?.length ? t("line.best", { line: known.line.join(" ") }) : "");
-    this.showBar(app.veiled || app.setting ? null : (score ?? blackScore(current, this.analyst)));
-    say($("state"), app.setting ? "" : this.stateText(position, known));
+    this.showBar(scene, scene.veil || setting ? null : (score ?? blackScore(current, scene)));
+    say($("state"), setting ? "" : this.stateText(scene));
   }
 
-  showBar(score) {
+  showBar({ options }, score) {
     const n = score && Math.abs(isEnd(score) ? score.discs : score.points);
-    reveal($("bar"), $("show-bar").checked);
+    reveal($("bar"), options.bar);
     this.bar.show(score ? share(score) : 0.5, score ? (isEnd(score) ? t(n ? "brief.win" : "brief.draw", { n }) : n ? `+${n}` : "0") : "", score ? t("bar.known", { text: words(score) }) : t("bar.none"));
   }
 
-  stateText(position, known) {
-    const { app, analyst } = this, state = analyst.stateOf(position);
-    if (!$("analyse").checked) return t("state.off");
-    if (app.stopped) return t("state.stopped");
-    if (analyst.local.fault && !analyst.service.length) return t("fault.engine", { text: analyst.local.fault.message });
-    if (state?.kind === "fault") return t("state.fault", { text: state.text ?? "" });
-    if (!analyst.local.engine && !analyst.service.length && !known) return isOver(position) ? "" : t("state.begins");
-    if (state?.kind === "waiting") return t("state.waiting", { n: state.ahead });
-    if (state && state.kind !== "searching") return t(`state.${state.kind}`, { n: Math.ceil(state.again ?? 1) });
-    if (state) return t("state.searching", { n: state.depth });
-    if (app.veiled) return t("state.veiled");
-    const { known: done, all, left } = analyst.progress();
-    if (done < all) {
-      const text = t("state.game", { known: done, all });
-      return left >= 1 ? t("state.left", { text, n: Math.round(left) }) : text;
-    }
+  stateText(scene) {
+    const { position, known, question, progress, veil } = scene, { local, service } = this.analyst, isDone = progress.known === progress.all;
+    const rest = restText(scene, this.analyst);
+    if (rest) return rest;
+    if (question?.kind === "fault") return t("state.fault", { text: question.text ?? "" });
+    if (!local.engine && !service.length && !known) return isOver(position) ? "" : t("state.begins");
+    if (question?.kind === "waiting") return t("state.waiting", { n: question.ahead });
+    if (question && question.kind !== "searching") return t(`state.${question.kind}`, { n: Math.ceil(question.again ?? 1) });
+    if (veil && !isDone) return t("state.veiled");
+    if (question) return this.withTime(t("state.searching", { n: question.depth }), progress.known + 1 >= progress.all ? progress.left : 0);
+    if (veil) return t("state.veiled");
+    if (!isDone) return this.withTime(t("state.game", { known: progress.known, all: progress.all }), progress.left);
     if (!known || isOver(position)) return "";
     return isEnd(known.score) && known.depth >= count(position, "-") ? t("state.end") : t("state.done", { n: known.depth });
+  }
+
+  withTime(text, left) {
+    return left >= 1 ? t("state.left", { text, n: Math.round(left) }) : text;
   }
 }
 

@@ -20,8 +20,14 @@ class Node {
     return this.parent ? sideOf(this.parent.position) : "";
   }
 
+  /** Whether it is of the game itself, and not of a variation. */
+  get isMain() {
+    return !this.parent || (this.parent.children[0] === this && this.parent.isMain);
+  }
+
+  /** The move that was played here: the game's own, or in a variation the one that is gone along. */
   get next() {
-    return this.children[this.chosen] ?? null;
+    return this.children[this.isMain ? 0 : this.chosen] ?? null;
   }
 }
 
@@ -60,8 +66,9 @@ export class Tree {
     if (this.current.parent) this.go(this.current.parent);
   }
 
+  /** To the next move; from the end of a variation back to where the game was left. */
   forward() {
-    if (this.current.next) this.go(this.current.next);
+    this.go(this.current.next ?? this.left);
   }
 
   first() {
@@ -70,6 +77,18 @@ export class Tree {
 
   last() {
     while (this.current.next) this.current = this.current.next;
+  }
+
+  /** The last move of the game on the way to the current one: where a variation left it. */
+  get left() {
+    let node = this.current;
+    while (!node.isMain) node = node.parent;
+    return node;
+  }
+
+  /** The variation that is looked at, from where it left the game to its end; none in the game itself. */
+  variation() {
+    return this.current.isMain ? [] : this.line().filter((node) => !node.isMain);
   }
 
   /** Another move in the place of this one: the next variation, or the one before. Whether there is one. */
@@ -87,7 +106,7 @@ export class Tree {
     return found;
   }
 
-  /** The main line. */
+  /** The game: its main line. */
   main() {
     const found = [];
     for (let node = this.root.children[0]; node; node = node.children[0]) found.push(node);
@@ -165,7 +184,7 @@ export class Tree {
 
 /** The words of a text of moves, each with its place. What is neither a move nor numbering is a word too, to be refused. */
 function* words(text) {
-  const pattern = /\s+|[,;-](?=\s*[a-h][1-8])|\d{1,2}\.+|([a-h][1-8])(!!|\?\?|!\?|\?!|!|\?)?|(pass(?:es)?|pa|ps|--|@@)|([()])|\{([^}]*)\}|(\S+?(?=[\s()]|$))/giy;
+  const pattern = /\s+|[,;-](?=\s*[a-h][1-8])|\d{1,3}[.)]+|([a-h][1-8])(!!|\?\?|!\?|\?!|!|\?)?|(pass(?:es)?|pa|ps|--|@@)|([()])|\{([^}]*)\}|(\S+?(?=[\s()]|$))/giy;
   for (const found of text.matchAll(pattern)) {
     const [whole, move, glyph = "", pass, bracket, comment, other] = found;
     if (move || pass || bracket || other || comment !== undefined) yield { word: (move ?? whole).toLowerCase(), move: Boolean(move), glyph, comment, place: found.index };

@@ -1,6 +1,7 @@
 """The page's parts without a browser: turns, what is asked once, what is cancelled, what is read, whom it answers."""
 import asyncio
 import dataclasses
+import importlib
 import json
 import re
 import types
@@ -14,11 +15,12 @@ from coluwen.page import web as page_web
 from coluwen.page.files import Site, names_of
 from coluwen.page.library import Library, Turns, steps_of
 from coluwen.page.rooms import Rooms
-from coluwen.page.service import Service, hand_of, score_of, state_of
+from coluwen.page.service import Service, pupil_of, score_of, state_of
 from coluwen.page.web import Answer, Fault, Request, head_of, noted, plain, request_of
 from coluwen.score import Entry, Score
 
 OPENING = Position.opening()
+page_command = importlib.import_module("coluwen.page.command")  # the package has a call of that name
 
 
 class Engine:
@@ -177,27 +179,36 @@ async def test_classes():
         rooms.find(opened["room"])
 
 
+def told_of(name, follows=True, alone=False, state=None):
+    return {"name": name, "follows": follows, "alone": alone, "state": state}
+
+
 async def test_a_teacher_hears_who_follows_and_whose_hands_are_raised():
     rooms = Rooms()
     opened = rooms.open("here", "#a")
     with pytest.raises(Fault, match="another teacher"):
         rooms.pupils(opened["room"], "key")
     heads = rooms.pupils(opened["room"], opened["key"])
-    assert json.loads(await anext(heads)) == {"followers": 0, "hands": []}
-    pupil = rooms.follow(opened["room"])
+    assert json.loads(await anext(heads)) == {"followers": 0, "pupils": []}
+    nameless = rooms.follow(opened["room"])
+    await anext(nameless)
+    assert json.loads(await anext(heads)) == {"followers": 1, "pupils": []}
+    rooms.tell_of(opened["room"], "one", "Anna", False, None)
+    pupil = rooms.follow(opened["room"], "one")
     await anext(pupil)
-    assert json.loads(await anext(heads)) == {"followers": 1, "hands": []}
-    rooms.raise_hand(opened["room"], "one", "Anna", "#b")
-    assert json.loads(await anext(heads)) == {"followers": 1, "hands": [{"name": "Anna", "state": "#b"}]}
-    rooms.raise_hand(opened["room"], "one", "Anna", None)
-    assert json.loads(await anext(heads)) == {"followers": 1, "hands": []}
+    assert json.loads(await anext(heads)) == {"followers": 2, "pupils": [told_of("Anna")]}
+    rooms.tell_of(opened["room"], "one", "Anna", True, "#b")
+    assert json.loads(await anext(heads))["pupils"] == [told_of("Anna", alone=True, state="#b")]
+    rooms.tell_of(opened["room"], "one", "Ann", False, None)
+    assert json.loads(await anext(heads))["pupils"] == [told_of("Ann")]
     waiting = asyncio.ensure_future(anext(heads))
     await asyncio.sleep(0.01)
     await pupil.aclose()
-    assert json.loads(await waiting) == {"followers": 0, "hands": []}
-    for number in range(150):
-        rooms.raise_hand(opened["room"], str(number), "", "#")
-    assert len(json.loads(await anext(heads))["hands"]) == 100
+    assert json.loads(await waiting) == {"followers": 1, "pupils": [told_of("Ann", follows=False)]}  # who has followed stays known
+    for number in range(600):
+        rooms.tell_of(opened["room"], str(number), "", False, "#")
+    pupils = json.loads(await anext(heads))["pupils"]
+    assert len(pupils) == 500 and told_of("Ann", follows=False) not in pupils
     rooms.show(opened["room"], opened["key"], None)
     with pytest.raises(StopAsyncIteration):
         await anext(heads)
@@ -302,7 +313,7 @@ async def test_the_services_paths():
     service = Service(Library(Engine(), 3), [4], True)
     assert service.most("POST", "/class") == 65536 and service.most("GET", "/class") == 0
     assert await service.answer(request("GET", "/other")) is None
-    for method, path in (("POST", "/about.json"), ("GET", "/analyse"), ("GET", "/class"), ("GET", "/class/a/pupils"), ("GET", "/class/a/hand"), ("PUT", "/class/a")):
+    for method, path in (("POST", "/about.json"), ("GET", "/analyse"), ("GET", "/class"), ("GET", "/class/a/pupils"), ("GET", "/class/a/pupil"), ("GET", "/class/a/follow"), ("PUT", "/class/a")):
         with pytest.raises(Fault) as fault:
             await service.answer(request(method, path))
         assert fault.value.status == 405, path
@@ -318,13 +329,16 @@ async def test_the_services_paths():
     follows = await service.answer(request("GET", f"/class/{room}"))
     assert follows.kind == "application/x-ndjson" and json.loads(await anext(follows.lines)) == {"state": "#a"}
     pupils = await service.answer(request("POST", f"/class/{room}/pupils", {"key": key}))
-    assert pupils.kind == "application/x-ndjson" and json.loads(await anext(pupils.lines)) == {"followers": 1, "hands": []}
+    assert pupils.kind == "application/x-ndjson" and json.loads(await anext(pupils.lines)) == {"followers": 1, "pupils": []}
     for asked in ({}, [key], {"key": key[:-1]}, {"key": 5}):
         with pytest.raises(Fault) as fault:
             await service.answer(request("POST", f"/class/{room}/pupils", asked))
         assert (fault.value.status, fault.value.code) == (403, "key")
-    assert (await service.answer(request("POST", f"/class/{room}/hand", {"pupil": "p", "name": "Anna", "state": "#b"}))).body == b"{}"
-    assert json.loads(await anext(pupils.lines))["hands"] == [{"name": "Anna", "state": "#b"}]
+    assert (await service.answer(request("POST", f"/class/{room}/pupil", {"pupil": "p", "name": "Anna", "state": "#b"}))).body == b"{}"
+    assert json.loads(await anext(pupils.lines))["pupils"] == [told_of("Anna", follows=False, state="#b")]
+    named = await service.answer(request("POST", f"/class/{room}/follow", {"pupil": "p", "name": "Anna", "alone": False, "state": None}))
+    assert named.kind == "application/x-ndjson" and json.loads(await anext(named.lines)) == {"state": "#a"}
+    assert json.loads(await anext(pupils.lines)) == {"followers": 2, "pupils": [told_of("Anna")]}
     assert (await service.answer(request("POST", f"/class/{room}", {"key": key, "state": "#c"}))).body == b"{}"
     assert json.loads(await anext(follows.lines)) == {"state": "#c"}
     await service.answer(request("POST", f"/class/{room}", {"key": key, "state": None}))
@@ -347,16 +361,17 @@ def test_states(asked, ends, wanted):
 
 
 @pytest.mark.parametrize("asked, is_one", [
-    ({"pupil": "p", "name": "", "state": "#"}, True), ({"pupil": "p" * 40, "name": "n" * 40, "state": None}, True), ({"pupil": "", "name": "n", "state": "#"}, False),
+    ({"pupil": "p", "name": "", "state": "#"}, True), ({"pupil": "p" * 40, "name": "n" * 40, "alone": True, "state": None}, True), ({"pupil": "", "name": "n", "state": "#"}, False),
     ({"pupil": "p" * 41, "name": "n", "state": "#"}, False), ({"pupil": "p", "name": "n" * 41, "state": "#"}, False), ({"pupil": "p", "state": "#"}, False), ({"name": "n", "state": "#"}, False), ([], False),
+    ({"pupil": "p", "name": "n", "alone": 1, "state": "#"}, False),
 ])  # fmt: skip
-def test_hands(asked, is_one):
+def test_pupils(asked, is_one):
     if is_one:
-        assert hand_of(asked) == (asked["pupil"], asked["name"], asked["state"])
+        assert pupil_of(asked) == (asked["pupil"], asked["name"], asked.get("alone", False), asked["state"])
         return
     with pytest.raises(Fault) as fault:
-        hand_of(asked)
-    assert (fault.value.status, fault.value.code) == (400, "hand")
+        pupil_of(asked)
+    assert (fault.value.status, fault.value.code) == (400, "pupil")
 
 
 async def test_so_many_classes(monkeypatch):
@@ -419,16 +434,23 @@ async def test_so_many_follow(monkeypatch):
     assert (fault.value.status, fault.value.code) == (404, "class")
 
 
-async def test_a_raised_hand_is_the_latest():
-    rooms = Rooms()
-    opened = rooms.open("here", "#a")
-    heads = rooms.pupils(opened["room"], opened["key"])
-    await anext(heads)
-    for pupil in ("one", "two", "one"):
-        rooms.raise_hand(opened["room"], pupil, pupil, f"#{pupil}")
-    assert [hand["name"] for hand in json.loads(await anext(heads))["hands"]] == ["two", "one"]
+async def test_a_pupil_has_a_class():
     with pytest.raises(Fault):
-        rooms.raise_hand("none", "one", "", "#")
+        Rooms().tell_of("none", "one", "", False, "#")
+
+
+def test_addresses_that_others_reach(monkeypatch):
+    networks, names = ["10.1.2.3", "127.0.0.1", "192.168.4.5", "169.254.1.1"], ["127.0.1.1", "10.1.2.3"]
+    monkeypatch.setattr(page_command, "of_networks", lambda: networks)
+    monkeypatch.setattr(page_command, "of_name", lambda name: names)
+    monkeypatch.setattr(page_command.socket.socket, "connect", lambda *_: (_ for _ in ()).throw(OSError()))
+    assert page_command.own_addresses() == ["10.1.2.3", "192.168.4.5"]
+    asked = page_command.options().parse_args(["--address", "0.0.0.0", "--name", "board.example"])
+    assert page_command.addresses_of(asked, 80) == ["http://board.example:80/", "http://10.1.2.3:80/", "http://192.168.4.5:80/"]
+    networks.clear()
+    names.clear()
+    assert page_command.own_addresses() == [page_command.socket.gethostname()]
+    assert page_command.addresses_of(page_command.options().parse_args([]), 80) == []
 
 
 # The library.

@@ -4,6 +4,7 @@ import json
 import shutil
 import socket
 import subprocess
+import time
 
 from browsers import opened
 from service import NGINX, place_of
@@ -27,19 +28,25 @@ def try_class(address, name):
         one.until("the teacher's game", f"{TEXT} === 'f5d6c3'")
         check("Lehrkraft" in one.text("#class-told"), "a pupil isn't told")
         teacher.until("who follows", "document.getElementById('class-count').textContent === '1 follows.'")
+        one.fill("#pupil-name", "Anna <b>")
+        teacher.until("the pupil's name", "document.querySelector('#class-pupils li')?.textContent === 'Anna <b> · follows'")
         teacher.evaluate("document.querySelector('[data-square=d3]').click()")
         one.until("the teacher's move", f"{TEXT} === 'f5d6c3d3'")
         check(one.evaluate(CELLS) == teacher.evaluate(CELLS), "a pupil sees another board")
         one.evaluate("document.querySelector('[data-square=c4]').click()")
         check("allein" in one.text("#class-told"), f"a pupil who plays: {one.text('#class-told')}")
+        teacher.until("who looks alone", "document.querySelector('#class-pupils li')?.textContent === 'Anna <b> · looks alone'")
         one.tab("class")
-        one.fill("#pupil-name", "Anna <b>")
         one.click("#hand")
-        teacher.until("a hand", "document.querySelector('#class-hands li')?.textContent.includes('Anna <b> raises a hand')")
-        teacher.click("#class-hands button")
+        teacher.until("a hand", "document.querySelector('#class-pupils li')?.textContent.includes('Anna <b> raises a hand')")
+        teacher.click("#class-pupils button")
         teacher.until("the pupil's board", f"{TEXT} === 'f5d6c3d3c4'")
+        check("alone" in teacher.text("#strip-text") and "Anna <b>" in teacher.text("#strip-text"), f"a look isn't said to be the teacher's alone: {teacher.text('#strip-text')}")
         one.click("#class-again")
-        one.until("the teacher's game again", f"{HERE} === 'c4'")
+        one.until("the teacher's game again", f"{HERE} === 'd3'")
+        check(one.evaluate(TEXT) == "f5d6c3d3", f"the class sees a board that the teacher looks at alone: {one.evaluate(TEXT)}")
+        teacher.click("#strip-buttons [data-does=mine]")
+        check(teacher.evaluate(TEXT) == "f5d6c3d3", f"the teacher's own board: {teacher.evaluate(TEXT)}")
         teacher.driver.refresh()
         teacher.until("the class after the page was loaded again", "document.documentElement?.dataset.ready === 'yes' && document.querySelector('#class-link a')")
         teacher.evaluate("document.getElementById('first').click()")
@@ -50,6 +57,65 @@ def try_class(address, name):
         teacher.click("#class-close")
         one.until("the end of the class", "document.getElementById('class-told').textContent.includes('zu Ende')")
         check(asked(f"{address}class/{room}")[0] == 404, "a class that has ended is there")
+
+
+SEARCHES = """(() => { window.searched ??= (() => { const found = { count: 0 }; const post = Worker.prototype.postMessage;
+  Worker.prototype.postMessage = function (what, ...more) { if (what.depth !== undefined) found.count += 1; return post.call(this, what, ...more); }; return found; })(); return window.searched.count })()"""
+
+
+def try_hidden(address, name):
+    """Values are hidden from pupils: none reaches their browsers, these search nothing, and they get no moves that are yet to come; and are shown again."""
+    with opened(name) as teacher, opened("chromium", "de", size=(390, 844)) as one:
+        teacher.open(f"{address}#moves=f5!d6??c3d3&at=2&depth=4")
+        teacher.tab("class")
+        teacher.until("a class can be opened", "!document.getElementById('class-open').hidden")
+        teacher.click("#class-open")
+        teacher.until("the link", "document.querySelector('#class-link a')")
+        teacher.click("#class-hide")
+        one.open(teacher.evaluate("document.querySelector('#class-link a').href"))
+        one.until("the teacher's move", f"{TEXT} === 'f5d6'")
+        one.evaluate(SEARCHES)
+        teacher.click("#back")
+        one.until("the move before", f"{HERE} === 'f5' && {TEXT} === 'f5'")
+        one.evaluate("document.querySelector('.square.legal').click()")  # also alone
+        one.until("a move alone", f"{TEXT}.length === 4")
+        time.sleep(2)
+        check(one.evaluate(SEARCHES) == 0 and one.evaluate("document.querySelectorAll('.score').length") == 0, f"a pupil's browser searches {one.evaluate(SEARCHES)} times though values are hidden")
+        check(one.says("#state", "state.hidden") and one.says("#moves-panel", "state.hidden"), f"why there are none: {one.text('#state')}")
+        check(teacher.evaluate("document.querySelectorAll('.score').length") > 0, "the teacher sees none either")
+        one.evaluate("document.getElementById('class-again').click()")
+        teacher.click("#class-hide")
+        one.until("values again", "document.querySelectorAll('.score').length > 0 && document.getElementById('moves').textContent.includes('??')")
+        teacher.click("#class-close")
+
+
+def try_tabs(address):
+    """A browser's seventh tab that follows is told of each move: it has six connections for a host."""
+    with opened("chromium") as teacher, opened("chromium") as one:
+        teacher.open(f"{address}#moves=f5d6c3&at=3&depth=2")
+        teacher.tab("class")
+        teacher.until("a class can be opened", "!document.getElementById('class-open').hidden")
+        teacher.click("#class-open")
+        teacher.until("the link", "document.querySelector('#class-link a')")
+        link, tabs = teacher.evaluate("document.querySelector('#class-link a').href"), []
+        for number in range(7):
+            if number:
+                one.driver.switch_to.new_window("tab")
+            one.driver.get(link)
+            one.until(f"tab {number + 1} follows", f"document.documentElement?.dataset.ready === 'yes' && {TEXT} === 'f5d6c3'", 60)
+            tabs.append(one.driver.current_window_handle)
+        teacher.evaluate("document.querySelector('[data-square=d3]').click()")
+        for number, tab in enumerate(tabs, 1):
+            one.driver.switch_to.window(tab)
+            one.until(f"tab {number} is told of a move", f"{TEXT} === 'f5d6c3d3'", 60)
+        one.driver.switch_to.window(tabs[0])
+        one.driver.close()  # it heard for all
+        teacher.evaluate("document.querySelector('[data-square=c4]').click()")
+        for tab in tabs[1:]:
+            one.driver.switch_to.window(tab)
+            one.until("the others hear without it", f"{TEXT} === 'f5d6c3d3c4'", 60)
+        teacher.click("#class-close")
+    print("board: seven tabs of a browser follow")
 
 
 async def heard(address, room, states, key=None):
@@ -91,9 +157,9 @@ async def crowd(address, many):
     await until_all("not all see the last state", lambda: all(states[-1]["state"] == "40" for states in told))
     numbers = [[int(state["state"]) for state in states] for states in told]
     check(all(one == sorted(set(one)) for one in numbers), "states come twice, or out of order")
-    hands = await asyncio.gather(*(post(f"/{room}/hand", {"pupil": f"p{number}", "name": f"Pupil {number}", "state": "#"}) for number in range(120)))
+    hands = await asyncio.gather(*(post(f"/{room}/pupil", {"pupil": f"p{number}", "name": f"Pupil {number}", "state": "#"}) for number in range(120)))
     check(all(status == 200 for status, *_ in hands), "a hand isn't raised")
-    await until_all("the hands", lambda: len(teacher[-1]["hands"]) == 100)
+    await until_all("the hands", lambda: len([one for one in teacher[-1]["pupils"] if one["state"]]) == 120)
     for one in follow[: many // 2]:
         one.cancel()
     await until_all("half of them leave", lambda: teacher[-1]["followers"] == many - many // 2)
@@ -113,12 +179,16 @@ def try_crowd(port):
 def try_host(port):
     """Where other hosts are let in, the link has this host's address, and there is a code for it."""
     with page(port, "--address", "0.0.0.0", "--name", "board.example") as (_, address), opened("chromium") as teacher:
-        teacher.open(address.replace("0.0.0.0", "127.0.0.1"))
+        teacher.open(address)
         teacher.tab("class")
         teacher.until("a class can be opened", "!document.getElementById('class-open').hidden")
         teacher.click("#class-open")
         teacher.until("the link", "document.querySelector('#class-link a')")
         link = teacher.text("#class-link a")
+        offered = teacher.evaluate("[...document.getElementById('class-address').options].map((one) => one.value)")
+        check(len(offered) > 1 and offered[0].startswith("http://board.example:") and not any("0.0.0.0" in one for one in offered), f"not all addresses of this host: {offered}")
+        teacher.fill("#class-address", offered[1])
+        check(teacher.text("#class-link a").startswith(offered[1]), f"another address is {teacher.text('#class-link a')}")
         check(link.startswith("http://board.example:") and teacher.evaluate("document.querySelector('#class-code svg')?.getAttribute('aria-label').includes('board.example')"), f"the link {link}")
 
 
@@ -140,9 +210,11 @@ def try_behind(port, folder):
 
 
 def try_all(service, port, folder, name, only=""):
-    for trial in chosen(only, try_class, try_crowd, try_host, try_behind):
-        if trial is try_class:
+    for trial in chosen(only, try_class, try_hidden, try_tabs, try_crowd, try_host, try_behind):
+        if trial in (try_class, try_hidden):
             trial(service, name)
+        elif trial is try_tabs:
+            trial(service) if name == "chromium" else None
         elif name == "chromium" and (trial is not try_behind or shutil.which("nginx")):
             trial(*(port, folder) if trial is try_behind else (port,))
     print(f"board: {name}: a class follows its teacher, and raises hands")

@@ -22,14 +22,14 @@ PAINTED = """(() => {
   const found = [], texts = document.createTreeWalker(document.body, NodeFilter.SHOW_TEXT);
   for (let node = texts.nextNode(); node; node = texts.nextNode()) {
     const one = node.parentElement;
-    if (!node.data.trim() || !seen(one) || one.closest("#bar, .arrows, .unseen, option")) continue; // the bar's texts stand on its parts, the arrows' on their knobs
+    if (!node.data.trim() || !seen(one) || one.closest("#bar, .marks, .unseen, option, [aria-disabled=true]:not(.square)")) continue; // the bar's texts stand on its parts, the line's on their knobs; what is disabled needs no contrast
     const style = getComputedStyle(one), inGraph = one.namespaceURI.includes("svg"), large = parseFloat(style.fontSize) >= 24 || (parseFloat(style.fontSize) >= 18.66 && Number(style.fontWeight) >= 700);
     found.push({ what: `${one.tagName.toLowerCase()}.${one.className.baseVal ?? one.className} ${node.data.trim().slice(0, 20)}`, ratio: contrast(over(rgb(inGraph ? style.fill : style.color), ground(one)), ground(one)), least: large ? 3 : 4.5 });
   }
   const part = (selector, property, least = 3) => { for (const one of document.querySelectorAll(selector)) if (seen(one)) {
     const style = getComputedStyle(one), colour = rgb(style[property]);
     if (colour[3] > 0) found.push({ what: `${selector} ${property}`, ratio: contrast(over(colour, ground(one.parentElement)), ground(one.parentElement)), least }); } };
-  part(".dot", "borderTopColor"); part("button:not(.square, .move, .mistake, [role=tab])", "borderTopColor"); part("select", "borderTopColor"); part("textarea", "borderTopColor");
+  part(".dot", "borderTopColor"); part("button:not(.square, .move, .mistake, [role=tab], [aria-disabled=true])", "borderTopColor"); part("select", "borderTopColor"); part("textarea", "borderTopColor");
   for (const kind of ["curve", "here", "zero", "border"]) part(`#graph .${kind}`, "stroke");
   for (const kind of ["weak", "grave"]) part(`#graph .${kind}`, "fill");
   for (const one of document.querySelectorAll(".disc")) { // a disc is told from the felt by itself or by its edge

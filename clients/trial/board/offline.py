@@ -27,7 +27,7 @@ def try_file(name, folder):
         for seed, count, depth in ((2, 12, 2), (3, 24, 4), (4, 54, 6)):
             game = random_moves(seed, count)
             position = settled(game[-1][1])
-            shown.open(f"file://{folder}/board.html#moves={''.join(move for move, _ in game)}&depth={depth}")
+            shown.open(f"file://{folder}/board.html#moves={''.join(move for move, _ in game)}&depth={depth}&view=mover")
             shown.check("#game", False)
             shown.known()
             depth = position.empties if position.empties <= 12 else depth

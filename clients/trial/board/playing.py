@@ -12,7 +12,7 @@ WIPED_OUT = "e6f4e3f6g5d6e7f5c5"  # black has all discs, and 51 squares are empt
 FOCUSED = "document.activeElement?.dataset.square"
 CURVE = """(() => { const of = (selector, name) => [...document.querySelectorAll(`#graph ${selector}`)].map((one) => one.getAttribute(name)), numbers = (path) => [...(path ?? "").matchAll(/[ML]([\\d.]+) ([\\d.-]+)/g)].map(([, x, y]) => [Number(x), Number(y)]);
   return { points: numbers(of(".curve:not(.end)", "d")[0]), discs: numbers(of(".curve.end", "d")[0]), border: of(".border", "x1").map(Number), zero: of(".zero", "y1").map(Number), rows: of(".grid", "y1").map(Number),
-    texts: [...document.querySelectorAll("#graph text")].map((one) => one.textContent), marks: [of(".grave", "d").length, of(".weak", "d").length] } })()"""
+    texts: [...document.querySelectorAll("#graph text")].map((one) => one.textContent), marks: [of(".grave", "cx").length, of(".weak", "cx").length] } })()"""
 
 
 def try_moves(shown, address):
@@ -61,18 +61,18 @@ def try_seen(shown, address):
     shown.open(f"{address}#moves={GAME}&at=11&depth=6")
     shown.check("#game", False)
     shown.known()
-    shown.until("the best line", "document.querySelectorAll('.arrows .head').length === 2")
+    shown.until("the best line", "document.querySelectorAll('.marks .knob').length === 2")
     found = shown.evaluate("['.square.best .star', '.disc .last', '.square .next'].map((one) => document.querySelectorAll(one).length)")
     check(found == [1, 1, 1] and shown.says("#value-note", "note.points", n=6) and shown.says("#line", "line.best"), f"{shown.name}: what is marked: {found}, {shown.text('#value-note')}")
     told = shown.evaluate("[...document.querySelectorAll('.square .score')].map((one) => [Number(one.textContent), Number(/tint(\\d)/.exec(one.parentElement.className)[1]), one.parentElement.matches('.best')])")
-    told.sort(reverse=True)
+    told.sort()  # white moves, and values are black's
     tints = [tint for _, tint, _ in told]
     check(told[0][2] and tints == sorted(tints) and tints[0] == 0 < tints[-1], f"{shown.name}: values and tints: {told}")
-    best = told[0][0] * -1  # white moves, and the bar is black's
+    best = told[0][0]
     share = shown.evaluate("Number(getComputedStyle(document.getElementById('bar')).getPropertyValue('--share'))")
     check((share > 0.5) == (best > 0) and shown.says(shown.evaluate("document.getElementById('bar').getAttribute('aria-label')"), "bar.known"), f"{shown.name}: the bar: {share} of {best}")
     shown.tab("options")
-    for option, part in (("values", ".square .score"), ("tints", "[class*=tint]"), ("line", ".arrows .head"), ("bar", "#bar:not([hidden])")):
+    for option, part in (("values", ".square .score"), ("tints", "[class*=tint]"), ("line", ".marks .knob"), ("bar", "#bar:not([hidden])")):
         shown.check(f"#show-{option}", False)
         check(shown.evaluate(f"document.querySelectorAll('.play {part}').length") == 0, f"{shown.name}: {option} are seen though switched off")
         shown.check(f"#show-{option}", True)
@@ -154,6 +154,168 @@ def try_keys(shown, address):
     check(shown.evaluate(HERE) == "c4", f"{shown.name}: Page Down")
 
 
+LABEL = "document.querySelector('[data-square={}]').getAttribute('aria-label')"
+ROWS = "[...document.querySelectorAll('.mistake')].map((one) => one.dataset.sign)"
+GAME_SEEN = """({ moves: [...document.querySelectorAll('.pair .what')].map((one) => one.textContent), mistakes: [...document.querySelectorAll('.mistake')].map((one) => one.dataset.sign),
+  curve: [...document.querySelectorAll('#graph .curve:not(.beside)')].map((one) => one.getAttribute('d')) })"""
+
+
+def try_mistake(shown, address):
+    """A mistake opens the position before it, with what was played and what is better; a key tries the better move, and the game stays."""
+    whole = whole_game(6)
+    shown.open(f"{address}#moves={whole}&depth=4")
+    shown.known()
+    shown.tab("mistakes")
+    row = shown.evaluate(f"{ROWS}.find((row) => row.startsWith('??'))")
+    ply, move = int(re.search(r"(\d+)\. ", row)[1]), re.search(r"[a-h][1-8]", row)[0]
+    best = re.findall(r"[a-h][1-8]", row)[1]
+    shown.evaluate("document.querySelector('.mistake').click()")
+    check(shown.evaluate(TEXT) == whole and shown.evaluate(HERE) == whole[2 * ply - 4:2 * ply - 2], f"{shown.name}: the mistake {move} opens {shown.evaluate(HERE)}")
+    check(shown.says(shown.evaluate(LABEL.format(move)), "square.mistake") and shown.says(shown.evaluate(LABEL.format(best)), "square.best"), f"{shown.name}: the board doesn't show {move} and {best}")
+    check(shown.evaluate("document.querySelectorAll('.square.slip').length") == 1 and move in shown.text("#strip-text") and best in shown.text("#strip-text"), f"{shown.name}: what is said of it: {shown.text('#strip-text')}")
+    shown.evaluate("document.activeElement?.blur()")
+    shown.press("n")
+    other = shown.evaluate(f"{ROWS}[1]")
+    check(re.search(r"[a-h][1-8]", other)[0] in shown.text("#strip-text"), f"{shown.name}: N opens {shown.text('#strip-text')}, not {other}")
+    shown.evaluate("document.querySelector('.mistake').click()")
+    shown.press("t")
+    check(f"({best})" in shown.evaluate(TEXT) and shown.evaluate("document.querySelector('.square .last')?.closest('.square').dataset.square") == best, f"{shown.name}: T tries {shown.evaluate(TEXT)}")
+    shown.press(KEY["Escape"])
+    check(shown.evaluate(HERE) == whole[2 * ply - 4:2 * ply - 2], f"{shown.name}: back in the game")
+    shown.tab("moves")
+
+
+def try_game(shown, address):
+    """In a variation graph, list and mistakes are the game's; it is left at both its ends, by a button and by a key."""
+    whole = whole_game(6)
+    shown.open(f"{address}#moves={whole}&at=40&depth=4")
+    shown.tab("mistakes")
+    shown.known()
+    shown.until("all rows", "document.querySelectorAll('#graph .curve.end').length === 1")
+    before = shown.evaluate(GAME_SEEN)
+    check(len(before["moves"]) == len(whole) // 2 and len(before["mistakes"]) > 3, f"{shown.name}: the game: {before}")
+    other = shown.evaluate("document.querySelector('.square.legal:not(.next)').dataset.square")
+    play(shown, [other])
+    shown.known()
+    shown.until("the variation's curve", "(document.querySelector('#graph .curve.beside')?.getAttribute('d') ?? '').length > 9")
+    there = shown.evaluate(GAME_SEEN)
+    check(there == before, f"{shown.name}: in a variation the game isn't the same: {[(name, there[name], before[name]) for name in before if there[name] != before[name]]}")
+    check(shown.says("#strip-text", "strip.variation", ply=40) and shown.evaluate(f"document.querySelector('#moves .variations [aria-current]').textContent") == other, f"{shown.name}: the variation: {shown.text('#strip-text')}")
+    for way in ("#forward", "#back", "#strip-buttons [data-does=game]"):
+        shown.click(way)
+        check(shown.evaluate(HERE) == whole[78:80] and not shown.evaluate("document.getElementById('strip-buttons').querySelector('[data-does=game]')"), f"{shown.name}: {way} leads to {shown.evaluate(HERE)}")
+        shown.click("#forward")
+        check(shown.evaluate(HERE) == whole[80:82], f"{shown.name}: behind {way} the game goes on at {shown.evaluate(HERE)}")
+        shown.click("#back")
+        shown.evaluate("document.querySelector('#moves .variations button').click()")
+        check(shown.evaluate(HERE) == "", f"{shown.name}: the variation again")
+    shown.press(KEY["Escape"])
+    check(shown.evaluate(HERE) == whole[78:80], f"{shown.name}: Escape leads to {shown.evaluate(HERE)}")
+    shown.tab("moves")
+
+
+def try_saved(shown, address):
+    """What is saved is the game, also where a variation is looked at; what a format can't have is said. Moves, a position and a link are copied."""
+    shown.open(f"{address}#moves=f5d6!{{Good}}(f4c3)c3d3&at=4&depth=2")  # at f4's answer
+    shown.driver.execute_script("document.addEventListener('click', (event) => event.target.download && event.preventDefault(), true)")
+    check(shown.evaluate("document.querySelectorAll('#moves .variations [aria-current]').length") == 1, f"{shown.name}: not in the variation")
+    position = shown.evaluate(CELLS)
+    shown.tab("files")
+    given = "document.getElementById('given').value"
+    for kind, wanted in (("ggf", "B[f5]W[d6]B[c3]W[d3]"), ("sgf", "B[f5](;W[d6]TE[1]C[Good];B[c3];W[d3])(;W[f4];B[c3])"), ("txt", "f5 d6!{Good} (f4 c3) c3 d3")):
+        shown.fill("#save-as", kind)
+        shown.click("#save")
+        check(wanted in shown.evaluate(given), f"{shown.name}: {kind} is {shown.evaluate(given)}")
+        lost = shown.says("#live", "export.lost", kind="GGF", variations=said(shown.language, "export.variations", n=1).replace(".*", "1").replace("\\", ""), notes=said(shown.language, "export.notes", n=1).replace(".*", "1").replace("\\", ""))
+        check(lost == (kind == "ggf"), f"{shown.name}: of {kind} it says {shown.text('#live')}")
+    shown.click("#copy-text")
+    check(shown.evaluate(given) == "f5d6c3d3", f"{shown.name}: moves are copied as {shown.evaluate(given)}")
+    shown.click("#copy-position")
+    check(shown.evaluate(given) == f"{position} O", f"{shown.name}: the position is copied as {shown.evaluate(given)}")
+    shown.click("#copy-link")
+    check(shown.evaluate(given).startswith(f"{address}#moves=f5d6"), f"{shown.name}: the link is {shown.evaluate(given)}")
+    shown.tab("moves")
+
+
+def try_sign(shown, address):
+    """Squares, list, graph and mistakes have one side's sign, that is chosen and kept: Black's, or the mover's."""
+    whole = whole_game(6)
+    shown.open(f"{address}#moves={whole}&at=41&depth=4")
+    shown.known()
+    told, parts = {}, """({ squares: Object.fromEntries([...document.querySelectorAll('.score')].map((one) => [one.closest('.square').dataset.square, one.textContent])),
+      list: [...document.querySelectorAll('.pair .move')].map((one) => one.querySelector('.value').textContent) })"""
+    for view in ("mover", "black"):
+        shown.tab("options")
+        shown.fill("#view", view)
+        shown.tab("mistakes")
+        row = shown.evaluate(f"{ROWS}.find((row) => !row.startsWith('?') && /(41|43|45)?\\. /.test(row))")
+        told[view] = {**shown.evaluate(parts), "row": row, "curves": shown.evaluate("document.querySelectorAll('#graph .curve').length"), "help": shown.text("#mistakes")}
+        check(said(shown.language, f"sign.{view}") and shown.says(told[view]["help"], f"sign.{view}"), f"{shown.name}: whose sign isn't said")
+    turned = {"+": "-", "-": "+"}
+    turn = {"W": "L", "L": "W", "S": "N", "N": "S"} if shown.language != "ja" else {}
+    opposite = {square: turned.get(text[0], turn.get(text[0], text[0])) + text[1:] if text not in ("0", "D", "U") else text for square, text in told["mover"]["squares"].items()}
+    check(told["mover"]["squares"] and told["black"]["squares"] == opposite, f"{shown.name}: with White to move the squares are {told['black']['squares']}, and the mover's {told['mover']['squares']}")
+    same = [one == other for one, other in zip(told["mover"]["list"][::2], told["black"]["list"][::2])]
+    check(all(same[:20]) and any(one != other for one, other in zip(told["mover"]["list"][1::2], told["black"]["list"][1::2])), f"{shown.name}: the list's signs: {told['mover']['list'][:8]} {told['black']['list'][:8]}")
+    check(told["mover"]["curves"] == 2 * told["black"]["curves"], f"{shown.name}: the graph's curves: {told['mover']['curves']} {told['black']['curves']}")
+    shown.tab("options")
+    shown.fill("#view", "mover")
+    shown.open(f"{address}#depth=2")
+    check(shown.evaluate("document.getElementById('view').value") == "mover", f"{shown.name}: the sign isn't kept")
+    shown.fill("#view", "black")
+
+
+def try_states(shown, address):
+    """What is said is so: no pass behind a last move, lists that say why nothing comes, and counts that end."""
+    seeds = [seed for seed in range(1, 60) if len(random_moves(seed, 70)) % 2]
+    seed = next(one for one in seeds if settled(random_moves(one, 70)[-2][1]).side == "X")
+    shown.open(f"{address}#moves={whole_game(seed)}&depth=2")
+    last = shown.evaluate("[...document.querySelectorAll('.pair')].at(-1).textContent")
+    check(not shown.says(last, "pass"), f"{shown.name}: behind the last move stands {last}")
+    shown.known()
+    shown.tab("options")
+    shown.check("#analyse", False)
+    for tab in ("moves", "mistakes"):
+        shown.tab(tab)
+        check(shown.says(f"#{tab}-panel", "state.off"), f"{shown.name}: with its analysis off {tab} says {shown.text(f'#{tab}-panel')[:80]}")
+        check(not shown.says(f"#{tab}-panel", "mistakes.wait"), f"{shown.name}: {tab} counts on")
+    shown.tab("play")
+    shown.click("#play-begin")
+    shown.evaluate("document.querySelector('[data-square=f5]').click()")
+    shown.until("the program's move", "document.querySelectorAll('.disc').length === 6")
+    shown.click("#play-end")
+    shown.open(f"{address}#depth=2")
+
+
+def try_paste(shown, address):
+    """A game is pasted anywhere; what has too many lines is refused at once."""
+    shown.open(f"{address}#depth=2")
+    paste = """((text) => { const data = new DataTransfer(); data.setData('text/plain', text); const begun = performance.now();
+      document.querySelector('main').dispatchEvent(new ClipboardEvent('paste', { clipboardData: data, bubbles: true, cancelable: true })); return performance.now() - begun })"""
+    shown.evaluate(f"{paste}('1.F5 D6 2.C3 D3')")
+    check(shown.evaluate(TEXT) == "f5d6c3d3", f"{shown.name}: pasted: {shown.evaluate(TEXT)}")
+    shown.evaluate(f"{paste}('[Black \"Anna\"]\\n\\nf5 d6 33-31')")
+    check(shown.evaluate(TEXT) == "f5d6" and shown.text("#names") == "Anna, 2".replace("Anna", "Anna – ?"), f"{shown.name}: a PGN: {shown.text('#names')}")
+    taken = shown.evaluate(f"{paste}('f5d6\\n'.repeat(140000))")
+    check(shown.evaluate(TEXT) == "f5d6" and shown.says("#live", "read.many", number=140001) and taken < 2000, f"{shown.name}: 140,000 lines: {shown.text('#live')} in {taken} ms")
+
+
+def try_history(shown, address):
+    """A step through the game is one entry of the browser's list, and the current move is in sight."""
+    shown.open(f"{address}#moves={whole_game(3)}&at=0&depth=2")
+    count = shown.evaluate("history.length")
+    for _ in range(20):
+        shown.click("#forward")
+    for _ in range(10):
+        shown.press(KEY["Right"])
+    check(shown.evaluate("history.length") == count + 1, f"{shown.name}: 30 steps are {shown.evaluate('history.length') - count} entries")
+    shown.tab("files")
+    shown.press(KEY["End"]) if shown.evaluate("document.activeElement === document.body") else shown.click("#last")
+    shown.tab("moves")
+    shown.until("the last move is in sight", """(() => { const one = document.querySelector('#moves [aria-current]').getBoundingClientRect(), list = document.getElementById('moves-panel').getBoundingClientRect();
+      return matchMedia('(max-width: 700px), (orientation: portrait) and (max-width: 1100px)').matches || (one.top >= list.top - 1 && one.bottom <= list.bottom + 1) })()""", 10)
+
+
 def try_notes(shown, address):
     shown.open(f"{address}#moves={GAME}&at=2&depth=2")
     shown.click("#glyphs button:nth-child(4)")
@@ -162,7 +324,7 @@ def try_notes(shown, address):
     address_there = shown.evaluate("location.href")
     shown.open(address_there)
     check("A diagonal one" in shown.text("#moves") and "?!" in shown.text("#moves [aria-current]"), f"{shown.name}: a note in an address")
-    check(shown.text("#opening-name") != "", f"{shown.name}: no name of an opening")
+    check(shown.text("#strip-text") != "", f"{shown.name}: no name of an opening")
 
 
 def try_reading(shown, address, folder):
@@ -293,11 +455,11 @@ def try_stop(shown, address):
 
 def try_all(address, name, only=""):
     """Each in both browsers and at each width."""
-    trials = chosen(only, try_moves, try_tree, try_keys, try_seen, try_ends, try_graph, try_help, try_notes, try_shelf, try_program, try_quiz, try_stop, try_markup, try_reading)
+    trials = chosen(only, try_moves, try_tree, try_keys, try_seen, try_ends, try_graph, try_mistake, try_game, try_saved, try_sign, try_states, try_paste, try_history, try_help, try_notes, try_shelf, try_program, try_quiz, try_stop, try_markup, try_reading)
     for at, (width, height, language, scheme) in enumerate(forms(name)):
         if only and at != 3:
             continue  # (one that is named alone is tried at one width)
         with opened(name, language, scheme, (width, height)) as shown, tempfile.TemporaryDirectory() as folder:
             for trial in trials:
                 trial(shown, address, *([pathlib.Path(folder)] if trial is try_reading else []))
-    print(f"board: {name}: moves, variations, keys, values, endings, graph, notes, addresses, formats, shelf, program, questions, stop, at {1 if only else len(FORMS)} widths")
+    print(f"board: {name}: moves, variations, keys, values, endings, graph, mistakes, what is saved, signs, states, notes, addresses, formats, shelf, program, questions, stop, at {1 if only else len(FORMS)} widths")

@@ -148,8 +148,8 @@ def try_classes(address):
     check(asked(f"{address}class", {"state": "x" * 70000})[0] == 413 and asked(f"{address}class", {"state": 5})[0] == 400, "any state is shown")
     room = json.loads(asked(f"{address}class", {"state": "#"})[1])["room"]
     for hand in ({}, {"pupil": "", "name": "a", "state": "#"}, {"pupil": "a", "name": "b" * 41, "state": "#"}, {"pupil": "a", "name": "b", "state": 5}, [], {"pupil": 1, "name": "a", "state": "#"}):
-        check(asked(f"{address}class/{room}/hand", hand)[0] == 400, f"any hand is raised: {hand}")
-    check(asked(f"{address}class/{room}/hand", {"pupil": "a", "name": "b", "state": "#"})[0] == 200 and asked(f"{address}class/{room}/other")[0] == 404, "no hand is raised")
+        check(asked(f"{address}class/{room}/pupil", hand)[0] == 400, f"any hand is raised: {hand}")
+    check(asked(f"{address}class/{room}/pupil", {"pupil": "a", "name": "b", "state": "#"})[0] == 200 and asked(f"{address}class/{room}/other")[0] == 404, "no hand is raised")
     for _ in range(9):
         check(asked(f"{address}class", {"state": "#"})[0] == 200, "a class isn't opened")
     check(asked(f"{address}class", {"state": "#"})[0] == 429, "one address opens any number of classes")

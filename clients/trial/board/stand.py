@@ -26,7 +26,7 @@ PAGE = pathlib.Path(os.environ.get("COLUWEN_FILES", TOP / "clients/page"))
 # Widths, heights, languages and schemes, in Chromium; in Firefox each width by the other scheme and in the other language (`forms`).
 FORMS = ((320, 640, "de", "dark"), (390, 844, "en", "light"), (768, 1024, "de", "light"), (1280, 900, "en", "dark"), (1920, 1080, "de", "dark"))
 TURNED = {"de": "en", "en": "de", "dark": "light", "light": "dark"}
-TABLE = json.loads((PAGE / "js/table.js").read_text().partition("TABLE = ")[2].rstrip().rstrip(";").replace("},\n}", "}\n}"))
+TEXTS = {path.stem: json.loads(path.read_text().partition(" = ")[2].rstrip().rstrip(";")) for path in (PAGE / "js/languages").glob("*.js")}
 PATIENT = ("--silence", 30)  # of a page: on a busy machine an answer may take more than 1.5 seconds
 SQUARES = "[...document.querySelectorAll('.square')]"
 CELLS = SQUARES + ".map((one) => { const disc = one.querySelector('.disc'); return !disc ? '-' : disc.classList.contains('black') ? 'X' : 'O' }).join('')"
@@ -79,6 +79,8 @@ def page(port, *words, https=False):
     process = subprocess.Popen([*map(str, command)], stdout=subprocess.PIPE, text=True, env=surroundings)
     with stage.ended_after(process), process.stdout:
         address = process.stdout.readline().strip()
+        if "0.0.0.0" in words:  # the address that is printed is one for others
+            address = f"http://127.0.0.1:{address.rpartition(':')[2]}"
         if not address.startswith("http"):
             fail("the page doesn't begin")
         if not https:
@@ -88,7 +90,7 @@ def page(port, *words, https=False):
 
 def said(language, name, **words):
     """A text of the page in a language, as a pattern: what of its words isn't given may be anything."""
-    text = TABLE[name][language]
+    text = TEXTS[language][name]
     if isinstance(text, dict):
         text = text["one" if words.get("n") == 1 else "other"]
     parts = re.split(r"\{(\w+)\}", text)
@@ -171,9 +173,9 @@ def ended(position, depth):
 
 def sentence(language, discs):
     """A result as black sees it, in the page's words."""
-    n, side = abs(discs), TABLE["side.black" if discs > 0 else "side.white"][language]
-    amount = TABLE["unit.discs"][language]["one" if n == 1 else "other"].replace("{n}", str(n))
-    return TABLE["value.wins"][language].replace("{side}", side).replace("{n}", amount) if n else TABLE["value.draw"][language]
+    n, side = abs(discs), TEXTS[language]["side.black" if discs > 0 else "side.white"]
+    amount = TEXTS[language]["unit.discs"]["one" if n == 1 else "other"].replace("{n}", str(n))
+    return TEXTS[language]["value.wins"].replace("{side}", side).replace("{n}", amount) if n else TEXTS[language]["value.draw"]
 
 
 def play(shown, moves):

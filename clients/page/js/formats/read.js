@@ -4,15 +4,19 @@
 // What can't be read is told with its place; what stands before it, and all other games, are there.
 
 import { read as addressRead, startOf } from "../address.js";
-import { START } from "../rules.js";
+import { START, isOver, result as resultOf } from "../rules.js";
+import { tournament } from "../scores.js";
 import { treeOf } from "../tree.js";
 import * as ggf from "./ggf.js";
+import * as pgn from "./pgn.js";
 import { PLACED, boardRead, lineRead } from "./positions.js";
 import * as sgf from "./sgf.js";
+import { narrow, scored } from "./transcript.js";
 import { Unread } from "./unread.js";
 import * as wthor from "./wthor.js";
 
 export const LONGEST = 64 << 20; // bytes of a file
+export const MOST_LINES = 20000; // of a text
 
 const suffixOf = (name) => name.toLowerCase().split(".").pop();
 
@@ -55,12 +59,17 @@ export function textRead(whole, name = "") {
   const text = whole.replace(/^\ufeff/, "").replace(/\r\n?/g, "\n"), found = { games: [], faults: [] };
   const take = (games) => {
     try {
-      for (const game of games) found.games.push(game);
+      for (const game of games) (game instanceof Unread ? found.faults : found.games).push(game);
     } catch (fault) {
       if (!(fault instanceof Unread)) throw fault;
       found.faults.push(fault.at(0, name));
     }
   };
+  const lines = text.split("\n").length;
+  if (lines > MOST_LINES) {
+    found.faults.push(new Unread("many", { number: lines, most: MOST_LINES }).at(0, name));
+    return found;
+  }
   const address = /^\s*\S*[#?]((?:moves|start)=\S+)\s*$/.exec(text);
   const drawn = boardRead(text);
   if (!text.trim()) found.faults.push(new Unread("nothing").at(0, name));
@@ -68,14 +77,25 @@ export function textRead(whole, name = "") {
     const state = addressRead({ hash: address[1] });
     found.games.push({ ...state, start: startOf(state) ?? START, moves: state.moves ?? "" });
   } else if (/^\s*(\d+\s+)?\(;/.test(text)) take(/\bGM\s*\[\s*(othello|reversi)|\bBO\s*\[/i.test(text) ? ggf.read(text) : sgf.read(text));
+  else if (pgn.isPgn(text)) take(pgnRead(text, name));
   else if (drawn) found.games.push({ start: drawn, moves: "" });
   else linesRead(text, found, name);
   return found;
 }
 
+/** The games of transcripts with heads, and their faults. */
+function* pgnRead(text, name) {
+  for (const { text: moves, at, start, ...info } of pgn.read(text)) {
+    const found = { games: [], faults: [] };
+    movesRead(narrow(moves), at, found, name, start);
+    for (const game of found.games) yield { ...info, ...game, result: game.result || info.result };
+    yield* found.faults;
+  }
+}
+
 /** The games of lines: all of them as one game, from a start in the first where it has one; else each line by itself. */
 function linesRead(told, found, name) {
-  const text = told.replace(/^\s*[#%].*$/gm, ""), lines = text.split("\n").map((line, at) => ({ line, number: at + 1 })).filter(({ line }) => line.trim());
+  const text = narrow(told).replace(/^\s*[#%].*$/gm, ""), lines = text.split("\n").map((line, at) => ({ line, number: at + 1 })).filter(({ line }) => line.trim());
   if (!lines.length) return void found.faults.push(new Unread("nothing").at(0, name));
   const whole = { games: [], faults: [] }, single = { games: [], faults: [] }, first = lines[0];
   if (PLACED.test(first.line)) {
@@ -109,10 +129,14 @@ function oneRead({ line, number }, found, name) {
 
 /** A game of moves; what stands before a fault is kept, where it is anything. */
 function movesRead(text, line, found, name, start = START) {
-  const { tree, faults } = treeOf(text, start), moves = tree.text();
-  if (moves || start !== START) found.games.push({ start, moves });
+  const { moves: own, result } = scored(text), { tree, faults } = treeOf(own, start), moves = tree.text(), end = tree.main().at(-1)?.position;
+  if (moves || start !== START) found.games.push(result ? { start, moves, result } : { start, moves });
+  if (result && !faults.length && isOver(end)) {
+    const there = resultOf(end);
+    if (![there.discs, tournament(there)].includes(Number(result))) found.faults.push(new Unread("score", { number: result, there: there.discs }, 0, line).at(line, name));
+  }
   for (const { kind, word, place, number } of faults) {
-    const before = text.slice(0, place).split("\n");
+    const before = own.slice(0, place).split("\n");
     found.faults.push(new Unread(kind, { word: word.slice(0, 20), number }, before.at(-1).length + 1, before.length + line - 1).at(0, name));
   }
 }

@@ -2,8 +2,8 @@
 
 The page has values by an engine in the browser; deeper ones come from a server of `othello serve`, where --server (or COLUWEN_URL) names
 one. For a class, `--address 0.0.0.0` lets other hosts of the network in, and `--certificate FILE` (certificate and key) has their browsers
-speak https. They name this host by its address, by its own name, or by one that --name gives; any other name is refused, so that no foreign
-page reads this one.
+speak https; each address by which they come in is printed. They name this host by its address, by its own name, or by one that --name gives;
+any other name is refused, so that no foreign page reads this one.
 
 Any program may ask values by HTTP, as /openapi.json says: `curl -d '{"position": "..", "depth": 6}' -H 'Content-Type: application/json' ADDRESS/analyse`.
 With --tokens FILE only those may that have a token (`Authorization: Bearer TOKEN`); FILE has the SHA-256 sum of each in a line, as `printf %s TOKEN | sha256sum`
@@ -23,6 +23,7 @@ import re
 import signal
 import socket
 import ssl
+import struct
 from collections.abc import Sequence
 
 from .._core import DEEPEST, Info
@@ -72,12 +73,27 @@ def addresses_of(asked: argparse.Namespace, port: int) -> list[str]:
 
 
 def own_addresses() -> list[str]:
-    """The address by which this host speaks to others; no packet is sent for that."""
+    """The addresses of this host, but those that only it reaches: first the ones by which it speaks to others (no packet is sent for that), then those of
+    its other networks; where it has none its name."""
     found = []
     for family, other in ((socket.AF_INET, "192.0.2.1"), (socket.AF_INET6, "2001:db8::1")):
         with contextlib.suppress(OSError), socket.socket(family, socket.SOCK_DGRAM) as one:
             one.connect((other, 9))
             found.append(str(one.getsockname()[0]))
+    found += [*of_networks(), *of_name(socket.gethostname())]
+    reached = [one for one in dict.fromkeys(found) if not (ipaddress.ip_address(one).is_loopback or ipaddress.ip_address(one).is_link_local)]
+    return reached or [socket.gethostname()]
+
+
+def of_networks() -> list[str]:
+    """The IPv4 address of each network that this host is in, where its system tells (SIOCGIFADDR, Linux)."""
+    found = []
+    with contextlib.suppress(ImportError, OSError), socket.socket(socket.AF_INET, socket.SOCK_DGRAM) as one:
+        import fcntl
+
+        for _, name in socket.if_nameindex():
+            with contextlib.suppress(OSError):
+                found.append(socket.inet_ntoa(fcntl.ioctl(one, 0x8915, struct.pack("256s", name.encode()[:15]))[20:24]))
     return found
 
 
@@ -90,6 +106,13 @@ def tokens_in(path: str | None) -> frozenset[str]:
     if not sums or not all(re.fullmatch("[0-9a-f]{64}", one) for one in sums):
         raise ValueError(f"{path} names no tokens: a SHA-256 sum a line, and a name behind it")
     return frozenset(sums)
+
+
+def of_name(name: str) -> list[str]:
+    """The IPv4 addresses that this host's name has."""
+    with contextlib.suppress(OSError):
+        return [str(where[0]) for *_, where in socket.getaddrinfo(name, None, socket.AF_INET, socket.SOCK_STREAM)]
+    return []
 
 
 async def serve(asked: argparse.Namespace) -> None:
@@ -117,7 +140,7 @@ async def serve_by(asked: argparse.Namespace, service: Service) -> None:
     server = await web.start(asked.address, asked.port, context)
     site.port = server.sockets[0].getsockname()[1]
     service.addresses = addresses_of(asked, site.port)
-    print(f"http{'s' * bool(context)}://{asked.address}:{site.port}/", flush=True)
+    print(*(service.addresses or [f"http{'s' * bool(context)}://{asked.address}:{site.port}/"]), sep="\n", flush=True)
     stop = asyncio.Event()
     for number in (signal.SIGINT, signal.SIGTERM):
         asyncio.get_running_loop().add_signal_handler(number, stop.set)

@@ -1,7 +1,8 @@
-"""Classes: a teacher's board, the browsers that follow it, and the hands that are raised in them."""
+"""Classes: a teacher's board, the pupils who follow it, and the hands that they raise."""
 
 import asyncio
 import collections
+import dataclasses
 import hmac
 import json
 import secrets
@@ -12,9 +13,19 @@ from .web import Fault
 
 MOST, MOST_OF_ADDRESS = 200, 10  # classes at once
 FOLLOWERS = 400  # of one class
-HANDS = 100  # raised at once; of more the oldest are lowered
+PUPILS = 500  # of one class that are remembered; of more those who have gone, and then the oldest, are forgotten
 IDLE = 4 * 3600.0  # seconds after which a class that shows nothing new has ended
 ROOM = "abcdefghijkmnpqrstuvwxyz23456789"  # no letters that are taken for others
+
+
+@dataclasses.dataclass
+class Pupil:
+    """One of a class: a name, how many of his browser's connections follow, whether he looks alone, and the board with which he raises a hand."""
+
+    name: str = ""
+    connections: int = 0
+    alone: bool = False
+    state: str | None = None
 
 
 class Room:
@@ -23,12 +34,26 @@ class Room:
     def __init__(self, address: str, state: str | None):
         self.address, self.state, self.number, self.key = address, state, 1, secrets.token_urlsafe(24)
         self.shown, self.followers = time.monotonic(), 0
-        self.hands: collections.OrderedDict[str, tuple[str, str]] = collections.OrderedDict()  # of each pupil: a name, and what he looks at
+        self.pupils: dict[str, Pupil] = {}
         self.changed = asyncio.Condition()
 
     async def say(self) -> None:
         async with self.changed:
             self.changed.notify_all()
+
+    def pupil(self, number: str) -> Pupil:
+        """One by the number that his browser has; a new one where it has none yet."""
+        if number not in self.pupils:
+            self.pupils[number] = Pupil()
+            if len(self.pupils) > PUPILS:
+                gone = (one for one, pupil in self.pupils.items() if not pupil.connections and one != number)
+                del self.pupils[next(gone, next(iter(self.pupils)))]
+        return self.pupils[number]
+
+    def heads(self) -> dict[str, object]:
+        """What the teacher sees of the class."""
+        pupils = [{"name": one.name, "follows": one.connections > 0, "alone": one.alone, "state": one.state} for one in self.pupils.values()]
+        return {"followers": self.followers, "pupils": pupils}
 
 
 class Rooms:
@@ -81,39 +106,38 @@ class Rooms:
         self.telling.add(task)
         task.add_done_callback(self.telling.discard)
 
-    def raise_hand(self, name: str, pupil: str, called: str, state: str | None) -> None:
-        """A pupil raises a hand, with the state of the board that he looks at; None lowers it."""
+    def tell_of(self, name: str, number: str, called: str, alone: bool, state: str | None) -> None:
+        """How a pupil stands: the name, whether he looks alone, and the board with which he raises a hand; None lowers it."""
         room = self.find(name)
-        room.hands.pop(pupil, None)
-        if state is not None:
-            room.hands[pupil] = called, state
-            while len(room.hands) > HANDS:
-                room.hands.popitem(last=False)
+        pupil = room.pupil(number)
+        pupil.name, pupil.alone, pupil.state = called, alone, state
         self.tell(room)
 
     def pupils(self, name: str, key: object) -> AsyncGenerator[bytes, None]:
-        """For the teacher: how many follow and whose hands are raised, and each time that it changes."""
+        """For the teacher: who follows and whose hands are raised, and each time that it changes."""
         return self.heads(self.taught(name, key))
 
     async def heads(self, room: Room) -> AsyncGenerator[bytes, None]:
         seen: object = None
         while room.state is not None:
-            now = room.followers, tuple(room.hands.values())
+            now = room.heads()
             if now != seen:
                 seen = now
-                yield json.dumps({"followers": now[0], "hands": [{"name": called, "state": state} for called, state in now[1]]}).encode() + b"\n"
+                yield json.dumps(now).encode() + b"\n"
             async with room.changed:
-                await room.changed.wait_for(lambda: room.state is None or (room.followers, tuple(room.hands.values())) != seen)
+                await room.changed.wait_for(lambda: room.state is None or room.heads() != seen)
 
-    def follow(self, name: str) -> AsyncGenerator[bytes, None]:
-        """What is shown, and each time that it changes; the last one where changes come faster than they are taken."""
+    def follow(self, name: str, number: str = "") -> AsyncGenerator[bytes, None]:
+        """What is shown, and each time that it changes; the last one where changes come faster than they are taken. A pupil has a number."""
         room = self.find(name)
         if room.followers >= FOLLOWERS:
             raise Fault(429, "followers", "this class is full")
-        return self.states(room)
+        return self.states(room, number)
 
-    async def states(self, room: Room) -> AsyncGenerator[bytes, None]:
+    async def states(self, room: Room, number: str) -> AsyncGenerator[bytes, None]:
         room.followers += 1
+        pupil = room.pupil(number) if number else Pupil()
+        pupil.connections += 1
         self.tell(room)
         try:
             seen = 0
@@ -126,4 +150,5 @@ class Rooms:
                     return
         finally:
             room.followers -= 1
+            pupil.connections -= 1
             self.tell(room)

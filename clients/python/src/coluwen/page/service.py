@@ -6,7 +6,8 @@
     GET  /openapi.json
     GET  /about.json   {"service": true, "depths": [4, 6, 8], "places": 8, "settled": true, "addresses": ["http://192.168.1.5:8047/"]}
     POST /class        and POST, GET /class/ROOM: a teacher's board and those who follow it; POST /class/ROOM/pupils: who these are;
-                       POST /class/ROOM/hand: one of them raises a hand
+                       POST /class/ROOM/follow: one of them follows, by {"pupil": a number, "name": "Kim", "alone": false, "state": null};
+                       POST /class/ROOM/pupil: how he stands now; a state is the board with which he raises a hand
 
 The page itself reads and writes games, and knows values by an engine in the browser; deeper ones it asks here.
 
@@ -270,15 +271,16 @@ class Service:
             self.allowed(request, "POST")
             return Answer.json(self.rooms.open(request.address, state_of(request.json())))
         room, _, what = room.partition("/")
-        if not re.fullmatch("[a-z0-9]{1,32}", room) or what not in ("", "pupils", "hand"):
+        if not re.fullmatch("[a-z0-9]{1,32}", room) or what not in ("", "pupils", "follow", "pupil"):
             raise Fault(404, "class", "there is no such class")
         if what:
             self.allowed(request, "POST")
             asked = request.json()
             if what == "pupils":
                 return Answer(kind="application/x-ndjson", lines=self.rooms.pupils(room, asked.get("key") if isinstance(asked, dict) else None))
-            self.rooms.raise_hand(room, *hand_of(asked))
-            return Answer.json({})
+            number, *stands = pupil_of(asked)
+            self.rooms.tell_of(room, number, *stands)
+            return Answer(kind="application/x-ndjson", lines=self.rooms.follow(room, number)) if what == "follow" else Answer.json({})
         if request.method == "POST":
             asked = request.json()
             self.rooms.show(room, asked.get("key") if isinstance(asked, dict) else None, state_of(asked, ends=True))
@@ -297,11 +299,11 @@ def state_of(asked: Any, ends: bool = False) -> str | None:
     return state
 
 
-def hand_of(asked: Any) -> tuple[str, str, str | None]:
-    """Whose hand is raised, by what name, and the state of that board; None lowers it."""
-    if not isinstance(asked, dict) or not all(isinstance(asked.get(name), str) for name in ("pupil", "name")):
-        raise Fault(400, "hand", "a hand is a pupil's, who has a name")
-    pupil, name = asked["pupil"], asked["name"]
-    if not 1 <= len(pupil) <= 40 or len(name) > 40:
-        raise Fault(400, "hand", "a pupil and a name have at most 40 letters")
-    return pupil, name, state_of(asked, ends=True)
+def pupil_of(asked: Any) -> tuple[str, str, bool, str | None]:
+    """A pupil: the number of his browser, the name, whether he looks alone, and the board with which he raises a hand."""
+    if not isinstance(asked, dict) or not all(isinstance(asked.get(name), str) for name in ("pupil", "name")) or not isinstance(asked.get("alone", False), bool):
+        raise Fault(400, "pupil", "a pupil has a number and a name")
+    number, name = asked["pupil"], asked["name"]
+    if not 1 <= len(number) <= 40 or len(name) > 40:
+        raise Fault(400, "pupil", "a number and a name have at most 40 letters")
+    return number, name, asked.get("alone", False), state_of(asked, ends=True)
