@@ -28,7 +28,7 @@ module _ {X : Type 0} (frames : Tree) (s : ℕ) where
 
 module _ (grain : ℕ) (origins : Lists) (tenant : Tenant) (shape : IsShaped tenant) (fitting : TenantFits AreFitting IsRoot origins tenant) where
   -- the next act of a frame that runs
-  act-good : (s : ℕ) (f : F) → frame_at tenant.frames s ≡ Some f → mark_of_state f.state ≡ Neither → is_bad_act f.value (has_child tenant.frames f.serial) (act_by_sight (jamboree grain) tenant f) ≡ false
+  pub act-good : (s : ℕ) (f : F) → frame_at tenant.frames s ≡ Some f → mark_of_state f.state ≡ Neither → is_bad_act f.value (has_child tenant.frames f.serial) (act_by_sight (jamboree grain) tenant f) ≡ false
   act-good s f at free =
       let at_own : frame_at tenant.frames f.serial ≡ Some f = ap (frame_at tenant.frames) (found-serial tenant.frames s f at) ∙ at in
       (kept-above (is_bad_act f.value (has_child tenant.frames f.serial) (act_by_sight (jamboree grain) tenant f) ≡ false) AreFitting IsRoot tenant.frames f.serial f f.value shape.tree shape.childless fitting.frames at_own
@@ -52,7 +52,7 @@ module _ (grain : ℕ) (origins : Lists) (tenant : Tenant) (shape : IsShaped ten
       accept-possible f.value answer (subst P (ap values_of leaf) (subst R marked (fits-holds AreFitting tenant.frames fitting.frames s f at)))
 
   -- what the inlet of a returned frame stores
-  inlet-good : (s parent : ℕ) (f : F) → frame_at tenant.frames s ≡ Some f → parent_of f.path ≡ Some parent → mark_of_state f.state ≡ HasReturned → is_outside (inlet_act (words_in tenant.frames parent) f.value).stores (words_in tenant.frames parent) ≡ false
+  pub inlet-good : (s parent : ℕ) (f : F) → frame_at tenant.frames s ≡ Some f → parent_of f.path ≡ Some parent → mark_of_state f.state ≡ HasReturned → is_outside (inlet_act (words_in tenant.frames parent) f.value).stores (words_in tenant.frames parent) ≡ false
   inlet-good s parent f at named marked =
       let g = there-found tenant.frames parent (under-there tenant.frames s parent f shape.tree at named) in
       let u = named-under tenant.frames s parent f shape.tree at named in

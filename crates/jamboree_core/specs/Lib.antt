@@ -7,3 +7,9 @@ pub mod Journals
 pub mod Outcomes
 pub mod Rows
 pub mod NewRuns
+pub mod Weights
+pub mod Paces
+pub mod Charges
+pub mod Needs
+pub mod Turns
+pub mod Sizes

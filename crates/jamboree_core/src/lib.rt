@@ -54,6 +54,7 @@ pub use sched_core;
 mod asking;
 pub mod laws;
 mod outcomes;
+pub mod reserves;
 pub mod rows;
 mod running;
 

@@ -29,11 +29,11 @@ lt-told x y e = grind (arith, ints)
 not-lt-told : (x y : ℤ) → false ≡ int_lt x y → y ≤ℤ x
 not-lt-told x y e = grind (arith, ints)
 
-test-told : (f c : Frame) → true ≡ (c.role == 2) → IsInRole f c → IsTest f c
+pub test-told : (f c : Frame) → true ≡ (c.role == 2) → IsInRole f c → IsTest f c
 test-told f c h3 h4 = grind arith
 
 -- another than a test: the first child or a search again
-other-told : (f c : Frame) → false ≡ (c.role == 2) → IsInRole f c → IsFirst f c ⊎ IsAgain f c
+pub other-told : (f c : Frame) → false ≡ (c.role == 2) → IsInRole f c → IsFirst f c ⊎ IsAgain f c
 other-told f c h3 h4 = grind arith
 
 -- a better score of a search in full is exact
@@ -210,7 +210,7 @@ child-may parent c form fits kin =
     child-passes q c (role-there q c kin.in_role) (omega (arith, kin.inside, status-count parent form)) (omega (arith, kin.inside, places))
 
 -- so it stands where its role says
-placed : (origin own : List ℕ) (above older younger : Lists) → StandsUnder origin above older younger own → is_placed own above ≡ true
+pub placed : (origin own : List ℕ) (above older younger : Lists) → StandsUnder origin above older younger own → is_placed own above ≡ true
 placed origin own [] older younger root = eq-eqb (frame_of own).role 0 root.role_is
 placed origin own (parent ∷ above) older younger fits =
     and_from (is_formed parent) (may_be_child (frame_of parent) (frame_of own)) fits.formed
@@ -218,10 +218,10 @@ placed origin own (parent ∷ above) older younger fits =
 
 -- ---- the next act
 
-isn't-told : (n k : ℕ) → false ≡ (n == k) → n ≢ k
+pub isn't-told : (n k : ℕ) → false ≡ (n == k) → n ≢ k
 isn't-told n k e = λ h. absurd (grind (arith, nat_tests, h))
 
-last-phase : (n : ℕ) → n ≤ 4 → false ≡ (n == 0) → false ≡ (n == 2) → false ≡ (n == 3) → n ≢ 1 → n ≡ 4
+pub last-phase : (n : ℕ) → n ≤ 4 → false ≡ (n == 0) → false ≡ (n == 2) → false ≡ (n == 3) → n ≢ 1 → n ≡ 4
 last-phase n h1 h2 h3 h4 h5 = grind arith
 
 open-settled-zero : (s : ℕ) (st : List ℕ) → 0 < first_open (s ∷ st) → s ≡ 2
@@ -239,7 +239,7 @@ open-inside : (st : List ℕ) → first_open st ≤ length st
 open-inside [] = omega arith
 open-inside (s ∷ st) = let rest : first_open st ≤ length st = open-inside st in grind (arith, nat_tests, rest)
 
-computed-told : (grain depth n : ℕ) → (nat_le depth grain || (n == 0)) ≡ false → (0 < depth) × (0 < n)
+pub computed-told : (grain depth n : ℕ) → (nat_le depth grain || (n == 0)) ≡ false → (0 < depth) × (0 < n)
 computed-told grain depth n e = (grind (arith, nat_tests), grind (arith, nat_tests))
 
 -- an act that can be done and leaves the frame fitting, with the board that those above it say
@@ -276,7 +276,7 @@ module _ (own : List ℕ) (children : Lists) (phase : (frame_of own).phase ≡ 0
       opening-goes grain (parent ∷ above) (own_word b) (opp_word b) (words-apart b) (λ _ (root : new.role ≡ 0). absurd (omega arith))
       (words-hold b (length-after (board q) (choice_at q new.number) (length-cells_of q.own q.opp)))
 
-chosen-act : (formed placed : Bool) (act other : Act) → formed ≡ true → placed ≡ true → act ≡ (if formed && placed then act else other)
+pub chosen-act : (formed placed : Bool) (act other : Act) → formed ≡ true → placed ≡ true → act ≡ (if formed && placed then act else other)
 chosen-act formed placed act other ef ep = rw (ef, ep) refl
 
 -- the next act of a frame that fits, under what fits
@@ -368,7 +368,7 @@ module _ (own child : List ℕ) (before behind : Lists) (fits : AreFitting own (
       let may = child-may own c (formed-told own fits.formed) fits.frame (kin-of own child before behind fits) in
       chosen-inlet _ _ _ (inlet_of f c) (record { stores = []; abort = false; wake = true }) fits.formed returned.formed may
 
-  inlet-stores : IsStoredHere own (changes_of f c) (frame_after f c)
+  pub inlet-stores : IsStoredHere own (changes_of f c) (frame_after f c)
   inlet-stores =
       inlet-good own c (formed-told own fits.formed) (formed-told child returned.formed).frame (kin-of own child before behind fits) returned.frame.marked
 

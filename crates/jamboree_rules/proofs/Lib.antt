@@ -5,5 +5,6 @@ pub mod Kinship
 pub mod Forms
 pub mod Steps
 pub mod Keeping
+pub mod ActCases
 pub mod LeafLemmas
 pub mod Rooted

@@ -75,7 +75,7 @@ answered-form f answer form phase = grind (arith, choice-small, ints)
 
 -- the frame in these words computes, and an answer is to its leaf
 module _ (own : List ℕ) (answer : LeafAnswer) (form : IsFormed own) (phase : (frame_of own).phase ≡ 1) where
-  answer-good : IsStoredHere own (changes_of_answer answer) (answered_frame (frame_of own) answer)
+  pub answer-good : IsStoredHere own (changes_of_answer answer) (answered_frame (frame_of own) answer)
   answer-good =
       let low : negsuc 127999 ≤ℤ answer.score = answer.low in
       good-store own _ _ _ _ form (record {
@@ -110,7 +110,7 @@ chosen-stores : (formed : Bool) (stores : List (ℕ × ℕ)) → formed ≡ true
 chosen-stores formed stores e = rw e refl
 
 -- what words that fit store of an answer
-accepts-is : (own : List ℕ) (answer : LeafAnswer) → is_formed own ≡ true → pairs_of (changes_of_answer answer) ≡ accepts own answer
+pub accepts-is : (own : List ℕ) (answer : LeafAnswer) → is_formed own ≡ true → pairs_of (changes_of_answer answer) ≡ accepts own answer
 accepts-is own answer e = chosen-stores (is_formed own) (pairs_of (changes_of_answer answer)) e
 
 -- what an answer to a frame's leaf leaves

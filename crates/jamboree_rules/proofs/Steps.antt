@@ -232,7 +232,7 @@ pub status-count : (w : List ℕ) → IsFormed w → length (frame_of w).statuse
 status-count w h = omega (arith, length-map (drop 12 w) status_of, length-drop 12 w, h.places)
 
 -- the rest of each choice is one
-rest-there : (w : List ℕ) (i : ℕ) → IsFormed w → is_rest (rest_at (frame_of w) i) ≡ true
+pub rest-there : (w : List ℕ) (i : ℕ) → IsFormed w → is_rest (rest_at (frame_of w) i) ≡ true
 rest-there w i h = rests-are (drop 12 w) i h.entries
 
 -- a frame that goes on searching, or ends
@@ -291,7 +291,7 @@ no-children : (children : Lists) → frames children ≡ [] → [] ≡ children
 no-children [] none = refl
 no-children (child ∷ children) none = absurd (cc)
 
-failed-told : (j n s : ℕ) → true ≡ (nat_lt j n && (s == 3)) → (j < n) × (s ≡ 3)
+pub failed-told : (j n s : ℕ) → true ≡ (nat_lt j n && (s == 3)) → (j < n) × (s ≡ 3)
 failed-told j n s e = (grind (arith, nat_tests), grind (arith, nat_tests))
 
 -- every choice before j is settled

@@ -1,0 +1,8 @@
+use Rattle.jamboree_core.proofs.NeverSpent.{segments-begin, segments-stay}
+use Rattle.jamboree_core.proofs.reserves.segments_reserved_suffice.Goals as goal
+
+pub returns-clause-begins : goal.returns-clause-begins
+returns-clause-begins c size tenant number own opp depth shape idle room = segments-begin size tenant shape idle number own opp depth room
+
+pub returns-clause-step : goal.returns-clause-step
+returns-clause-step c grain size origins tenant step outcome shape searches has too is = segments-stay grain size origins tenant step outcome shape searches has too is

@@ -1,0 +1,89 @@
+-- Meaning: how many segments a search takes at the same time at most, whatever the order of its steps.
+use Rattle.std.specs.Prelude.{◌≡◌, ◌≢◌, ℕ, zero, suc, ◌+◌, ◌*◌, ◌-◌, ◌<◌, ◌≤◌, ◌==◌, Bool, List, Option, Some, None, length, sum_by, if◌then◌else◌}
+use Rattle.sched_rules.specs.cactus_stack.Nodes.{charge}
+use Rattle.othello_board.specs.declared.cells.Cell.{Cell}
+use Rattle.othello_moves.specs.declared.choices.Choice.{Choice}
+use Rattle.othello_board.specs.Rules.{is_nil}
+use Rattle.othello_moves.specs.Choices.{choices, legal_squares, after, plies}
+use Rattle.sched_rules.specs.Trees.{Tenant}
+use Rattle.sched_rules.specs.Laws.{Mark}
+use Rattle.sched_rules.specs.declared.step.StepOf.{StepOf}
+use Rattle.sched_laws.specs.Fitted.{TenantFits}
+use Rattle.jamboree_core.specs.Weights.{IsPaid, IsStillPaid, IsPaidToo}
+use Rattle.jamboree_rules.specs.Frames.{Frame, role_root, board, choice_at}
+use Rattle.jamboree_rules.specs.Places.{frame_of}
+use Rattle.jamboree_rules.specs.Fits.{AreFitting, IsRoot}
+
+-- a bound of the segments that a frame and all frames under it take at the same time, by its depth and its board
+abbrev pub Size : Type 0
+Size = ℕ → List Cell → ℕ
+
+-- the sizes of the frames of these choices of a board at this depth: at any time each choice has at most one
+abbrev pub sizes_over : Size → ℕ → List Cell → List Choice → ℕ
+sizes_over size depth b choices = sum_by (λ choice. size (depth - plies choice) (after b choice)) choices
+
+-- the size of a frame that searches every choice of its board: 12 words and one for each choice, by 16, and the sizes of its choices
+abbrev pub choice_sizes : Size → ℕ → List Cell → ℕ
+choice_sizes size depth b = charge (12 + length (choices b)) + sizes_over size depth b (choices b)
+
+-- a size suffices for the searches of this grain: of a frame above the grain at least what it and its choices take, of any frame one
+pub record IsRoomy (grain : ℕ) (size : Size) : Type 0 where
+  pub choices : (depth : ℕ) (b : List Cell) → grain < depth → choice_sizes size depth b ≤ size depth b
+  pub some : (depth : ℕ) (b : List Cell) → 1 ≤ size depth b
+
+-- the segments that a search of a board to a depth takes at the same time at most. A root searches its choices whatever the grain, at
+-- depth 0 none
+abbrev pub enough_segments : Size → ℕ → List Cell → ℕ
+enough_segments size depth b = if depth == 0 then 1 else choice_sizes size depth b
+
+-- the size of a frame, by its words and its parent's (None for a root)
+abbrev pub frame_size_of : Size → List ℕ → Option (List ℕ) → ℕ
+frame_size_of size own None = enough_segments size (frame_of own).depth (board (frame_of own))
+frame_size_of size own (Some parent) = size (frame_of own).depth (after (board (frame_of parent)) (choice_at (frame_of parent) (frame_of own).number))
+
+-- a frame with places for choices has one for each choice of its board; its depth is above the grain, a root's above 0
+pub record IsCounted (grain : ℕ) (f : Frame) : Type 0 where
+  pub places : f.count ≢ 0 → f.count ≡ length (choices (board f))
+  pub deep : f.count ≢ 0 → 0 < f.depth
+  pub deeper : f.count ≢ 0 → f.role ≢ role_root → grain < f.depth
+
+-- a frame's words fit, and its places are counted
+pub record AreCounted (grain : ℕ) (words : List ℕ) (children : List (List ℕ)) (mark : Mark) : Type 0 where
+  pub fits : AreFitting words children mark
+  pub counted : IsCounted grain (frame_of words)
+
+-- a tenant's jobs are searches whose frames' places are counted
+abbrev pub TenantCounts : ℕ → List (List ℕ) → Tenant → Type 0
+TenantCounts grain origins tenant = TenantFits (AreCounted grain) IsRoot origins tenant
+
+-- the size of a root by its words; 0 for a frame with a parent
+abbrev pub root_weight : Size → List ℕ → Option (List ℕ) → ℕ
+root_weight size own None = frame_size_of size own None
+root_weight size own (Some parent) = 0
+
+-- the sizes of all searches of a tenant that live are within the segments of its reservation
+abbrev pub HasSegments : Size → Tenant → Type 0
+HasSegments size tenant = IsPaid 0 (root_weight size) (λ quota. quota.segments) tenant
+
+-- so it is of a tenant, if it is still there
+abbrev pub StillHasSegments : Size → Option Tenant → Type 0
+StillHasSegments size tenant = IsStillPaid 0 (root_weight size) (λ quota. quota.segments) tenant
+
+-- where a step submits a job, its size is within them too
+abbrev pub HasSegmentsToo : {A : Type 0} → Size → Tenant → StepOf A → Type 0
+HasSegmentsToo size tenant step = IsPaidToo 0 (root_weight size) (λ quota. quota.segments) tenant step
+
+-- The segments of a search where no board has more than c choices, by the plies above the grain: the frame's own words, one more for a
+-- frame that passes, and the searches of all choices at the same time
+abbrev pub plain_segments : ℕ → ℕ → ℕ
+plain_segments c zero = 1
+plain_segments c (suc plies) = 1 + (charge (12 + c) + c * plain_segments c plies)
+
+-- the size of a frame by whether it passes, and by the plies above the grain
+abbrev pub size_with : ℕ → Bool → ℕ → ℕ
+size_with c passes zero = 1
+size_with c passes (suc plies) = if passes then plain_segments c (suc plies) else charge (12 + c) + c * plain_segments c plies
+
+-- a size by the plies above the grain, where no board has more than c choices
+abbrev pub plain_size : ℕ → ℕ → Size
+plain_size c grain depth b = size_with c (is_nil (legal_squares b)) (depth - grain)
