@@ -7,12 +7,12 @@ ghost use Rattle.othello_moves.specs.Depths.{greatest_depth};
 ghost use Rattle.leaf_search.specs.othello_eval.Minimax.{minimax, best_choice};
 ghost use Rattle.leaf_search.specs.Bounds.{IsBound};
 
-use leaf_search::search;
+use leaf_search::search_ordered;
 use othello_board::Board;
 use othello_moves::Choice;
 
 /// The input of a search that one worker does by itself, outside the scheduler's lock: a board, a depth and a
-/// window. Its fields are proved to be in the ranges that [`search`] requires.
+/// window. Its fields are proved to be in the ranges that [`search_ordered`] requires.
 #[derive(Clone, Copy, Debug, PartialEq, Eq)]
 pub struct Leaf {
     /// The board, seen by the player to move.
@@ -47,11 +47,11 @@ impl LeafAnswer {
     ghost use Rattle.std.specs.Prelude.{◌≡◌};
     ghost use Rattle.jamboree_rules.specs.Leaves.{leaf_of_answer, score_of_answer, choice_of_answer};
 
-    /// Searches a leaf, by [`search`]. No other function makes an answer. It takes no memory and no lock.
+    /// Searches a leaf, by [`search_ordered`]. No other function makes an answer. It takes no memory and no lock.
     pub fn compute(leaf: Leaf) -> LeafAnswer
         ensures { leaf_of_answer result ≡ leaf }
     {
-        let found = search(leaf.board, leaf.depth, leaf.alpha, leaf.beta);
+        let found = search_ordered(leaf.board, leaf.depth, leaf.alpha, leaf.beta);
         LeafAnswer {
             leaf,
             score: found.score,

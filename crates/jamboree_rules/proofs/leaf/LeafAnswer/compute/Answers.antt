@@ -13,7 +13,7 @@ moved-choice a a' z z' s s' c d ea ez es h = rw (← ea, ← ez, es) h
 
 pub invariant_of-result : goal.invariant_of-result
 invariant_of-result c =
-    let found = c.search-found in
+    let found = c.search_ordered-found in
     let leaf = c.args.leaf in
     let within : IsWithin 128000 found.result.score = found.ensures.within in
     let same : to_z w32 (of_z w32 found.result.score) ≡ found.result.score = as-wide found.result.score (omega (arith, ints)) (omega (arith, ints)) in
