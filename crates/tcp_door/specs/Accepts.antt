@@ -14,3 +14,13 @@ abbrev pub is_out_of_descriptors : Option ℤ → Bool
 is_out_of_descriptors None = false
 is_out_of_descriptors (Some (pos number)) = nat_eq number 24 || nat_eq number 23
 is_out_of_descriptors (Some (negsuc _)) = false
+
+-- whether its number says that there is no memory for a connection: 12 (Linux's ENOMEM), 105 (ENOBUFS)
+abbrev pub is_out_of_memory : Option ℤ → Bool
+is_out_of_memory None = false
+is_out_of_memory (Some (pos number)) = nat_eq number 12 || nat_eq number 105
+is_out_of_memory (Some (negsuc _)) = false
+
+-- whether its number says that something is short for a while
+abbrev pub is_shortage : Option ℤ → Bool
+is_shortage number = is_out_of_descriptors number || is_out_of_memory number

@@ -1,4 +1,4 @@
-//! Listeners that fail: by want of descriptors, for which there is a spare one, or otherwise, which ends the server.
+//! Listeners that fail: by want of descriptors, for which there is a spare one, or of memory, or otherwise, which ends the server.
 ghost use Rattle.std.specs.Prelude.{◌≡◌};
 
 use super::doors::is_not_yet;
@@ -67,18 +67,19 @@ impl OpenListener for Failing {
 /// doesn't.
 type Try = (i32, u64, bool, Option<i32>);
 
-/// Where the process (24) or the system (23) has no descriptor left, the spare one is used; without a spare, and by any other
-/// error, the listener has failed.
-const TRIES: [Try; 9] = [
+/// Where the process (24) or the system (23) has no descriptor left, the spare one is used; without a spare, and where there is no
+/// memory (12, 105), the door waits and goes on. By any other error the listener has failed.
+const TRIES: [Try; 10] = [
     (24, 0b1, true, None),
     (23, 0b1, true, None),
     (24, 0b111, true, None),
     (23, 0b111, true, None),
-    (24, 0b1, false, Some(24)),
-    (23, 0b1, false, Some(23)),
+    (24, 0b11111, false, None),
+    (23, 0b11111, false, None),
+    (12, 0b11, true, None),
+    (105, 0b11, false, None),
     (22, 0b1, true, Some(22)),
     (9, 0b1, true, Some(9)),
-    (12, 0b1, true, Some(12)),
 ];
 
 /// A connection that was lost (103) before it could be taken is passed over, and so is an interruption (4).
@@ -125,10 +126,9 @@ fn lost_connections_are_passed_over(rt: HostRuntime) {
     }
 }
 
-/// Whether of two who come through a door the first is turned away, as there is no other spare descriptor, and the second is
-/// taken by the spare one that was made anew then: every other try finds no descriptor left, and there is no second name at the second
-/// time.
-fn is_second_taken<R>(rt: &R) -> bool
+/// Whether of two who come through a door whose tries fail so the first is turned away, as there is no other spare descriptor, and the
+/// second is taken.
+fn is_second_taken<R>(rt: &R, tries: u64, names: u64) -> bool
 where
     R: Net<Listener = TcpListener, Stream = TcpStream> + Host + Sync,
 {
@@ -136,15 +136,29 @@ where
     let address = address_of(rt, &listener);
     let first = visitor(rt, address);
     let _second = visitor(rt, address);
-    let mut door = Door::new(failing_by(listener, 24, 0b0101, 0b10));
+    let mut door = Door::new(failing_by(listener, 24, tries, names));
     matches!(next_of(rt, &mut door), Ok(None))
         && is_closed(&first)
         && matches!(next_of(rt, &mut door), Ok(Some(_)))
 }
 
+/// Every other try finds no descriptor left, and there is no second name at the second time: the second is taken by the spare
+/// descriptor that was made anew when the first was closed.
 #[test]
 fn a_spare_descriptor_is_had_again(rt: HostRuntime) {
-    holds(&rt, is_second_taken(&rt));
+    holds(&rt, is_second_taken(&rt, 0b0101, 0b10));
+}
+
+/// The try with the spare descriptor fails too, as another thread was quicker: the first is taken by one that was made anew then.
+#[test]
+fn a_spare_descriptor_is_had_after_a_failure(rt: HostRuntime) {
+    holds(&rt, is_second_taken(&rt, 0b111, 0b100));
+}
+
+/// There is no spare descriptor at first: the first is taken by one that was made while the door waited.
+#[test]
+fn a_spare_descriptor_is_had_in_need(rt: HostRuntime) {
+    holds(&rt, is_second_taken(&rt, 0b11, 0b101));
 }
 
 /// Whether a server whose listener doesn't wait for connections fails, and its desk is closed then.
