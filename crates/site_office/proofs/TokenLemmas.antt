@@ -1,5 +1,5 @@
 -- A token is shorter than its line.
-use Rattle.site_office.proofs.Common.{◌≡◌, ℕ, suc, ◌<◌, ◌≤◌, List, [], ◌∷◌, length, eqb, cond, Bool, true, false, sym, subst, arith, Option, Some, None, codes, option_map, bytes_eq, split_at_space, last_word, word_after, word_after_two, token_after, token_by, token_of}
+use Rattle.site_office.proofs.Common.{◌≡◌, ℕ, suc, ◌<◌, ◌≤◌, List, [], ◌∷◌, length, eqb, cond, Bool, true, false, sym, subst, arith, Option, Some, None, codes, option_map, bytes_eq, split_at_space, is_token, last_word, word_after, word_after_two, token_after, token_by, token_of}
 
 -- what follows the first space is shorter than this
 rest_short : Option (List ℕ × List ℕ) → ℕ → Type 0
@@ -31,8 +31,12 @@ unfolding rest_short
 split-short [] = tt
 split-short (b ∷ bs) = rest-step (eqb b 32) b bs (split_at_space bs) (split-short bs)
 
+by-step : (t : Bool) (w : Option (List ℕ)) (n : ℕ) → word_short w n → word_short (cond t w None) n
+by-step true w n h = h
+by-step false w n h = tt
+
 last-short : (w : List ℕ) (o : Option (List ℕ × List ℕ)) (n : ℕ) → length w < n → word_short (last_word w o) n
-last-short w None n h = h
+last-short w None n h = by-step (is_token w) (Some w) n h
 last-short w (Some p) n h = tt
 
 after-short : (o : Option (List ℕ × List ℕ)) (n : ℕ) → rest_short o n → word_short (word_after o) n
@@ -45,10 +49,6 @@ unfolding rest_short
 two-short None n h = tt
 two-short (Some p) n h =
     after-short (split_at_space p.1) n (rest-weaker (split_at_space p.1) (length p.1) n (omega (arith, h)) (split-short p.1))
-
-by-step : (t : Bool) (w : Option (List ℕ)) (n : ℕ) → word_short w n → word_short (cond t w None) n
-by-step true w n h = h
-by-step false w n h = tt
 
 by-short : (o : Option (List ℕ × List ℕ)) (n : ℕ) → rest_short o n → word_short (token_by o) n
 unfolding rest_short

@@ -1,11 +1,20 @@
 -- Meaning: the token that a line HELLO may bear as the third word after HELLO, which says whose session it is.
-use Rattle.std.specs.Prelude.{ℕ, ◌-◌, List, length, take, Option, Some, None, if◌then◌else◌, codes}
+use Rattle.std.specs.Prelude.{ℕ, ◌-◌, ◌==◌, ◌&&◌, Bool, not, nat_le, nat_lt, List, length, take, Option, Some, None, if◌then◌else◌, codes}
+use Rattle.std.specs.List.{list_all}
 use Rattle.std.specs.Str.{bytes_eq}
 use Rattle.protocol.specs.Words.{split_at_space}
 
--- this word, where no further word follows it (None)
+-- whether a byte may stand in a token: printable ASCII but the space, or beyond ASCII
+abbrev pub is_token_byte : ℕ → Bool
+is_token_byte byte = nat_lt 32 byte && not (byte == 127)
+
+-- whether a word is a token: one byte or more, each of which may stand in one
+abbrev pub is_token : List ℕ → Bool
+is_token word = nat_le 1 (length word) && list_all is_token_byte word
+
+-- this word, where it is a token and no further word follows it (None)
 abbrev pub last_word : List ℕ → Option (List ℕ × List ℕ) → Option (List ℕ)
-last_word word None = Some word
+last_word word None = if is_token word then Some word else None
 last_word word (Some _) = None
 
 -- the word after the first of these, where it is the last

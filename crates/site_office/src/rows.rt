@@ -11,6 +11,11 @@ ghost use Rattle.site_office.specs.Turns.{info_text};
 pub fn lines_before_hello()
     ensures hello { site_request false (Whole (codes "HELLO 4 8")) ≡ Greets None (record { segments = 4; nodes = 8 }) }
     ensures token { site_request false (Whole (codes "HELLO 4 8 abc")) ≡ Greets (Some (codes "abc")) (record { segments = 4; nodes = 8 }) }
+    ensures empty_token { site_request false (Whole (codes "HELLO 4 8 ")) ≡ Plain (Fault NoCommand) }
+    ensures control { site_request false (Whole (codes "HELLO 4 8 ab" ++ 1 ∷ [])) ≡ Plain (Fault NoCommand) }
+    ensures tab { site_request false (Whole (codes "HELLO 4 8 " ++ 9 ∷ codes "ab")) ≡ Plain (Fault NoCommand) }
+    ensures delete { site_request false (Whole (codes "HELLO 4 8 " ++ 127 ∷ [])) ≡ Plain (Fault NoCommand) }
+    ensures high { site_request false (Whole (codes "HELLO 4 8 " ++ 128 ∷ 255 ∷ [])) ≡ Greets (Some (128 ∷ 255 ∷ [])) (record { segments = 4; nodes = 8 }) }
     ensures two_tokens { site_request false (Whole (codes "HELLO 4 8 a b")) ≡ Plain (Fault NoCommand) }
     ensures no_number { site_request false (Whole (codes "HELLO 4 x abc")) ≡ Plain (Fault NoNumber) }
     ensures none_reserved { site_request false (Whole (codes "HELLO 0 8 abc")) ≡ Plain (Fault NoNumber) }
