@@ -113,11 +113,12 @@ class From(stage.From):  # type: ignore[misc]
 class Site:
     """`othello_site` with deploy/site.toml at free ports. Sessions come to `port`: by HAProxy with TLS where `made` has its certificates, else as they are;
     `inner` is where a proxy hands connections on, and `clear` HAProxy's entrance without TLS. `terms` are changes of the file, `more` stands behind it. The variable `name` names the program.
-    With `apart` site and HAProxy have all of this host's processors but the last, where others can be as if at a host of their own."""
+    The words `before` start it. With `apart` site and HAProxy have all of this host's processors but the last, where others can be as if at a host of their own."""
 
-    def __init__(self, made: dict[str, str] | None = None, terms: list[tuple[str, str]] | None = None, more: str = "", bare: bool = False, name: str = "SITE", apart: bool = False):
+    def __init__(self, made: dict[str, str] | None = None, terms: list[tuple[str, str]] | None = None, more: str = "", bare: bool = False, name: str = "SITE", apart: bool = False, before: tuple[str, ...] = ()):
         self.made, self.bare, self.name = made, bare, name
         self.on = ["taskset", "--cpu-list", ",".join(map(str, sorted(os.sched_getaffinity(0))[:-1]))] if apart and len(os.sched_getaffinity(0)) > 1 else []
+        self.on += before
         self.folder = tempfile.TemporaryDirectory()
         root = pathlib.Path(self.folder.name)
         self.file, self.log, self.control = root / "site.toml", root / "log", f"{root}/control"
@@ -232,6 +233,12 @@ class Site:
         """What each customer with a session has: sessions, segments and nodes."""
         rows = [re.match(r'customer="([^"]*)" hall=\d+ sessions=(\d+) segments=(\d+) nodes=(\d+) ', line) for line in self.ask("STATS")]
         return {row[1]: tuple(map(int, row.groups()[1:])) for row in rows if row}
+
+    def count(self, name: str) -> int:
+        """What a line of the metrics says, named with its labels."""
+        found = re.search(rf"^othello_site_{re.escape(name)} (\d+)$", self.get("/metrics")[1], re.M)
+        assert found, name
+        return int(found[1])
 
     def resident(self) -> float:
         """The memory that the program holds, in MB."""

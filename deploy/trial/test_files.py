@@ -98,7 +98,7 @@ def image(tmp_path_factory: pytest.TempPathFactory) -> pathlib.Path:
 
 def test_an_image_serves(image: pathlib.Path) -> None:
     run = json.loads((image / "config.json").read_text())["process"]
-    assert run["args"] == ["/usr/bin/othello-site", "/etc/othello/site.toml"] and run["user"]["uid"] == run["user"]["gid"] == 4711
+    assert run["args"] == ["/usr/bin/init", "/etc/othello/site.toml"] and run["user"]["uid"] == run["user"]["gid"] == 4711
     assert not [path for path in image.rglob("*") if path.is_file() and path.stat().st_mode & 0o6000]
     if os.geteuid() != 0:
         pytest.skip("only root may take another root")
@@ -140,7 +140,8 @@ def test_compose_and_kubernetes_run_the_same_site() -> None:
     assert service["spec"]["ports"][0]["targetPort"] in ports and ports["sessions"] == 4700 and proxy["readinessProbe"]["httpGet"]["port"] in ports
     labels = deployment["spec"]["template"]["metadata"]["labels"]
     assert service["spec"]["selector"] == deployment["spec"]["selector"]["matchLabels"] == labels
-    assert site["lifecycle"]["preStop"]["sleep"]["seconds"] < pod["terminationGracePeriodSeconds"]
+    assert 600 < proxy["lifecycle"]["preStop"]["sleep"]["seconds"] < pod["terminationGracePeriodSeconds"]
+    assert compose["site"]["ulimits"]["nofile"] == 20000 and compose["site"]["stop_grace_period"] == "630s"
 
 
 def test_haproxy_takes_the_files(tmp_path: pathlib.Path, made: dict[str, str]) -> None:

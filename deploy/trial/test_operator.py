@@ -3,15 +3,18 @@ from __future__ import annotations
 
 import collections
 import contextlib
+import hashlib
 import os
+import pathlib
 import re
 import socket
 import stat
 import subprocess
+import threading
 import time
 
 import pytest
-from place import LEFT, LONG, LONGEST, SCHOOL, SLOW, SMALL, TOKEN, Answer, From, Site, address_of, free_port, is_there, program, until
+from place import LEFT, LONG, LONGEST, SCHOOL, SLOW, SMALL, TOKEN, TOP, Answer, From, Site, address_of, free_port, is_there, program, until
 
 
 def test_stats_and_ends(wanted: list[Answer]) -> None:
@@ -201,3 +204,117 @@ def test_a_log_line_can_not_be_forged() -> None:
         text = site.log.read_bytes()
         assert b"\x1b" not in text and b"\r" not in text
         assert b'event=command line="END ?[31m?event=session ????? ?x"\n' in text, text
+
+
+def with_customer(text: str, name: str) -> str:
+    """A site's file with one customer more, whose token is its name."""
+    digest = hashlib.sha256(name.encode()).hexdigest()
+    return text + f'\n[[customer]]\nname = "{name}"\ntoken_sha256 = ["{digest}"]\nsessions = 1\nsegments = 64\nnodes = 2048\n'
+
+
+def test_two_reloads_at_once_keep_customers_apart() -> None:
+    """Two files, each with a customer more, are read at the same time: the first while it waits for who has to end for it."""
+    less = ("sessions = 56\nsegments = 57344\nnodes = 3670016", "sessions = 54\nsegments = 57216\nnodes = 3665920")
+    with Site(terms=LEFT, more=SCHOOL) as site:
+        for turn in range(3):
+            text = site.file.read_text().replace(*less)
+            names = [f"{letter}{turn}" for letter in "ab"]
+            first, second = (with_customer(text, name) for name in names)
+            guests = [site.opened("127.6.0.1", *SMALL) for _ in range(8)]  # (the school has eight, and one in the first file)
+            site.file.write_text(first.replace("sessions = 8\nsegments = 8192", "sessions = 1\nsegments = 8192"))
+            told = list[list[str]]()
+            thread = threading.Thread(target=lambda: told.append(site.ask("RELOAD END")))
+            thread.start()
+            time.sleep(0.03)
+            site.file.write_text(second)
+            told.append(site.ask("RELOAD"))
+            session, number = site.told(address_of(5), *SMALL, token=names[1])
+            thread.join()
+            assert told == [["OK"], ["OK"]], told
+            site.file.write_text(with_customer(second, names[0]))
+            assert site.ask("RELOAD") == ["OK"]
+            session = session or site.opened(address_of(5), *SMALL, token=names[1])
+            with session, site.opened(address_of(6), *SMALL, token=names[0]):
+                assert {name: site.has()[name][0] for name in names} == {names[0]: 1, names[1]: 1}, number
+                assert site.ask(f"END CUSTOMER {names[0]}") == ["OK 1"]
+                session.quota()
+            for guest in guests:
+                guest.socket.close()
+            site.file.write_text(text)
+            until(lambda: site.ask("RELOAD") == ["OK"], 5, "all have left")
+
+
+class Colour(threading.Thread):
+    """A socket that stands for a colour's: it notes the lines, and says OK to each."""
+
+    def __init__(self, folder: pathlib.Path, colour: str):
+        super().__init__(daemon=True)
+        self.lines = list[str]()
+        place = folder / f"othello-site-{colour}"
+        place.mkdir()
+        self.listener = socket.socket(socket.AF_UNIX)
+        self.listener.bind(str(place / "control"))
+        self.listener.listen()
+        self.start()
+
+    def run(self) -> None:
+        with contextlib.suppress(OSError):
+            while True:
+                with self.listener.accept()[0] as asked:
+                    self.lines.append(asked.recv(100).decode().strip())
+                    asked.sendall(b"OK\n")
+
+    def heard(self) -> list[str]:
+        found, self.lines = self.lines, []
+        return found
+
+
+def test_the_operator_speaks_to_those_that_run_and_writes_their_files_first(tmp_path: pathlib.Path) -> None:
+    for name in ("operator", "colour"):
+        text = (TOP / "deploy" / name).read_text().replace("/run/", f"{tmp_path}/").replace("/etc/othello", str(tmp_path))
+        (tmp_path / name).write_text(text)
+        (tmp_path / name).chmod(0o755)
+
+    def said(*words: str) -> tuple[int, str]:
+        run = subprocess.run([tmp_path / "operator", *words], capture_output=True, text=True, timeout=30)
+        return run.returncode, run.stdout
+
+    file, delivered = tmp_path / "site.toml", (TOP / "deploy/site.toml").read_text()
+    file.write_text(delivered)
+    assert said("STATS")[0] == 1, "nobody runs"
+    blue = Colour(tmp_path, "blue")
+    assert said("STATS") == (0, "OK\n") and blue.heard() == ["STATS"]
+    file.write_text(delivered.replace("rate = 10\n", "rate = 11\n"))
+    assert said("RELOAD") == (0, "OK\n") and blue.heard() == ["RELOAD"]
+    assert "rate = 11\n" in (tmp_path / "othello-site-blue/site.toml").read_text(), "the file that is read is that of /etc"
+    file.write_text(delivered.replace("# plain =", "plain ="))
+    status, told = said("RELOAD", "END")
+    assert status == 1 and told.startswith("ERR ") and blue.heard() == [], told
+    file.write_text(delivered)
+    green = Colour(tmp_path, "green")
+    assert said("END", "CUSTOMER", "school") == (0, "blue:\nOK\ngreen:\nOK\n")
+    assert blue.heard() == green.heard() == ["END CUSTOMER school"]
+    assert said("DRAIN", "600")[0] == 2 and "DRAIN 600" not in blue.heard() + green.heard()
+    assert said("green", "DRAIN", "600") == (0, "OK\n") and (blue.heard(), green.heard()) == ([], ["DRAIN 600"])
+
+
+def test_an_address_ends_with_all_its_sessions() -> None:
+    """A named customer's too, and those of its guest that come by another token's name."""
+    with Site(terms=LEFT, more=SCHOOL) as site, contextlib.ExitStack() as open_ones:
+        sessions = [site.opened(address_of(3), *SMALL), site.opened(address_of(3), *SMALL, token=TOKEN), site.opened(address_of(4), *SMALL, token=TOKEN)]
+        for session in sessions:
+            open_ones.callback(session.socket.close)
+        shown = sum(f" address={address_of(3)} " in line for line in site.ask("STATS"))
+        assert shown == 2 and site.ask(f"END ADDRESS {address_of(3)}") == [f"OK {shown}"]
+        until(lambda: sum(has[0] for has in site.has().values()) == 1, 5, "they have ended")
+        assert sessions[2].quota()[0] == SMALL[0] and site.ask("END ADDRESS nobody")[0].startswith("ERR ")
+
+
+def test_a_drain_closes_who_says_hello() -> None:
+    """It isn't told that its own budget is used up."""
+    with Site() as site, site.opened(address_of(1), *SMALL), socket.create_connection(("127.0.0.1", site.plain), 5) as early:
+        early.sendall(b"QUOTA\n")
+        assert early.recv(100) == b"ERR 28\n"
+        assert site.ask("DRAIN 4") == ["OK"]
+        early.sendall(b"HELLO 1 1\n")
+        assert early.recv(100) == b""

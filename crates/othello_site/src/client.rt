@@ -1,12 +1,12 @@
 //! One connection, from its first byte to its last.
 ghost use Rattle.std.specs.Prelude.{◌≤◌, length};
 
-use crate::counts::{FULL, HEADER, NAMES, SILENCE};
+use crate::counts::{FULL, HEADER, SILENCE};
 use crate::links::{Incoming, MOST_BYTES, Outgoing, Reading, Received, TalkState};
 use crate::shared::Shared;
 use crate::site_house::SiteHouse;
 use crate::telling::{address_text, log_refusal};
-use line_io::{LineFault, Sink, TalkEnd};
+use line_io::{LineFault, TalkEnd};
 use site_book::{Told, Who};
 use site_file::Address;
 use site_office::{SiteOffice, serve_connection};
@@ -15,9 +15,6 @@ use std::alloc::{AllocError, Global};
 use std::net::TcpStream;
 use std::sync::{Arc, Wait};
 use std::time::{Clock, Duration};
-
-/// What is said to who has too many connections.
-const NO_ROOM: &[u8] = b"ERR 14\n";
 
 /// A connection whose customer is known.
 #[derive(Clone, Copy)]
@@ -80,7 +77,7 @@ fn greet<R: Clock + Wait>(
         match identified(rt, shared, port, source.ahead.bytes(), peer) {
             FirstBytes::Is(known) => return Some(known),
             FirstBytes::Foreign => {
-                refuse(rt, alloc, shared, peer, HEADER);
+                refuse(rt, alloc, shared, peer, None, HEADER);
                 return None;
             }
             FirstBytes::Unfinished => {}
@@ -99,29 +96,33 @@ fn greet<R: Clock + Wait>(
 }
 
 /// Counts a connection that is refused, and says it.
-fn refuse<R: Clock + Wait>(rt: &R, alloc: Global, shared: &Shared, address: Address, place: usize) {
+fn refuse<R: Clock + Wait>(
+    rt: &R,
+    alloc: Global,
+    shared: &Shared,
+    address: Address,
+    who: Option<Who>,
+    place: usize,
+) {
     {
         let mut register = shared.register(rt);
         register.counts.refuse(place);
+        if let Some(who) = who {
+            register.refused.note(who);
+        }
     }
-    log_refusal(
-        rt,
-        alloc,
-        shared,
-        address,
-        NAMES.get(place).copied().unwrap_or(""),
-    );
+    log_refusal(rt, alloc, shared, address, who, place);
 }
 
 /// How long connections may be silent, and take for a byte.
-fn times_of<R: Wait>(rt: &R, shared: &Shared) -> (Times, Duration) {
+fn times_of<R: Wait>(rt: &R, shared: &Shared) -> (Times, u64) {
     let register = shared.register(rt);
     let limits = register.config.limits;
     let times = Times {
         welcome: millis(limits.welcome),
         idle: millis(limits.idle),
     };
-    (times, Duration::from_millis(millis(limits.write.max(1))))
+    (times, millis(limits.write.max(1)))
 }
 
 /// Both names of a connection.
@@ -147,7 +148,7 @@ pub(crate) fn serve_client<R: Clock + Wait>(
     };
     let (times, write) = times_of(rt, shared);
     let _ = stream.set_nodelay(true);
-    let _ = stream.set_write_timeout(Some(write));
+    let _ = stream.set_write_timeout(Some(Duration::from_millis(write)));
     let Ok((incoming, outgoing)) = names_of(alloc, stream) else {
         return None;
     };
@@ -173,7 +174,12 @@ pub(crate) fn serve_client<R: Clock + Wait>(
         Address::of_ip(peer.ip()),
     )?;
     source.given = known.used;
-    let mut sink = Outgoing { stream: outgoing };
+    let mut sink = Outgoing {
+        rt,
+        shared,
+        stream: outgoing,
+        limit: write,
+    };
     receive(rt, alloc, shared, &talk, &mut source, &mut sink, own, known);
     Some(())
 }
@@ -185,13 +191,13 @@ fn receive<R: Clock + Wait>(
     shared: &Shared,
     talk: &TalkState,
     source: &mut Incoming<'_, R>,
-    sink: &mut Outgoing,
+    sink: &mut Outgoing<'_, R>,
     stream: Arc<TcpStream, Global>,
     known: KnownClient,
 ) {
     let (arrival, hall) = {
         let mut register = shared.register(rt);
-        (register.arrive(known.who), register.hall_of(known.who))
+        (register.arrive(known.who), register.first_hall(known.who))
     };
     let account = match arrival {
         Arrival::Counted => Some(known.who),
@@ -200,8 +206,7 @@ fn receive<R: Clock + Wait>(
             None
         }
         Arrival::Closed => {
-            refuse(rt, alloc, shared, known.address, FULL);
-            let _ = sink.put(NO_ROOM);
+            refuse(rt, alloc, shared, known.address, Some(known.who), FULL);
             return;
         }
     };
@@ -243,7 +248,7 @@ fn receive<R: Clock + Wait>(
         word_of(end, talk.reading.get(), house.told),
     );
     if talk.reading.get() == Reading::Late && !talk.pace.get().welcomed {
-        refuse(rt, alloc, shared, known.address, SILENCE);
+        refuse(rt, alloc, shared, known.address, Some(known.who), SILENCE);
     }
 }
 

@@ -1,4 +1,4 @@
-//! How many connections count as each customer's.
+//! How many connections count as each customer's, and in which hall a guest's sessions are meanwhile.
 use site_book::Who;
 use std::alloc::Global;
 
@@ -7,6 +7,8 @@ use std::alloc::Global;
 struct CustomerConnections {
     who: Who,
     connections: u32,
+    /// The hall of its last HELLO.
+    home: Option<usize>,
 }
 
 /// Those of each customer that has any.
@@ -44,12 +46,27 @@ impl ConnectionCounts {
         }
     }
 
+    /// The hall to which a customer came last, of those that it has connections for.
+    pub(crate) fn home(&self, who: Who) -> Option<usize> {
+        self.all.get(self.place_of(who)?)?.home
+    }
+
+    /// A customer comes to this hall.
+    pub(crate) fn settle(&mut self, who: Who, hall: usize) {
+        if let Some(place) = self.place_of(who) {
+            if let Some(own) = self.all.get_mut(place) {
+                own.home = Some(hall);
+            }
+        }
+    }
+
     /// A customer has one connection more; false where there is no memory to note it.
     pub(crate) fn arrive(&mut self, who: Who) -> bool {
         let Some(place) = self.place_of(who) else {
             let own = CustomerConnections {
                 who,
                 connections: 1,
+                home: None,
             };
             return self.all.push(own).is_ok();
         };

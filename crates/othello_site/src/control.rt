@@ -1,10 +1,10 @@
 //! The operator's socket: STATS, END, DRAIN and RELOAD.
-use crate::links::{MOST_BYTES, Received, first_line};
+use crate::links::{MOST_BYTES, Received, first_line, is_interrupted};
 use crate::paths::Paths;
 use crate::reloading::{Unread, reload};
 use crate::shared::Shared;
 use crate::telling::stats_of;
-use crate::visits::{PAUSE_MILLIS, Shut, Visits};
+use crate::visits::{PAUSE_MILLIS, Shut};
 use crate::watching::{shut_told, tell};
 use site_book::{Group, Told, Who, Whom};
 use site_file::Address;
@@ -14,7 +14,7 @@ use std::io::{Read, Write};
 use std::net::{Ipv4Addr, Ipv6Addr};
 use std::os::unix::net::{UnixListener, UnixStream};
 use std::sync::{Arc, Wait};
-use std::thread::{self, Scope};
+use std::thread;
 use std::time::{Clock, Duration};
 
 /// Seconds in which a command is whole, and in which its answer is taken.
@@ -49,6 +49,9 @@ fn reloaded<R: Paths + AllocGlobal + Clock + Wait>(
         Err(Unread::Beyond(over)) => {
             format!(in alloc; "ERR {path}: what is out is beyond it\n{over}")
         }
+        Err(Unread::Totals) => {
+            format!(in alloc; "ERR {path}: what a hall has can't change while the site runs\n")
+        }
         Err(Unread::Memory) => String::from_str(alloc, "ERR no memory\n"),
     }
 }
@@ -77,22 +80,15 @@ fn address_in(text: &[u8]) -> Option<Address> {
     }
 }
 
-/// Whose sessions are meant; `None` where nobody of the file is.
-fn part_of<R: Wait>(rt: &R, shared: &Shared, whose: Whose<'_>) -> Option<Group> {
-    match whose {
-        Whose::Customer(name) => {
-            let register = shared.register(rt);
-            for (number, terms) in register.config.directory.customers.iter().enumerate() {
-                if terms.name.as_bytes() == name {
-                    let number = u32::try_from(number).unwrap_or(u32::MAX);
-                    return Some(Group::Own(Who::Named(number)));
-                }
-            }
-            None
+/// The customer of this name.
+fn customer_of<R: Wait>(rt: &R, shared: &Shared, name: &[u8]) -> Option<Who> {
+    let register = shared.register(rt);
+    for (number, terms) in register.config.directory.customers.iter().enumerate() {
+        if terms.name.as_bytes() == name {
+            return Some(Who::Named(u32::try_from(number).unwrap_or(u32::MAX)));
         }
-        Whose::Address(text) => Some(Group::Own(address_in(text)?.guest())),
-        Whose::Session(_, _) => None,
     }
+    None
 }
 
 /// Tells a part's sessions of all halls to end, and returns how many these are.
@@ -103,6 +99,21 @@ fn tell_all<R: Wait>(rt: &R, shared: &Shared, part: Group) -> u64 {
         many = many.saturating_add(told);
     }
     many
+}
+
+/// Tells the sessions of an address to end, whosesoever they are, and those of the guest that comes from there. Returns how many these are.
+fn tell_address<R: AllocGlobal + Wait>(
+    rt: &R,
+    shared: &Shared,
+    address: Address,
+) -> Result<u64, AllocError> {
+    let there = shared.register(rt).sessions_from(rt.alloc(), address)?;
+    let mut many = tell_all(rt, shared, Group::Own(address.guest()));
+    for (hall, session) in there {
+        let told = tell(rt, shared, hall, Whom::One(session), Told::ByOperator);
+        many = many.saturating_add(told);
+    }
+    Ok(many)
 }
 
 /// Ends sessions, and says how many.
@@ -117,11 +128,15 @@ fn end<R: AllocGlobal + Wait>(
             let whom = Whom::One(u64::from(number));
             tell(rt, shared, hall as usize - 1, whom, Told::ByOperator)
         }
-        whose => {
-            let Some(part) = part_of(rt, shared, whose) else {
+        Whose::Address(text) => match address_in(text) {
+            Some(address) => tell_address(rt, shared, address)?,
+            None => return String::from_str(rt.alloc(), "ERR this is no address\n"),
+        },
+        Whose::Customer(name) => {
+            let Some(who) = customer_of(rt, shared, name) else {
                 return String::from_str(rt.alloc(), "ERR nobody has this name\n");
             };
-            tell_all(rt, shared, part)
+            tell_all(rt, shared, Group::Own(who))
         }
     };
     {
@@ -168,13 +183,11 @@ fn converse<R: Paths + AllocGlobal + Clock + Wait>(
                 Err(_) => None,
             };
         }
-        let Ok(count) = (&*stream).read(received.room()) else {
-            return None;
-        };
-        if count == 0 {
-            return None;
+        match (&*stream).read(received.room()) {
+            Ok(count) if count > 0 => received.grow(count),
+            Err(error) if is_interrupted(&error) => {}
+            _ => return None,
         }
-        received.grow(count);
     }
     None
 }
@@ -200,25 +213,28 @@ fn push_command(out: &mut String, line: &[u8]) -> Result<(), AllocError> {
     out.push_str("\"\n")
 }
 
-/// Answers connections, each in a thread of its own.
-pub(crate) fn serve_control<'s, E, R: Clock + Paths + AllocGlobal + Wait + Sync>(
-    scope: &'s Scope<'s, E>,
-    rt: &'s R,
-    shared: &'s Shared,
+/// Takes connections, which other threads answer ([`answer_control`]).
+pub(crate) fn serve_control<R: Clock + AllocGlobal + Wait>(
+    rt: &R,
+    shared: &Shared,
     listener: UnixListener,
 ) {
-    let mut visits = Visits::new(rt.alloc());
     for stream in listener.incoming() {
-        let Ok(stream) = stream else {
-            thread::sleep(rt, Duration::from_millis(PAUSE_MILLIS));
-            continue;
-        };
-        let Ok(stream) = visits.admit(rt.alloc(), stream) else {
-            continue;
-        };
-        let _ = scope.spawn(move || {
+        match stream {
+            Ok(stream) => {
+                let _ = shared.operators.admit(rt, rt.alloc(), stream);
+            }
+            Err(_) => thread::sleep(rt, Duration::from_millis(PAUSE_MILLIS)),
+        }
+    }
+}
+
+/// Answers one connection after another, for ever.
+pub(crate) fn answer_control<R: Clock + Paths + AllocGlobal + Wait>(rt: &R, shared: &Shared) {
+    for _ in rt.forever() {
+        if let Some(stream) = shared.operators.next(rt) {
             let _ = converse(rt, shared, &stream);
             stream.shut();
-        });
+        }
     }
 }

@@ -1,8 +1,10 @@
 //! What is counted of a site since its start.
+use site_book::Who;
 use site_office::Cause;
+use std::alloc::Global;
 
 /// How many reasons there are for which a line or a connection is refused.
-pub(crate) const REASONS: usize = 9;
+pub(crate) const REASONS: usize = 11;
 
 /// Their names, in the order of their places.
 pub(crate) const NAMES: [&str; REASONS] = [
@@ -15,6 +17,8 @@ pub(crate) const NAMES: [&str; REASONS] = [
     "silence",
     "header",
     "full",
+    "descriptor",
+    "thread",
 ];
 
 /// The place of a connection that didn't say HELLO in time.
@@ -25,6 +29,78 @@ pub(crate) const HEADER: usize = 7;
 
 /// That of one for which there was no place at all.
 pub(crate) const FULL: usize = 8;
+
+/// That of one that was closed at once, as no descriptor was left for it.
+pub(crate) const DESCRIPTOR: usize = 9;
+
+/// That of one for which no thread could be had.
+pub(crate) const THREAD: usize = 10;
+
+/// The name of the reason at a place.
+pub(crate) fn name_at(place: usize) -> &'static str {
+    NAMES.get(place).copied().unwrap_or("")
+}
+
+/// How many customers are told whose refusals are most.
+const TOLD: usize = 8;
+
+/// How many refusals each named customer had, by its number.
+#[derive(Drop)]
+pub(crate) struct RefusedCustomers {
+    counts: Vec<u64>,
+}
+
+impl RefusedCustomers {
+    /// Nobody had any.
+    pub(crate) fn new(alloc: Global) -> RefusedCustomers {
+        RefusedCustomers {
+            counts: Vec::new(alloc),
+        }
+    }
+
+    /// One more; where there is no memory to note it it isn't noted.
+    pub(crate) fn note(&mut self, who: Who) {
+        let Who::Named(number) = who else {
+            return;
+        };
+        let place = number as usize;
+        for _ in self.counts.len()..place.saturating_add(1) {
+            if self.counts.push(0).is_err() {
+                return;
+            }
+        }
+        if let Some(count) = self.counts.get_mut(place) {
+            *count = count.saturating_add(1);
+        }
+    }
+
+    /// The numbers of those who had most, and how many: 0 where there are fewer.
+    pub(crate) fn most(&self) -> [(u32, u64); TOLD] {
+        let mut found = [(0, 0); TOLD];
+        for (place, count) in self.counts.iter().enumerate() {
+            let least = place_of_least(&found);
+            if let Some(entry) = found.get_mut(least) {
+                if entry.1 < *count {
+                    *entry = (u32::try_from(place).unwrap_or(u32::MAX), *count);
+                }
+            }
+        }
+        found
+    }
+}
+
+/// Where the least count stands.
+fn place_of_least(found: &[(u32, u64); TOLD]) -> usize {
+    let mut least = u64::MAX;
+    let mut at = 0;
+    for (place, entry) in found.iter().enumerate() {
+        if entry.1 < least {
+            least = entry.1;
+            at = place;
+        }
+    }
+    at
+}
 
 /// The place of a refusal.
 pub(crate) fn place_of(cause: Cause) -> usize {

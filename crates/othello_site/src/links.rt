@@ -3,16 +3,17 @@ ghost use Rattle.std.specs.Prelude.{◌≤◌, length, IfSome};
 
 use crate::shared::Shared;
 use line_io::{LF, ReadFailed, Sink, Source, WriteFailed};
-use site_rules::{Pace, Times};
+use site_rules::{Pace, Times, paid_with, pause};
 use std::alloc::Global;
 use std::cell::Cell;
-use std::io::{ErrorKind, Read, Write};
+use std::io::{Error, ErrorKind, Read, Write};
 use std::net::TcpStream;
 use std::sync::Arc;
+use std::thread;
 use std::time::{Clock, Duration};
 
-/// How often a read that a signal interrupts is made again.
-const READ_TRIES: u32 = 65_536;
+/// How often a read or a write that a signal interrupts is made again.
+const TRIES: u32 = 65_536;
 
 /// The most bytes that are kept of a connection's beginning: a PROXY header, a command, a request.
 pub(crate) const MOST_BYTES: usize = 4_096;
@@ -39,6 +40,8 @@ pub(crate) struct TalkState {
     pub(crate) is_extra: Cell<bool>,
     /// Whether the bytes that were read last had a line's end.
     had_line: Cell<bool>,
+    /// When all its lines are paid off, in microseconds.
+    paid: Cell<u64>,
     /// Lines so far.
     pub(crate) lines: Cell<u64>,
     /// How its reads ended.
@@ -52,6 +55,7 @@ impl TalkState {
             pace: Cell::new(Pace::new(now)),
             is_extra: Cell::new(is_extra),
             had_line: Cell::new(false),
+            paid: Cell::new(0),
             lines: Cell::new(0),
             reading: Cell::new(Reading::GoesOn),
         }
@@ -65,8 +69,8 @@ impl TalkState {
         });
     }
 
-    /// Counts the lines that end in these bytes.
-    fn hear(&self, bytes: &[u8]) {
+    /// Counts the lines that end in these bytes, and returns how many these are.
+    fn hear(&self, bytes: &[u8]) -> u64 {
         let mut ends: u64 = 0;
         for byte in bytes {
             if *byte == LF {
@@ -75,6 +79,7 @@ impl TalkState {
         }
         self.lines.set(self.lines.get().saturating_add(ends));
         self.had_line.set(ends > 0);
+        ends
     }
 
     /// All lines that came were answered.
@@ -91,6 +96,11 @@ impl TalkState {
     fn is_over(&self) -> bool {
         self.is_extra.get() && self.lines.get() > 0
     }
+}
+
+/// Whether a signal came before anything was read or written, so that it is done again.
+pub(crate) fn is_interrupted(error: &Error) -> bool {
+    error.kind() == ErrorKind::Interrupted
 }
 
 /// The bytes of a connection.
@@ -112,7 +122,7 @@ impl<R: Clock> Incoming<'_, R> {
     pub(crate) fn read(&mut self, block: &mut [u8]) -> Option<usize>
         ensures { IfSome result (λ n. n ≤ length block.new) }
     {
-        for _ in 0..READ_TRIES {
+        for _ in 0..TRIES {
             let now = self.shared.now(self.rt);
             let Some(left) = self.talk.pace.get().left(&self.times, now) else {
                 self.talk.reading.set(Reading::Late);
@@ -153,6 +163,17 @@ impl<R: Clock> Incoming<'_, R> {
         }
     }
 
+    /// So many lines came. Where they come too fast it sleeps, and holds nothing meanwhile.
+    fn slow_down(&self, lines: u64) {
+        let now = self.shared.micros(self.rt);
+        let paid = paid_with(self.talk.paid.get(), lines, now);
+        self.talk.paid.set(paid);
+        let wait = pause(paid, now);
+        if wait > 0 {
+            thread::sleep(self.rt, Duration::from_micros(wait));
+        }
+    }
+
     /// The bytes that were read with the header, as many as the block has room for.
     fn take_ahead(&mut self, block: &mut [u8]) -> usize
         ensures { result ≤ length block.new }
@@ -172,7 +193,7 @@ impl<R: Clock> Source for Incoming<'_, R> {
     fn fill(&mut self, block: &mut [u8]) -> Result<usize, ReadFailed> {
         let ahead = self.take_ahead(block);
         if ahead > 0 {
-            self.talk.hear(&block[..ahead]);
+            self.slow_down(self.talk.hear(&block[..ahead]));
             return Ok(ahead);
         }
         self.talk.answered(self.shared.now(self.rt));
@@ -184,7 +205,7 @@ impl<R: Clock> Source for Incoming<'_, R> {
                 if count == 0 {
                     self.talk.reading.set(Reading::Ended);
                 }
-                self.talk.hear(&block[..count]);
+                self.slow_down(self.talk.hear(&block[..count]));
                 Ok(count)
             }
             None => Err(ReadFailed),
@@ -194,19 +215,30 @@ impl<R: Clock> Source for Incoming<'_, R> {
 
 /// What goes to a connection.
 #[derive(Drop)]
-pub(crate) struct Outgoing {
+pub(crate) struct Outgoing<'a, R> {
+    pub(crate) rt: &'a R,
+    pub(crate) shared: &'a Shared,
     pub(crate) stream: Arc<TcpStream, Global>,
+    /// Milliseconds in which an answer is taken.
+    pub(crate) limit: u64,
 }
 
-impl Sink for Outgoing {
+impl<R: Clock> Sink for Outgoing<'_, R> {
     ghost takes = { λ _ _ _. Unit {0} };
 
     fn put(&mut self, bytes: &[u8]) -> Result<usize, WriteFailed> {
-        // (one that takes a part alone has waited for its whole time)
-        match (&*self.stream).write(bytes) {
-            Ok(count) if count > 0 && count == bytes.len() => Ok(count),
-            _ => Err(WriteFailed),
+        let until = self.shared.now(self.rt).saturating_add(self.limit);
+        for _ in 0..TRIES {
+            let put = (&*self.stream).write(bytes);
+            let is_late = until <= self.shared.now(self.rt);
+            match put {
+                // (one that takes a part alone has waited for its whole time, or a signal came: then the rest is put next)
+                Ok(count) if count > 0 && (count == bytes.len() || !is_late) => return Ok(count),
+                Err(error) if is_interrupted(&error) && !is_late => {}
+                _ => return Err(WriteFailed),
+            }
         }
+        Err(WriteFailed)
     }
 }
 

@@ -1,11 +1,14 @@
 //! Connections taken, each in a thread of its own.
 use crate::client::serve_client;
-use crate::counts::FULL;
+use crate::counts::{DESCRIPTOR, FULL, THREAD};
 use crate::ending::Why;
 use crate::shared::Shared;
+use crate::telling::{log_refusal, log_shortage};
+use site_file::Address;
 use site_rules::Port;
 use std::alloc::Global;
-use std::net::{Net, TcpListener, TcpStream};
+use std::io;
+use std::net::{Net, SocketAddr, TcpListener, TcpStream};
 use std::sync::Wait;
 use std::thread::{Builder, Scope, Threads};
 use std::time::Clock;
@@ -26,12 +29,11 @@ fn start<'s, E, R>(
 where
     R: Threads + Wait + Clock + Sync,
 {
-    {
-        let mut register = shared.register(rt);
-        if !register.come() {
-            register.counts.refuse(FULL);
-            return;
-        }
+    let peer = stream.peer_addr();
+    let has_come = shared.register(rt).come();
+    if !has_come {
+        turn_away(rt, alloc, shared, peer, FULL);
+        return;
     }
     let started = Builder::new()
         .stack_size(STACK)
@@ -41,10 +43,27 @@ where
         });
     if started.is_err() {
         shared.register(rt).go();
+        turn_away(rt, alloc, shared, peer, THREAD);
     }
 }
 
-/// Takes connections until the listener fails.
+/// Counts a connection that was closed at once, and says it.
+fn turn_away<R: Clock + Wait>(
+    rt: &R,
+    alloc: Global,
+    shared: &Shared,
+    peer: io::Result<SocketAddr>,
+    place: usize,
+) {
+    shared.register(rt).counts.refuse(place);
+    match peer {
+        Ok(peer) => log_refusal(rt, alloc, shared, Address::of_ip(peer.ip()), None, place),
+        Err(_) => log_shortage(rt, alloc, shared, place),
+    }
+}
+
+/// Takes connections until the listener fails. A shortage of descriptors or of threads closes connections, which is counted and said, and
+/// ends nothing.
 pub(crate) fn take_all<'s, E, R>(
     scope: &'s Scope<'s, E>,
     rt: &'s R,
@@ -60,7 +79,10 @@ where
     for _ in rt.forever() {
         match door.next(rt) {
             Ok(Some(stream)) => start(scope, rt, alloc, shared, stream, port),
-            Ok(None) => {}
+            Ok(None) => {
+                shared.register(rt).counts.refuse(DESCRIPTOR);
+                log_shortage(rt, alloc, shared, DESCRIPTOR);
+            }
             Err(error) => {
                 shared.ending.tell(rt, Why::Deaf(error));
                 return;

@@ -1,18 +1,55 @@
 //! The log: one line a session, on the standard error, written by a thread of its own, so that no session waits for it.
+use crate::register::is_same_address;
+use site_file::Address;
+use site_rules::is_said;
 use std::alloc::Global;
 use std::sync::{Condvar, Mutex, Wait};
 
 /// Bytes that wait to be written at most. Lines beyond them are left out.
 const MOST_BYTES: usize = 1 << 20;
 
-/// How many lines of one kind that anybody can cause are said in a second.
-const MOST_LINES: u32 = 20;
-
-/// How many lines were said of late that anybody can cause.
+/// A line that anybody can cause, which was said in this second: the place of its reason, and the address that it names.
 #[derive(Clone, Copy)]
+struct Said {
+    reason: usize,
+    address: Option<Address>,
+}
+
+/// The lines that were said in a second and that anybody can cause.
+#[derive(Drop)]
 struct Flow {
     second: u64,
-    lines: u32,
+    said: Vec<Said>,
+}
+
+impl Flow {
+    /// Whether one line more is said of this reason and address; then it is one of those that were.
+    fn takes(&mut self, second: u64, reason: usize, address: Option<Address>) -> bool {
+        if self.second != second {
+            self.second = second;
+            self.said.clear();
+        }
+        let mut of_reason: u32 = 0;
+        let mut of_address: u32 = 0;
+        for said in &self.said {
+            if said.reason == reason {
+                of_reason = of_reason.saturating_add(1);
+                if is_same(said.address, address) {
+                    of_address = of_address.saturating_add(1);
+                }
+            }
+        }
+        is_said(of_reason, of_address) && self.said.push(Said { reason, address }).is_ok()
+    }
+}
+
+/// Whether both are the same address, or none.
+fn is_same(a: Option<Address>, b: Option<Address>) -> bool {
+    match (a, b) {
+        (None, None) => true,
+        (Some(a), Some(b)) => is_same_address(a, b),
+        _ => false,
+    }
 }
 
 /// The log.
@@ -31,20 +68,20 @@ impl Log {
             filled: Condvar::new(),
             flow: Mutex::new(Flow {
                 second: 0,
-                lines: 0,
+                said: Vec::new(alloc),
             }),
         }
     }
 
-    /// Whether one line more may be said in this second that anybody can cause.
-    pub(crate) fn has_room<R: Wait>(&self, rt: &R, second: u64) -> bool {
-        let mut flow = self.flow.lock(rt);
-        let lines = if flow.second == second { flow.lines } else { 0 };
-        *flow = Flow {
-            second,
-            lines: lines.saturating_add(1),
-        };
-        lines < MOST_LINES
+    /// Whether one line more is said in this second that anybody can cause, of this reason and perhaps of an address.
+    pub(crate) fn has_room<R: Wait>(
+        &self,
+        rt: &R,
+        second: u64,
+        reason: usize,
+        address: Option<Address>,
+    ) -> bool {
+        self.flow.lock(rt).takes(second, reason, address)
     }
 
     /// Says a line, if there is room for it.

@@ -1,11 +1,11 @@
 //! What all connections share beside the desks, under one lock: the file's words, rates, connections, who can be shut, and the counts.
 use crate::connections::ConnectionCounts;
-use crate::counts::Counts;
+use crate::counts::{Counts, RefusedCustomers};
 use crate::rates::Rates;
-use site_book::{Told, Who};
+use site_book::{Group, Told, Who};
 use site_file::{Address, SiteConfig};
-use site_rules::{Arrival, ClientState, Crowd, Watch, arrival_of};
-use std::alloc::Global;
+use site_rules::{Arrival, ClientState, Crowd, HallRoom, Watch, arrival_of, hall_of_guest};
+use std::alloc::{AllocError, Global};
 use std::io::ErrorKind;
 use std::net::{Shutdown, TcpStream};
 use std::sync::Arc;
@@ -17,6 +17,8 @@ pub(crate) struct SessionLink {
     pub(crate) hall: usize,
     /// Its number.
     pub(crate) session: u64,
+    /// Whose it is.
+    who: Who,
     /// Where its connection comes from.
     pub(crate) address: Address,
     stream: Arc<TcpStream, Global>,
@@ -38,6 +40,7 @@ pub(crate) struct Register {
     pub(crate) extra: u32,
     pub(crate) links: Vec<SessionLink>,
     pub(crate) counts: Counts,
+    pub(crate) refused: RefusedCustomers,
     /// Until when those stay who are there, where nobody else may come.
     pub(crate) draining: Option<u64>,
 }
@@ -53,6 +56,7 @@ impl Register {
             extra: 0,
             links: Vec::new(alloc),
             counts: Counts::new(),
+            refused: RefusedCustomers::new(alloc),
             draining: None,
         }
     }
@@ -114,15 +118,52 @@ impl Register {
         true
     }
 
-    /// The hall of a customer's sessions: the file says it, and of a guest the address.
-    pub(crate) fn hall_of(&self, who: Who) -> usize {
-        let many = (self.config.halls.len() as u64).max(1);
-        let hall = match who {
-            Who::Named(_) => u64::from(self.config.directory.terms(who).hall),
-            Who::V4(address) => u64::from(address),
-            Who::V6(network) => network,
+    /// The hall that the file says of a customer; of a guest the first.
+    pub(crate) fn first_hall(&self, who: Who) -> usize {
+        match who {
+            Who::Named(_) => self.config.directory.terms(who).hall as usize,
+            _ => 0,
+        }
+    }
+
+    /// The hall of a customer's next session, where guests have so much left in each: the file says it; of a guest it is where that has
+    /// sessions, or else the emptiest. A guest that has other connections goes where the last of them went: one of them may just be coming.
+    pub(crate) fn hall_of(&mut self, who: Who, rooms: &[HallRoom]) -> usize {
+        if !who.is_guest() {
+            return self.first_hall(who);
+        }
+        let mut home = self.home_of(who);
+        if home.is_none() && self.connections.of(who) > 1 {
+            home = self.connections.home(who);
+        }
+        let hall = hall_of_guest(rooms, home);
+        self.connections.settle(who, hall);
+        hall
+    }
+
+    /// The hall where a guest has a session.
+    fn home_of(&self, who: Who) -> Option<usize> {
+        for link in &self.links {
+            if link.who.is(who) {
+                return Some(link.hall);
+            }
+        }
+        None
+    }
+
+    /// Whether the guests of a guest's wider network have as many sessions in all halls as they may.
+    pub(crate) fn is_network_full(&self, who: Who) -> bool {
+        let Some(plan) = self.config.halls.first() else {
+            return false;
         };
-        (hall % many) as usize
+        let network = Group::Network(who.network());
+        let most = plan.limit(network).sessions;
+        let has = self
+            .links
+            .iter()
+            .filter(|link| network.has(link.who))
+            .count();
+        who.is_guest() && has >= most as usize
     }
 
     /// Keeps a session's connection, so that it can be shut; false where there is no memory.
@@ -130,6 +171,7 @@ impl Register {
         &mut self,
         hall: usize,
         session: u64,
+        who: Who,
         address: Address,
         stream: Arc<TcpStream, Global>,
     ) -> bool {
@@ -137,6 +179,7 @@ impl Register {
             .push(SessionLink {
                 hall,
                 session,
+                who,
                 address,
                 stream,
                 waits: false,
@@ -193,6 +236,21 @@ impl Register {
         Some(link.address)
     }
 
+    /// The halls and numbers of the sessions whose connections come from an address.
+    pub(crate) fn sessions_from(
+        &self,
+        alloc: Global,
+        address: Address,
+    ) -> Result<Vec<(usize, u64)>, AllocError> {
+        let mut found = Vec::new(alloc);
+        for link in &self.links {
+            if is_same_address(link.address, address) {
+                found.push((link.hall, link.session))?;
+            }
+        }
+        Ok(found)
+    }
+
     /// Looks at the connection at a place, if it waits for a job: its hall and session where its client is gone.
     pub(crate) fn look(&mut self, place: usize, now: u64) -> Option<(usize, u64)> {
         let hangup = u64::from(self.config.limits.hangup).saturating_mul(1_000);
@@ -207,6 +265,15 @@ impl Register {
         } else {
             None
         }
+    }
+}
+
+/// Whether both are the same address.
+pub(crate) fn is_same_address(a: Address, b: Address) -> bool {
+    match (a, b) {
+        (Address::V4(a), Address::V4(b)) => a == b,
+        (Address::V6(a, low), Address::V6(b, other)) => a == b && low == other,
+        _ => false,
     }
 }
 

@@ -4,6 +4,7 @@ use crate::shared::Shared;
 use crate::watching::shut_told;
 use site_book::{Amount, Group, Plan, Who};
 use site_file::{FileFault, SiteConfig, amount_text, read_config_again};
+use site_rules::{connections_within, plan_of_both};
 use std::alloc::{AllocError, Global};
 use std::fmt::Write;
 use std::sync::{Arc, Wait};
@@ -25,6 +26,8 @@ pub(crate) enum Unread {
     Unread(io::Error),
     /// It is wrong.
     Wrong(FileFault),
+    /// Another hall's totals are in it.
+    Totals,
     /// Somebody has more than it allows: who, and by how much.
     Beyond(String),
     /// There is no memory.
@@ -58,7 +61,22 @@ pub(crate) fn copied(
     ))
 }
 
+/// Lowers the connections of a file to those that the process has descriptors for; false where there are none.
+pub(crate) fn lower(config: &mut SiteConfig, descriptors: Option<u64>) -> bool {
+    let Some(descriptors) = descriptors else {
+        return true;
+    };
+    match connections_within(descriptors, config.limits.connections) {
+        Some(most) => {
+            config.limits.connections = most;
+            true
+        }
+        None => false,
+    }
+}
+
 /// Goes on by the file, as it is now, where all that is out is within it. At `ends` those who are beyond it are told to end first.
+/// One at a time: who is new in a file gets the next number that nobody has, which two at once would both give.
 pub(crate) fn reload<R: Paths + AllocGlobal + Clock + Wait>(
     rt: &R,
     shared: &Shared,
@@ -67,19 +85,61 @@ pub(crate) fn reload<R: Paths + AllocGlobal + Clock + Wait>(
     if shared.path.is_empty() {
         return Err(Unread::None);
     }
+    let _turn = shared.reloads.lock(rt);
     let text = match rt.text_of(shared.path.as_str()) {
         Ok(text) => text,
         Err(error) => return Err(Unread::Unread(error)),
     };
     let now = Arc::try_clone(&shared.register(rt).config)?;
-    let config = match read_config_again(rt.alloc(), text.as_str(), &now) {
+    let mut config = match read_config_again(rt.alloc(), text.as_str(), &now) {
         Ok(config) => config,
         Err(fault) => return Err(Unread::Wrong(fault)),
     };
+    let _ = lower(&mut config, shared.descriptors);
+    let change = change_of(rt.alloc(), &now, &config)?;
     if ends {
         end_beyond(rt, shared, &config);
     }
-    go_by(rt, shared, config)
+    go_by(rt, shared, config, change)
+}
+
+/// What each hall goes by while a site changes from one file to another, from the first hall on.
+#[derive(Drop)]
+struct PlanChange {
+    /// What both files allow.
+    between: Vec<Plan>,
+    /// What the second allows.
+    then: Vec<Plan>,
+    /// Where the plans are kept that halls went by before.
+    was: Vec<Plan>,
+}
+
+/// The change from one file to another: all memory that it takes.
+fn change_of(alloc: Global, now: &SiteConfig, config: &SiteConfig) -> Result<PlanChange, Unread> {
+    let customers = config.directory.customers.len();
+    let many = u32::try_from(customers).unwrap_or(u32::MAX);
+    let mut change = PlanChange {
+        between: Vec::new(alloc),
+        then: Vec::new(alloc),
+        was: Vec::with_capacity(alloc, now.halls.len())?,
+    };
+    for (own, plan) in now.halls.iter().zip(config.halls.iter()) {
+        if own.totals() != plan.totals() {
+            return Err(Unread::Totals);
+        }
+        let both = plan_of_both(alloc, own, plan, many)?;
+        let then = copied(alloc, plan, customers)?;
+        match (both, then) {
+            (Some(both), Some(then)) => {
+                let is_kept = change.between.push(both).is_ok() && change.then.push(then).is_ok();
+                if !is_kept {
+                    return Err(Unread::Memory);
+                }
+            }
+            _ => return Err(Unread::Memory),
+        }
+    }
+    Ok(change)
 }
 
 /// Tells those to end who don't stay under another plan, and waits a little until they have left.
@@ -97,46 +157,61 @@ fn end_beyond<R: Clock + Wait>(rt: &R, shared: &Shared, config: &SiteConfig) {
     }
 }
 
-/// Has each hall go by its plan, or none.
-fn go_by<R: AllocGlobal + Wait>(rt: &R, shared: &Shared, config: SiteConfig) -> Result<(), Unread> {
-    let customers = config.directory.customers.len();
-    let mut was: Vec<Plan> = Vec::new(rt.alloc());
-    for (hall, desk) in shared.desks.iter().enumerate() {
-        let Some(plan) = config.halls.get(hall) else {
-            continue;
-        };
-        let Some(plan) = copied(rt.alloc(), plan, customers)? else {
-            return Err(Unread::Memory);
-        };
-        match desk.reload(rt, plan) {
-            Ok(old) => {
-                if was.push(old).is_err() {
-                    return Err(Unread::Memory);
-                }
-            }
-            Err((plan, _refusal)) => {
-                let over = over_text(rt, shared, hall, &plan);
-                go_back(rt, shared, was);
-                return match over {
-                    Ok(text) => Err(Unread::Beyond(text)),
-                    Err(_) => Err(Unread::Memory),
-                };
-            }
+/// Has all halls and the directory go by another file, or none. Nobody is met meanwhile.
+fn go_by<R: AllocGlobal + Wait>(
+    rt: &R,
+    shared: &Shared,
+    config: SiteConfig,
+    change: PlanChange,
+) -> Result<(), Unread> {
+    let PlanChange { between, then, was } = change;
+    let Ok(config) = Arc::new(rt.alloc(), config) else {
+        return Err(Unread::Memory);
+    };
+    let theirs = Arc::try_clone(&config)?;
+    let beyond = {
+        let mut register = shared.register(rt);
+        let beyond = go_between(rt, shared, between, was);
+        if beyond.is_none() {
+            go_all(rt, shared, then);
+            register.config = theirs;
         }
-    }
-    match Arc::new(rt.alloc(), config) {
-        Ok(config) => {
-            shared.register(rt).config = config;
-            Ok(())
-        }
-        Err(_) => Err(Unread::Memory),
+        beyond
+    };
+    match beyond {
+        None => Ok(()),
+        Some(hall) => match config.halls.get(hall) {
+            Some(plan) => Err(Unread::Beyond(over_text(rt, shared, hall, plan)?)),
+            None => Err(Unread::Memory),
+        },
     }
 }
 
-/// Has the first halls go by these plans again.
-fn go_back<R: Wait>(rt: &R, shared: &Shared, was: Vec<Plan>) {
+/// Has each hall go by what both files allow. Where one has more out, all before it go by what they went by; that one's number.
+fn go_between<R: Wait>(rt: &R, shared: &Shared, plans: Vec<Plan>, was: Vec<Plan>) -> Option<usize> {
+    let mut was = was;
     let mut hall: usize = 0;
-    for plan in was {
+    for plan in plans {
+        if let Some(desk) = shared.desks.get(hall) {
+            let old = desk.reload(rt, plan);
+            let is_kept = match old {
+                Ok(old) => was.push(old).is_ok(),
+                Err(_) => false,
+            };
+            if !is_kept {
+                go_all(rt, shared, was);
+                return Some(hall);
+            }
+        }
+        hall = hall.saturating_add(1);
+    }
+    None
+}
+
+/// Has the halls go by these plans, from the first on, within which all is that is out.
+fn go_all<R: Wait>(rt: &R, shared: &Shared, plans: Vec<Plan>) {
+    let mut hall: usize = 0;
+    for plan in plans {
         if let Some(desk) = shared.desks.get(hall) {
             let _ = desk.reload(rt, plan);
         }

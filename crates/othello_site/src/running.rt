@@ -1,9 +1,11 @@
 //! What the program does with the words of its command line.
 use crate::ending::{Unheard, Why};
 use crate::paths::Paths;
+use crate::reloading::lower;
 use crate::serving::serve_config;
 use site_book::{Group, Plan, Who};
 use site_file::{SiteConfig, amount_text, read_config};
+use site_rules::KEPT_DESCRIPTORS;
 use std::alloc::{AllocError, Global};
 use std::fmt::{Display, Write};
 use std::io;
@@ -27,6 +29,7 @@ const HELP: &str = "Serves the sessions of a site, each customer within its budg
 Usage: othello_site                 serves at 127.0.0.1:4711, everybody a guest who may take what is free
        othello_site FILE            serves, by a file as deploy/site.toml
        othello_site --check FILE    says what the file gives away, and whether it fits the halls
+       othello_site --say SOCKET LINE   says a line to the site whose operator's socket this is, and prints what it answers
        othello_site --version
        othello_site --help
 
@@ -60,6 +63,8 @@ enum Asked<'w> {
     Version,
     /// What the file of this path gives away.
     Check(&'w str),
+    /// What the site answers at the socket of this path to this line.
+    Say(&'w str, &'w str),
     /// That the site serve by the file of this path.
     Serve(&'w str),
     /// That it serve without a file.
@@ -74,6 +79,9 @@ fn asked_by(words: &[String]) -> Asked<'_> {
         [_] => Asked::Alone,
         [_, word] => asked_by_one(word.as_str()),
         [_, word, path] if word.as_str() == "--check" => Asked::Check(path.as_str()),
+        [_, word, path, line] if word.as_str() == "--say" => {
+            Asked::Say(path.as_str(), line.as_str())
+        }
         _ => Asked::Nothing,
     }
 }
@@ -108,6 +116,7 @@ where
         Asked::Help => say(rt, HELP),
         Asked::Version => say(rt, "othello_site 1.0.0\n"),
         Asked::Check(path) => check(rt, path),
+        Asked::Say(path, line) => say_to_site(rt, path, line),
         Asked::Serve(path) => match config_at(rt, path) {
             Ok(config) => serve(rt, path, config),
             Err(status) => status,
@@ -122,6 +131,24 @@ fn say<R: Print>(rt: &R, text: &str) -> u8 {
     match print!(rt; "{text}") {
         Ok(()) => EXIT_OK,
         Err(_) => EXIT_FAILED,
+    }
+}
+
+/// Says a line to a site, and writes what it answers; the status says whether it refuses it.
+fn say_to_site<R: Paths + Print + Eprint>(rt: &R, path: &str, line: &str) -> u8 {
+    match rt.answer_of(path, line) {
+        Ok(text) => {
+            let status = say(rt, text.as_str());
+            if text.as_str().starts_with("ERR") {
+                EXIT_FAILED
+            } else {
+                status
+            }
+        }
+        Err(error) => {
+            let _ = eprintln!(rt; "othello_site: {path}: {error}");
+            EXIT_FAILED
+        }
     }
 }
 
@@ -220,6 +247,27 @@ where
     }
 }
 
+/// The file with no more connections than the process has descriptors for, which is said; Err with the status where it has none.
+fn fitting<R: Paths + Eprint>(rt: &R, config: SiteConfig) -> Result<SiteConfig, u8> {
+    let mut config = config;
+    let descriptors = rt.descriptors();
+    let wanted = config.limits.connections;
+    let has = descriptors.unwrap_or(u64::MAX);
+    if !lower(&mut config, descriptors) {
+        let _ = eprintln!(rt;
+            "othello_site: {has} descriptors are too few (`ulimit -n`): it takes {KEPT_DESCRIPTORS} and one for each connection"
+        );
+        return Err(EXIT_FAILED);
+    }
+    let connections = config.limits.connections;
+    if connections < wanted {
+        let _ = eprintln!(rt;
+            "othello_site: connections = {wanted}: lowered to {connections}, as the process may have {has} descriptors (`ulimit -n`)"
+        );
+    }
+    Ok(config)
+}
+
 /// Serves by a file until it is told why the site ends, and says why.
 fn serve<R>(rt: &R, path: &str, config: SiteConfig) -> u8
 where
@@ -236,6 +284,10 @@ where
         + Sync
         + 'static,
 {
+    let config = match fitting(rt, config) {
+        Ok(config) => config,
+        Err(status) => return status,
+    };
     match serve_config(rt, path, config) {
         Ok(None) => {
             let _ = eprintln!(rt;

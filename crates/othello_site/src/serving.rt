@@ -5,7 +5,7 @@
 //! start it again.
 ghost use Rattle.std.specs.Prelude.{◌≡◌, IfSome};
 
-use crate::control::serve_control;
+use crate::control::{answer_control, serve_control};
 use crate::ending::{Ending, Unheard, Why};
 use crate::listening::take_all;
 use crate::logging::Log;
@@ -13,8 +13,9 @@ use crate::paths::Paths;
 use crate::register::Register;
 use crate::reloading::copied;
 use crate::shared::Shared;
+use crate::visits::{HOSTS, Visits};
 use crate::watching::watch_all;
-use crate::web::serve_web;
+use crate::web::{answer_web, serve_web};
 use fair_share::FairShare;
 use hall::{Config as Totals, Hall};
 use sched_rules::Worker;
@@ -164,7 +165,7 @@ fn workers_of<R: Threads>(rt: &R, config: &SiteConfig) -> u8 {
 }
 
 /// What the threads share, where nobody is there; `None` where a hall's totals are beyond any hall's.
-fn shared_of<R: Clock + AllocGlobal>(
+fn shared_of<R: Clock + Paths + AllocGlobal>(
     rt: &R,
     path: &str,
     config: SiteConfig,
@@ -185,6 +186,10 @@ fn shared_of<R: Clock + AllocGlobal>(
         log: Log::new(alloc),
         start,
         path,
+        reloads: Mutex::new(()),
+        descriptors: rt.descriptors(),
+        web: Visits::new(alloc),
+        operators: Visits::new(alloc),
         ending,
     }))
 }
@@ -306,6 +311,32 @@ where
     }
 }
 
+/// Starts what answers the operator.
+fn start_control<'s, E, R: Threads + Wait + Clock + Paths + AllocGlobal + Sync>(
+    scope: &'s Scope<'s, E>,
+    rt: &'s R,
+    shared: &'s Shared,
+    listener: UnixListener,
+) {
+    for _ in 0..HOSTS {
+        let _ = scope.spawn(move || answer_control(rt, shared));
+    }
+    let _ = scope.spawn(move || serve_control(rt, shared, listener));
+}
+
+/// Starts what says health and metrics.
+fn start_web<'s, E, R: Threads + Wait + Clock + AllocGlobal + Sync>(
+    scope: &'s Scope<'s, E>,
+    rt: &'s R,
+    shared: &'s Shared,
+    listener: TcpListener,
+) {
+    for _ in 0..HOSTS {
+        let _ = scope.spawn(move || answer_web(rt, shared));
+    }
+    let _ = scope.spawn(move || serve_web(rt, shared, listener));
+}
+
 /// Starts all threads of a site.
 fn serve_site<R>(rt: &R, site: SiteService)
 where
@@ -338,10 +369,10 @@ where
         let _ = scope.spawn(move || shared.log.write_all(rt, rt.alloc()));
         let _ = scope.spawn(move || watch_all(rt, shared));
         if let Some(control) = control {
-            let _ = scope.spawn(move || serve_control(scope, rt, shared, control));
+            start_control(scope, rt, shared, control);
         }
         if let Some(health) = health {
-            let _ = scope.spawn(move || serve_web(scope, rt, shared, health));
+            start_web(scope, rt, shared, health);
         }
         start_port(scope, rt, rt.alloc(), shared, plain, Port::Plain);
         start_port(scope, rt, rt.alloc(), shared, proxied, Port::Proxied);

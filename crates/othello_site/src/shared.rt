@@ -2,8 +2,11 @@
 use crate::ending::Ending;
 use crate::logging::Log;
 use crate::register::Register;
+use crate::visits::Visits;
 use site_desk::SiteDesk;
 use std::alloc::Global;
+use std::net::TcpStream;
+use std::os::unix::net::UnixStream;
 use std::sync::atomic::AtomicU64;
 use std::sync::{Arc, Mutex, MutexGuard, Wait};
 use std::time::{Clock, Duration, Instant};
@@ -23,6 +26,14 @@ pub(crate) struct Shared {
     pub(crate) start: Option<Instant>,
     /// The file; empty where there is none.
     pub(crate) path: String,
+    /// Held while the file is read again.
+    pub(crate) reloads: Mutex<()>,
+    /// The most descriptors that the process may have, if that is known.
+    pub(crate) descriptors: Option<u64>,
+    /// Those who ask for health and metrics.
+    pub(crate) web: Visits<TcpStream>,
+    /// Those who are the operator.
+    pub(crate) operators: Visits<UnixStream>,
     /// Why the site ends.
     pub(crate) ending: Arc<Ending, Global>,
 }

@@ -1,11 +1,12 @@
 //! The house of a connection's office: clock, keys and rates, and what it is told.
-use crate::counts::{NAMES, place_of};
+use crate::counts::place_of;
 use crate::links::TalkState;
 use crate::shared::Shared;
 use crate::telling::log_refusal;
-use site_book::{Told, Who};
+use site_book::{Group, Told, Who};
 use site_file::Address;
 use site_office::{Cause, House, Met, Note};
+use site_rules::HallRoom;
 use std::alloc::Global;
 use std::net::{Shutdown, TcpStream};
 use std::sync::{Arc, Wait};
@@ -48,7 +49,7 @@ impl<R: Clock + Wait> SiteHouse<'_, R> {
                 let mut register = self.shared.register(self.rt);
                 register.counts.welcomed = register.counts.welcomed.saturating_add(1);
                 register.counts.hello.note(took);
-                register.link(self.hall, number, self.address, stream)
+                register.link(self.hall, number, who, self.address, stream)
             }
             Err(_) => false,
         };
@@ -57,19 +58,43 @@ impl<R: Clock + Wait> SiteHouse<'_, R> {
         }
     }
 
+    /// What all guests have left in each hall, where a guest says HELLO and there are several; where there is no memory to look, that of
+    /// the first ones.
+    fn rooms(&self, token: Option<&[u8]>) -> Vec<HallRoom> {
+        let mut rooms = Vec::new(self.alloc);
+        if token.is_some() || !self.own.is_guest() || self.shared.desks.len() < 2 {
+            return rooms;
+        }
+        for desk in &self.shared.desks {
+            let (may, has) = desk.part(self.rt, Group::Guests);
+            let room = HallRoom {
+                sessions: may.sessions.saturating_sub(has.sessions),
+                segments: may.segments.saturating_sub(has.segments),
+                nodes: may.nodes.saturating_sub(has.nodes),
+            };
+            if rooms.push(room).is_err() {
+                return rooms;
+            }
+        }
+        rooms
+    }
+
     /// A refusal is counted, and said.
     fn refuse(&mut self, cause: Cause) {
         let place = place_of(cause);
+        let who = self.account.unwrap_or(self.own);
         {
             let mut register = self.shared.register(self.rt);
             register.counts.refuse(place);
+            register.refused.note(who);
         }
         log_refusal(
             self.rt,
             self.alloc,
             self.shared,
             self.address,
-            NAMES.get(place).copied().unwrap_or(""),
+            Some(who),
+            place,
         );
     }
 
@@ -108,6 +133,7 @@ impl<R: Clock + Wait> House for SiteHouse<'_, R> {
 
     fn meet(&mut self, token: Option<&[u8]>) -> Met {
         self.asked = self.shared.micros(self.rt);
+        let rooms = self.rooms(token);
         let mut register = self.shared.register(self.rt);
         let who = match token {
             None => Some(self.own),
@@ -116,12 +142,20 @@ impl<R: Clock + Wait> House for SiteHouse<'_, R> {
         let Some(who) = who else {
             return Met::Nobody;
         };
-        if register.draining.is_some() || !register.belong(self.account, who) {
+        let is_draining = register.draining.is_some();
+        if is_draining || !register.belong(self.account, who) {
+            if is_draining || who.is_guest() {
+                // (it isn't told that its own budget is used up: it may come again, perhaps to another program)
+                let _ = self.stream.shutdown(Shutdown::Both);
+            }
             return Met::Crowded;
         }
         self.account = Some(who);
         self.talk.is_extra.set(false);
-        self.hall = register.hall_of(who);
+        if rooms.len() > 1 && register.is_network_full(who) {
+            return Met::Crowded;
+        }
+        self.hall = register.hall_of(who, rooms.as_slice());
         Met::Is(who, self.hall)
     }
 

@@ -1,7 +1,7 @@
 //! What the site says of itself: STATS and metrics.
-use crate::counts::{BOUNDS, Buckets, Counts, NAMES};
+use crate::counts::{BOUNDS, Buckets, Counts, NAMES, name_at};
 use crate::shared::Shared;
-use site_book::{Amount, Group};
+use site_book::{Amount, Group, Who};
 use site_file::Address;
 use std::alloc::{AllocError, Global};
 use std::fmt::Write;
@@ -26,22 +26,55 @@ pub(crate) fn address_text(alloc: Global, address: Address) -> Result<String, Al
     }
 }
 
-/// Says why somebody was refused, unless too many were in this second.
+/// Says why somebody was refused, and as which customer if that is known; unless too many were in this second by this reason, or from
+/// this address.
 pub(crate) fn log_refusal<R: Clock + Wait>(
     rt: &R,
     alloc: Global,
     shared: &Shared,
     address: Address,
-    reason: &str,
+    who: Option<Who>,
+    place: usize,
 ) {
-    if !shared.log.has_room(rt, shared.now(rt) / 1_000) {
+    let second = shared.now(rt) / 1_000;
+    if !shared.log.has_room(rt, second, place, Some(address)) {
         return;
     }
-    let Ok(address) = address_text(alloc, address) else {
+    if let Ok(line) = refusal_line(rt, alloc, shared, address, who, place) {
+        shared.log.say(rt, line.as_str());
+    }
+}
+
+/// The line of a refusal.
+fn refusal_line<R: Wait>(
+    rt: &R,
+    alloc: Global,
+    shared: &Shared,
+    address: Address,
+    who: Option<Who>,
+    place: usize,
+) -> Result<String, AllocError> {
+    let reason = name_at(place);
+    let address = address_text(alloc, address)?;
+    match who {
+        None => format!(in alloc; "event=refused reason={reason} address={address}\n"),
+        Some(who) => {
+            let config = Arc::try_clone(&shared.register(rt).config)?;
+            let name = config.directory.name_of(alloc, who)?;
+            format!(in alloc;
+                "event=refused reason={reason} address={address} customer=\"{name}\"\n"
+            )
+        }
+    }
+}
+
+/// Says that a connection was closed whose address isn't known, unless too many were in this second.
+pub(crate) fn log_shortage<R: Clock + Wait>(rt: &R, alloc: Global, shared: &Shared, place: usize) {
+    if !shared.log.has_room(rt, shared.now(rt) / 1_000, place, None) {
         return;
-    };
-    let line = format!(in alloc; "event=refused reason={reason} address={address}\n");
-    if let Ok(line) = line {
+    }
+    let reason = name_at(place);
+    if let Ok(line) = format!(in alloc; "event=refused reason={reason}\n") {
         shared.log.say(rt, line.as_str());
     }
 }
@@ -191,6 +224,7 @@ pub(crate) fn metrics_of<R: AllocGlobal + Clock + Wait>(
     )?;
     push_halls(rt, shared, &mut out)?;
     push_counts(&mut out, &counts)?;
+    push_refused(rt, shared, &mut out)?;
     Ok(out)
 }
 
@@ -218,6 +252,34 @@ fn push_halls<R: Wait>(rt: &R, shared: &Shared, out: &mut String) -> Result<(), 
     for (hall, desk) in shared.desks.iter().enumerate() {
         let (number, steps) = (hall.saturating_add(1), desk.count(rt));
         writeln!(out, "othello_site_steps_total{{hall=\"{number}\"}} {steps}")?;
+    }
+    Ok(())
+}
+
+/// Appends the refusals of those named customers that had most.
+fn push_refused<R: AllocGlobal + Wait>(
+    rt: &R,
+    shared: &Shared,
+    out: &mut String,
+) -> Result<(), AllocError> {
+    push_head(
+        out,
+        "customer_refused_total",
+        "Refusals of the eight named customers that had most.",
+        "counter",
+    )?;
+    let (config, most) = {
+        let register = shared.register(rt);
+        (Arc::try_clone(&register.config)?, register.refused.most())
+    };
+    for (number, count) in most {
+        if count > 0 {
+            let name = config.directory.name_of(rt.alloc(), Who::Named(number))?;
+            writeln!(
+                out,
+                "othello_site_customer_refused_total{{customer=\"{name}\"}} {count}"
+            )?;
+        }
     }
     Ok(())
 }

@@ -1,13 +1,13 @@
 //! Health and metrics by HTTP.
-use crate::links::{MOST_BYTES, Received, first_line};
+use crate::links::{MOST_BYTES, Received, first_line, is_interrupted};
 use crate::shared::Shared;
 use crate::telling::metrics_of;
-use crate::visits::{PAUSE_MILLIS, Shut, Visits};
+use crate::visits::{PAUSE_MILLIS, Shut};
 use std::alloc::AllocError;
 use std::io::{Read, Write};
 use std::net::{TcpListener, TcpStream};
 use std::sync::Wait;
-use std::thread::{self, Scope};
+use std::thread;
 use std::time::{Clock, Duration};
 
 /// Seconds in which a request is whole, and in which its answer is taken.
@@ -83,36 +83,37 @@ fn converse<R: AllocGlobal + Clock + Wait>(
                 Err(_) => None,
             };
         }
-        let Ok(count) = (&*stream).read(received.room()) else {
-            return None;
-        };
-        if count == 0 {
-            return None;
+        match (&*stream).read(received.room()) {
+            Ok(count) if count > 0 => received.grow(count),
+            Err(error) if is_interrupted(&error) => {}
+            _ => return None,
         }
-        received.grow(count);
     }
     None
 }
 
-/// Answers connections, each in a thread of its own.
-pub(crate) fn serve_web<'s, E, R: Clock + AllocGlobal + Wait + Sync>(
-    scope: &'s Scope<'s, E>,
-    rt: &'s R,
-    shared: &'s Shared,
+/// Takes connections, which other threads answer ([`answer_web`]).
+pub(crate) fn serve_web<R: Clock + AllocGlobal + Wait>(
+    rt: &R,
+    shared: &Shared,
     listener: TcpListener,
 ) {
-    let mut visits = Visits::new(rt.alloc());
     for stream in listener.incoming() {
-        let Ok(stream) = stream else {
-            thread::sleep(rt, Duration::from_millis(PAUSE_MILLIS));
-            continue;
-        };
-        let Ok(stream) = visits.admit(rt.alloc(), stream) else {
-            continue;
-        };
-        let _ = scope.spawn(move || {
+        match stream {
+            Ok(stream) => {
+                let _ = shared.web.admit(rt, rt.alloc(), stream);
+            }
+            Err(_) => thread::sleep(rt, Duration::from_millis(PAUSE_MILLIS)),
+        }
+    }
+}
+
+/// Answers one connection after another, for ever.
+pub(crate) fn answer_web<R: Clock + AllocGlobal + Wait>(rt: &R, shared: &Shared) {
+    for _ in rt.forever() {
+        if let Some(stream) = shared.web.next(rt) {
             let _ = converse(rt, shared, &stream);
             stream.shut();
-        });
+        }
     }
 }

@@ -7,3 +7,7 @@ pub mod Paces
 pub mod Watches
 pub mod Callers
 pub mod Views
+pub mod Descriptors
+pub mod Reloads
+pub mod Halls
+pub mod Flows

@@ -4,7 +4,10 @@
 //! - [`identify`]: whose a connection is by its first bytes, at a proxy's port by the header ([`read_header`]), which must be understood, and
 //!   else by its own address.
 //! - [`read_header`]: what a proxy says in front of a connection's own bytes of where the connection comes from.
+//! - [`hall_of_guest`]: in which hall a guest's next session is. [`is_said`]: whether a line of the log is said that anybody can cause.
 //! - [`arrival_of`]: whether a connection counts as its customer's, is heard for its first line though its customer has too many, or is closed.
+//! - [`connections_within`]: how many connections a process has descriptors for. [`plan_of_both`]: how a site changes from one file to another.
+//! - [`pause`]: how long a session sleeps whose lines come too fast.
 //! - [`Pace`]: until when a connection may be silent. [`Watch`]: when a client that can't be seen to speak is gone.
 //! - [`read_command`]: what a line of the operator asks.
 //!
@@ -21,10 +24,15 @@
 mod arrivals;
 mod callers;
 mod commands;
+mod descriptors;
 mod faults;
 mod fields;
+mod flows;
+mod halls;
 mod headers;
+mod logs;
 mod paces;
+mod reloads;
 pub mod rows;
 mod texts;
 mod watches;
@@ -32,8 +40,13 @@ mod watches;
 pub use arrivals::{Arrival, Crowd, arrival_of};
 pub use callers::{Caller, Port, identify};
 pub use commands::{Command, Whose, read_command};
+pub use descriptors::{KEPT_DESCRIPTORS, connections_within};
 pub use faults::HeaderFault;
 pub use fields::field_of;
+pub use flows::{AT_ONCE_MICROS, LINE_MICROS, paid_with, pause};
+pub use halls::{HallRoom, hall_of_guest};
 pub use headers::{Header, Origin, read_header};
+pub use logs::{OF_A_REASON, OF_AN_ADDRESS, is_said};
 pub use paces::{Pace, Times};
+pub use reloads::{plan_of_both, what_both_allow_each_allows};
 pub use watches::{ClientState, Watch};

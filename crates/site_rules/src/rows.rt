@@ -1,6 +1,9 @@
 //! The definitions, tried on instances: each contract is computed from the definitions alone.
 ghost use Rattle.std.specs.Prelude.{◌≡◌, true, false, Some, None, [], ◌∷◌, ◌++◌, replicate, take, codes, Ok, Err};
 ghost use Rattle.site_rules.specs.Arrivals.{arrival};
+ghost use Rattle.site_rules.specs.Descriptors.{connections_within};
+ghost use Rattle.site_rules.specs.Flows.{paid_with, pause};
+ghost use Rattle.site_rules.specs.Halls.{hall_of_guest};
 ghost use Rattle.site_rules.specs.Paces.{time_left};
 ghost use Rattle.site_rules.specs.Watches.{watch_after, is_gone};
 ghost use Rattle.site_rules.specs.declared.arrivals.Arrival.TheVariants.{Counted, Heard, Closed};
@@ -17,6 +20,29 @@ pub fn connections_are_taken()
     ensures heard { arrival (record { own = 4; most_own = 4; extra = 24; all = 99; most_all = 100 }) ≡ Heard }
     ensures too_many_heard { arrival (record { own = 4; most_own = 4; extra = 25; all = 99; most_all = 100 }) ≡ Closed }
     ensures too_many { arrival (record { own = 0; most_own = 4; extra = 0; all = 100; most_all = 100 }) ≡ Closed }
+{}
+
+/// Descriptors at the edges.
+pub fn descriptors_are_kept()
+    ensures enough { connections_within 20000 8192 ≡ Some 8192 }
+    ensures few { connections_within 1024 8192 ≡ Some 960 }
+    ensures one { connections_within 65 8192 ≡ Some 1 }
+    ensures none { connections_within 64 8192 ≡ None }
+{}
+
+/// A thousand lines at once, and then one in two milliseconds.
+pub fn lines_are_paid_for()
+    ensures at_once { pause (paid_with 0 1000 5) 5 ≡ 0 }
+    ensures one_more { pause (paid_with 0 1001 5) 5 ≡ 2000 }
+    ensures later { pause (paid_with 2000005 1 2005) 2005 ≡ 0 }
+    ensures too_soon { pause (paid_with 2000005 1 1005) 1005 ≡ 1000 }
+{}
+
+/// Guests come to the emptiest hall with room, and stay where they are.
+pub fn guests_have_halls()
+    ensures most { hall_of_guest (record { sessions = 3; segments = 9; nodes = 5 } ∷ record { sessions = 1; segments = 9; nodes = 7 } ∷ record { sessions = 2; segments = 9; nodes = 7 } ∷ []) None ≡ 1 }
+    ensures full { hall_of_guest (record { sessions = 0; segments = 9; nodes = 50 } ∷ record { sessions = 1; segments = 0; nodes = 70 } ∷ record { sessions = 2; segments = 9; nodes = 0 } ∷ []) None ≡ 2 }
+    ensures home { hall_of_guest (record { sessions = 3; segments = 9; nodes = 5 } ∷ record { sessions = 0; segments = 9; nodes = 7 } ∷ []) (Some 1) ≡ 1 }
 {}
 
 /// Ten seconds to a welcome, an hour between lines.
