@@ -22,8 +22,10 @@ import sys
 HERE = pathlib.Path(__file__).resolve().parent
 TOP = HERE.parent.parent
 sys.path.insert(0, str(HERE))
+import bodies
 import promises
 import sums
+
 WORD = re.compile(r"[A-Za-z_][A-Za-z0-9_]*")
 FIGURE = re.compile(r"<!--n:([\w:.-]+)-->(.*?)<!---->")
 LIST = re.compile(r"(<!--made:([\w:,-]+)-->\n).*?(<!--/made-->)", re.S)
@@ -223,7 +225,7 @@ def chosen(text, names):
     return "```text\n" + head + "".join(clause for at, clause in enumerate(kept) if clause != "    ..\n" or kept[at - 1 : at] != [clause]) + "```\n"
 
 
-LISTS = {"map": crate_map, "crates": crate_table, "solve": solve_transcript, "session": session_transcript, "errors": error_table, "depths": depth_table, "excerpt": excerpt, "contract": contract}
+LISTS = {"bodies": bodies.table, "map": crate_map, "crates": crate_table, "solve": solve_transcript, "session": session_transcript, "errors": error_table, "depths": depth_table, "excerpt": excerpt, "contract": contract}
 
 
 def with_lists(text):
@@ -409,7 +411,7 @@ def main():
     if not words:
         others = [TOP / name for name in files if name.endswith(".md") and not name.startswith("docs/") and TOP / name not in documents()]
         linked = [f"{other.relative_to(TOP)}: {fault}" for other in others for fault in link_faults(other, other.read_text())]
-        for fault in sorted({*head_faults(files, names), *name_faults(files), *lemma_faults(files), *proved_faults(), *linked, *version_faults(), *count_words()[2]}):
+        for fault in sorted({*head_faults(files, names), *name_faults(files), *lemma_faults(files), *proved_faults(), *linked, *version_faults(), *bodies.faults(), *count_words()[2]}):
             print(fault)
             bad += 1
         bad += promises.told(promises.made())

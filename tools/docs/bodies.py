@@ -1,0 +1,31 @@
+"""The wrong bodies that are never dropped, by `bodies.txt`: the table in CONTRIBUTING, and what is missing of it."""
+import re
+
+from statements import CRATES, TOP
+
+LISTED = TOP / "tools/docs/bodies.txt"
+
+
+def rows():
+    """Each row: the name, what the body does wrong, the files of its edits, and what is missing."""
+    for line in LISTED.read_text().splitlines():
+        if line and not line.startswith("#"):
+            name, body, told = line.split(" | ")
+            if tested := re.fullmatch(r"test: (\w+) (\S+)", told):
+                crate, word = tested.groups()
+                has = any(word == path.name or re.search(rf"\bfn {word}\b", path.read_text()) for path in (CRATES / crate).rglob("*") if path.suffix in (".rt", ".solve", ".session"))
+                yield name, body, [f"`{word}` of `{crate}`"], [] if has else [f"test {word} of {crate}"]
+                continue
+            found = {crate: sorted((CRATES / crate / "must-fail").glob(f"{name}*.edit")) for crate in told.split()}
+            yield name, body, [f"`{path.relative_to(TOP)}`" for paths in found.values() for path in paths], [f"edit in {crate}" for crate, paths in found.items() if not paths]
+
+
+def table():
+    """The table, with the edit of each body, or the test that tells it."""
+    return "| Name | What the body does | Edit, or test |\n|---|---|---|\n" + "".join(f"| `{name}` | {body} | {', '.join(files)} |\n" for name, body, files, _ in rows())
+
+
+def faults():
+    for name, _, _, missing in rows():
+        for what in missing:
+            yield f"tools/docs/bodies.txt: {name} has no {what}"
