@@ -16,6 +16,7 @@ VALUE = re.compile(r"(?P<public>pub\s+)?(?:pub\([^)]*\)\s+)?(?P<kind>const|stati
 IMPL = re.compile(r"(?:unsafe\s+)?impl\b")
 IMPORT = re.compile(r"(?:pub(?:\([^)]*\))?\s+)?(?:ghost\s+)?use\b")
 SAID = re.compile(r'("(?:\\.|[^"\\])*")|--[^\n]*')  # of definitions
+PROOF = re.compile(r"\} by \{[^{}]*\}")  # how a ghost field is proved
 OPENED = re.compile(r"[()\[\]{}]")
 STOP = re.compile(r"[(\[{;]")
 SPACE = re.compile(r"\s*")
@@ -142,7 +143,7 @@ class Reader:
     def lines(self, start, end):
         """The lines between two places without comments, moved to the left as far as the first of them."""
         left = start - self.text.rfind("\n", 0, start) - 1
-        return tidied(TOLD.sub(lambda match: match[1] or "", self.text[start:end]), left)
+        return tidied(PROOF.sub("}", TOLD.sub(lambda match: match[1] or "", self.text[start:end])), left)
 
     def add(self, start, end, title, is_public, imports, lines=None, calls=""):
         lines, before = self.lines(start, end) if lines is None else lines, self.text[:start].splitlines()
@@ -307,7 +308,7 @@ def changes(old, new):
                 come.remove(same)
         for at in range(max(len(gone), len(come))):
             was, now = gone[at:at + 1], come[at:at + 1]
-            words = [line for line in difflib.ndiff(*[[*part.lines, *(f"(names) {name}" for name in part.names)] if part else [] for part, in ((was or [None]), (now or [None]))]) if not line.startswith("? ")]
+            words = [line for line in difflib.ndiff(*[[*part.lines, *(f"(names) {name}" for name in part.names)] if part else [] for part, in ((was or [None]), (now or [None]))]) if not line.startswith(("? ", "  (names)"))]
             yield (now or was)[0], words
 
 

@@ -250,7 +250,8 @@ def batches(weakenings):
 
 def words_of(text, path):
     """The lines of a text as they are compared: without comments, however far to the right."""
-    return [line.strip() for line in (sums.SAID if path.endswith(".antt") else sums.TOLD).sub(lambda match: match[1] or "", text).splitlines() if line.strip()]
+    said = (sums.SAID if path.endswith(".antt") else sums.TOLD).sub(lambda match: match[1] or "", text)
+    return [line.strip() for line in sums.PROOF.sub("}", said).splitlines() if line.strip()]
 
 
 def copied(folder):
