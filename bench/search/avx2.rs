@@ -4,7 +4,7 @@ use crate::vectors::weigh;
 const A: u64 = 0x7e7e7e7e7e7e7e7e;
 use std::arch::x86_64::*;
 
-#[inline] #[target_feature(enable = "avx2,bmi1,bmi2,lzcnt,movbe,popcnt")] fn moves(own: u64, opp: u64) -> u64 { unsafe {
+#[inline] #[target_feature(enable = "avx2,bmi1,bmi2,lzcnt,movbe,popcnt")] pub fn moves(own: u64, opp: u64) -> u64 { unsafe {
     let sh = _mm256_set_epi64x(7, 9, 8, 1); let sh2 = _mm256_set_epi64x(14, 18, 16, 2);
     let p = _mm256_set1_epi64x(own as i64);
     let o = _mm256_and_si256(_mm256_set1_epi64x(opp as i64), _mm256_set_epi64x(A as i64, A as i64, -1, A as i64));
@@ -24,7 +24,7 @@ const fn rays() -> Rays { let mut t = [[0u64; 8]; 64]; let mut s = 0; while s < 
     t[s][0] = ray(q, 1, 0); t[s][1] = ray(q, 0, 1); t[s][2] = ray(q, 1, 1); t[s][3] = ray(q, -1, 1);
     t[s][4] = ray(q, -1, 0); t[s][5] = ray(q, 0, -1); t[s][6] = ray(q, -1, -1); t[s][7] = ray(q, 1, -1); s += 1; } Rays(t) }
 static R: Rays = rays();
-#[inline] #[target_feature(enable = "avx2,bmi1,bmi2,lzcnt,movbe,popcnt")] fn flips(own: u64, opp: u64, s: u32) -> u64 { unsafe {
+#[inline] #[target_feature(enable = "avx2,bmi1,bmi2,lzcnt,movbe,popcnt")] pub fn flips(own: u64, opp: u64, s: u32) -> u64 { unsafe {
     let sh = _mm256_set_epi64x(7, 9, 8, 1); let sh2 = _mm256_set_epi64x(14, 18, 16, 2); let sh4 = _mm256_set_epi64x(28, 36, 32, 4);
     let p = _mm256_set1_epi64x(own as i64); let o = _mm256_set1_epi64x(opp as i64); let z = _mm256_setzero_si256();
     let ml = _mm256_load_si256(R.0[s as usize].as_ptr() as *const __m256i); let mr = _mm256_load_si256(R.0[s as usize].as_ptr().add(4) as *const __m256i);

@@ -4,7 +4,7 @@ export const MODULES = {
   "binaryen": "wasm-opt version 108",
   "verdict": "logic=proved functions=12 target=wasm64-unknown-unknown sum=dac8208d650f15bf native=nat,char,string logic-built=trusted libraries-built=trusted statements=trusted incremental=trusted",
   "integrity": {
-    "page64.wasm": "sha256-tBJlGKzEKE4ymjAxAGnILrILLQQgDSuy36iKy12hl+8=",
-    "page32.wasm": "sha256-YtFpE+oXn16C1sYeXk1ILimNXWi/gsmuEsO395X2/kM="
+    "page64.wasm": "sha256-bBDuDcp+Kw0BdzjGTAfTWcBeQdO/WEmE7DDAlzEFH2I=",
+    "page32.wasm": "sha256-8bC/VZxER2YmC02HXa/JFsuIOxU4jYoG1qn3hKJPeaM="
   }
 };

@@ -8,7 +8,7 @@ ghost use Rattle.page_engine.specs.leaf_search.othello_eval.Minimax.{choice_valu
 ghost use Rattle.page_engine.specs.Codes.{after_code};
 
 use super::codes::choice_of;
-use leaf_search::search_full;
+use leaf_search::search_ordered_full;
 use othello_board::Board;
 use othello_moves::{Choice, DEEPEST, after, plies};
 
@@ -30,5 +30,5 @@ pub(crate) fn worth(board: Board, choice: Choice, depth: u8) -> i32
     ensures value { result ≡ choice_value depth (cells board) choice }
     ensures within { IsWithin 128000 result }
 {
-    -search_full(after(board, choice), depth - plies(choice) as u8).score
+    -search_ordered_full(after(board, choice), depth - plies(choice) as u8).score
 }

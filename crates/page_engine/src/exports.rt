@@ -10,7 +10,7 @@ ghost use Rattle.page_engine.specs.Codes.{after_code, analysis_code, choice_of_c
 
 use super::choosing::{board_after, worth};
 use super::codes::{choice_of, code_of_best};
-use leaf_search::search_full;
+use leaf_search::search_ordered_full;
 use othello_board::Board;
 use othello_moves::{Choice, Choices, DEEPEST, moves};
 
@@ -109,7 +109,7 @@ pub extern "C" fn analyse(own: u64, opp: u64, depth: u32) -> i64
     match Board::new(own, opp) {
         None => NO_ANALYSIS,
         Some(board) => {
-            let found = search_full(board, depth as u8);
+            let found = search_ordered_full(board, depth as u8);
             i64::from(found.score) * 128 + i64::from(code_of_best(found.choice))
         }
     }
