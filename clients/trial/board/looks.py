@@ -66,8 +66,52 @@ FORM = """(() => { const found = [], ids = [...document.querySelectorAll("[id]")
   return found })()"""
 USED = "[...document.querySelectorAll('button, select, input, textarea, [role=img], [role=group], [role=tab], [role=tabpanel]')].filter((one) => one.checkVisibility())"
 TABS = ("moves", "mistakes", "play", "files", "class", "options")
-SEEN = {"en": ("legal", "value"), "de": ("erlaubt", "Wert")}
+SEEN = {"en": ("legal", "value"), "de": ("erlaubt", "Wert"), "ja": ("着手可能", "値")}
 NARROW = "(() => { const order = ['#board', '#value', '#moves'].map((name) => document.querySelector(name).getBoundingClientRect().top); return order[0] < order[1] && order[1] < order[2] })()"
+
+
+# Targets for fingers: less than 44 pixels high or wide, but squares, where eight stand in 320 pixels, and what is narrow in a row of eight.
+FINGERS = """[...document.querySelectorAll("button:not(.square), select, input[type=text], .file")].filter((one) => one.checkVisibility() && !one.closest(".unseen, .skip, .pair") && !one.matches(".skip"))
+  .map((one) => [one, one.getBoundingClientRect()]).filter(([one, box]) => box.height < 43.5 || (box.width < 43.5 && !one.closest(".controls, [role=tablist]"))).map(([one, box]) => `${one.id || one.textContent} ${Math.round(box.width)}x${Math.round(box.height)}`)"""
+# The lines between squares, in pixels: each is one.
+LINES = """(() => { const boxes = [...document.querySelectorAll(".square")].map((one) => one.getBoundingClientRect()), gaps = [];
+  boxes.forEach((box, at) => { if (at % 8 < 7) gaps.push(boxes[at + 1].left - box.right); if (at < 56) gaps.push(boxes[at + 8].top - box.bottom); });
+  return gaps.filter((gap) => Math.abs(gap - 1) > 0.05).concat(boxes.filter((box) => Math.abs(box.width - Math.round(box.width)) > 0.05).map((box) => box.width)) })()"""
+IN_VIEW = "(() => { const box = document.getElementById('board').getBoundingClientRect(); return box.top >= -1 && box.bottom <= innerHeight + 1 })()"
+
+
+def try_sight(name, address):
+    """The board stays in view above its lists, a phone that lies has two columns, fingers find their targets, lines have one thickness, and forced colours leave black and white."""
+    with opened(name) as shown:
+        for width, height in ((320, 640), (390, 844), (768, 1024), (844, 390), (1280, 800), (1920, 1080)):
+            if name == "firefox" and width < 500:
+                continue  # (its frame has no such window of its own)
+            shown.size(width, height)
+            shown.open(f"{address}#moves={GAME}&at=11&depth=2")
+            shown.known()
+            what = f"{name} at {width} x {height}"
+            check(not (found := shown.evaluate(LINES)), f"{what}: lines: {found[:4]}")
+            check(shown.evaluate("new Set([...document.querySelectorAll('[role=tab]')].map((one) => Math.round(one.getBoundingClientRect().top))).size") == 1, f"{what}: tabs in two rows")
+            for tab in TABS:
+                shown.tab(tab)
+                shown.driver.execute_script("scrollTo(0, document.documentElement.scrollHeight)")
+                check(shown.evaluate(IN_VIEW), f"{what}: {tab} takes the board out of view")
+                if width < 700 or height < 500:
+                    check(not (found := shown.evaluate(FINGERS)), f"{what}: {tab}: small for fingers: {found[:5]}")
+            shown.tab("files")
+            shown.click("#copy-text")
+            over = "(() => { const toast = document.getElementById('toast').getBoundingClientRect(); return [...document.querySelectorAll('button')].filter((one) => one.checkVisibility()).some((one) => { const box = one.getBoundingClientRect(); return box.left < toast.right && box.right > toast.left && box.top < toast.bottom && box.bottom > toast.top }) })()"
+            check(not shown.evaluate(over), f"{what}: what is said covers a button")
+            if width > height:
+                check(shown.evaluate("document.getElementById('value').getBoundingClientRect().left >= document.getElementById('board').getBoundingClientRect().right"), f"{what}: not two columns")
+        shown.click("#turn-board")
+        corner = shown.evaluate("document.querySelector('.square').dataset.square")
+        check(corner == "a8" and shown.evaluate("document.querySelectorAll('.edge')[1].textContent") == "8", f"{name}: the board that was turned begins with {corner}")
+        if name == "chromium":
+            shown.driver.execute_cdp_cmd("Emulation.setEmulatedMedia", {"features": [{"name": "forced-colors", "value": "active"}]})
+            found = shown.evaluate("[...new Set([...document.querySelectorAll('.disc')].map((one) => getComputedStyle(one).backgroundColor))].length")
+            check(found == 2, f"{name}: with forced colours discs have {found} colours")
+    print(f"board: {name}: the board in view, fingers, lines, forced colours")
 
 
 def look(shown, what):
@@ -95,7 +139,7 @@ def try_values(shown, width):
 
 def try_browser(name, address, short=False):
     faults = []
-    for scheme, language in (("light", "en"),) if short else itertools.product(("light", "dark"), ("en", "de")):
+    for scheme, language in (("light", "en"),) if short else itertools.product(("light", "dark"), ("en", "de", "ja")):
         with opened(name, language, scheme) as shown:
             for width in (320, 1920) if short else WIDTHS if scheme == "light" else (320, 390, 768, 1280, 1920):
                 shown.size(width, HEIGHTS[width])
@@ -157,6 +201,12 @@ def try_print(name, address):
         shown.open(f"{address}#moves={GAME}&at=11&black=Anna&white=Bo&depth=4&date=2026-11-27")
         shown.known()
         shown.evaluate("window.dispatchEvent(new Event('beforeprint'))")
+        bare = shown.text("#sheet")
+        check("points" not in bare and "+" not in bare and shown.evaluate("document.querySelectorAll('#sheet svg').length") == 2, f"answers that nobody asked for: {bare}")
+        shown.scheme("light")
+        shown.tab("files")
+        shown.check("#answers", True)
+        shown.evaluate("window.dispatchEvent(new Event('beforeprint'))")
         shown.scheme("light", "print")
         told = shown.evaluate("[document.getElementById('sheet').innerText, document.querySelectorAll('#sheet svg').length, [...document.querySelectorAll('button, input, main')].filter((one) => one.checkVisibility()).length]")
         check(told[1:] == [2, 0] and "Anna – Bo, 2026-11-27" in told[0] and "11. g4" in told[0] and "points" in told[0], f"the sheet: {told}")
@@ -164,5 +214,5 @@ def try_print(name, address):
 
 
 def try_all(address, name, only=""):
-    for trial in chosen(only, try_browser, try_print):
+    for trial in chosen(only, try_browser, try_sight, try_print):
         trial(name, address, **{"short": True} if only == "try_browser" else {})
