@@ -349,6 +349,32 @@ class Four(Shallow):
         return future
 
 
+class Slow(Four):
+    """Takes a while, and notes how long it may."""
+
+    def __init__(self) -> None:
+        super().__init__()
+        self.given: list[float | None] = []
+
+    def submit(self, position: str | Position, depth: int, *, timeout: float | None = None) -> concurrent.futures.Future[Result]:
+        self.given.append(timeout)
+        time.sleep(0.1)
+        return super().submit(position, depth)
+
+
+def test_a_step_has_what_is_left_of_the_time() -> None:
+    async def by_asyncio(slow: Slow) -> None:
+        async with AsyncEngine(analyst=slow) as engine:
+            assert [found.depth async for found in engine.deepen(OPENING, 4, timeout=60)] == [2, 4]
+
+    slow, other, endless = Slow(), Slow(), Slow()
+    assert len(list(slow.deepen(OPENING, 4, timeout=60))) == 2 and len(list(endless.deepen(OPENING, 4))) == 2 and endless.given == [None, None]
+    asyncio.run(by_asyncio(other))
+    for one in (slow, other):
+        first, second = one.given
+        assert first and second and 59 < first <= 60 and second <= first - 0.09
+
+
 def test_values_as_they_deepen(false: str) -> None:
     """2, 4, 6 .. and the depth itself, no deeper than squares are empty; a time for all, whose fault has the deepest; also by asyncio."""
     late = OPENING.flip()
