@@ -68,6 +68,8 @@ class Calls:
         for body, imports in self.crate(crate).get(name, []):
             for call in CALLED.findall(body):
                 first, _, rest = call.partition("::")
+                if rest and first not in imports and (CRATES / crate / f"src/{first}.rt").exists():
+                    first, rest = "crate", call
                 last = call.split("::")[-1]
                 home, there = imports.get(first, (crate if first in ("crate", "self") or not rest else None, first))
                 if home == "crate":

@@ -33,7 +33,7 @@ use std::alloc::{AllocError, Allocator};
 
 /// After any list: tenant 7's job 3, where it is done, has in its words the board (two words) and the depth that the
 /// tenant's third Submit carried, their minimax value, their best choice and their table.
-/// Uses `promises::run`.
+/// Uses `promises::run` (`headline`).
 pub fn words_of_seven<A: Allocator + Clone>(
     alloc: A,
     procedure: Jamboree,
@@ -54,7 +54,7 @@ pub fn words_of_seven<A: Allocator + Clone>(
 
 /// After any list: tenant 9's job 5, where it is done, has in its words a table of the board and the depth that the
 /// tenant's fifth Submit carried: an entry for each choice, in order, each true of it, and the best choice's exact.
-/// Uses `promises::run`.
+/// Uses `promises::run` (`headline`).
 pub fn table_of_nine<A: Allocator + Clone>(
     alloc: A,
     procedure: Jamboree,
@@ -68,6 +68,56 @@ pub fn table_of_nine<A: Allocator + Clone>(
         × (map (λ b. b.choice) (bounds_of (frame_of words)) ≡ entered (slice_index origin 2) (cells_of (slice_index origin 0) (slice_index origin 1)))
         × All (IsTrueBound (slice_index origin 2) (cells_of (slice_index origin 0) (slice_index origin 1))) (bounds_of (frame_of words))
         × All (IsExactIfBest (best_choice (slice_index origin 2) (cells_of (slice_index origin 0) (slice_index origin 1)))) (bounds_of (frame_of words))) }
+{
+    run(alloc, procedure, config, steps)
+}
+
+/// After any list of searches tenant 9 is what its own taken steps make of it alone, and was told what they give; the core is the one that all
+/// answers lead to; and each of the tenant's frames is sound.
+/// Uses `promises::run` (`headline`).
+pub fn nine_among_searches<A: Allocator + Clone>(
+    alloc: A,
+    procedure: Jamboree,
+    config: Config,
+    steps: &[Step<Jamboree>],
+) -> Result<After<Jamboree, A>, AllocError>
+    requires { AreSearches steps.now }
+    ensures state { IfOk result (λ run. tenant_in run.core.shared.tenants 9 ≡ alone (jamboree procedure.grain) (own_steps 9 steps.now run.answers.items)) }
+    ensures told { IfOk result (λ run. own_answers 9 steps.now run.answers.items ≡ answers_from (jamboree procedure.grain) None (own_steps 9 steps.now run.answers.items)) }
+    ensures left { IfOk result (λ run. run.core.shared ≡ after_answers (jamboree procedure.grain) (shared_by_nobody config) steps.now run.answers.items) }
+    ensures frames { IfOk result (λ run. (tenant : Tenant) → tenant_in run.core.shared.tenants 9 ≡ Some tenant → AreAllSound tenant.frames tenant.frames) }
+{
+    run(alloc, procedure, config, steps)
+}
+
+/// A list of eight steps of searches has eight answers, and one of some length has as many.
+/// Uses `promises::run` (`answered`).
+pub fn eight_answers<A: Allocator + Clone>(
+    alloc: A,
+    procedure: Jamboree,
+    config: Config,
+    steps: &[Step<Jamboree>],
+) -> Result<After<Jamboree, A>, AllocError>
+    requires { AreSearches steps.now }
+    ensures { IfOk result (λ run. (count : ℕ) → length steps.now ≡ count + 8 → length run.answers.items ≡ count + 8) }
+{
+    run(alloc, procedure, config, steps)
+}
+
+/// In a list of searches worker 5's Steal for tenant 7 is refused as tenant 7 alone would refuse it; or with Busy, and
+/// then there is another tenant for which worker 5 runs or computes a frame.
+/// Uses `promises::run` (`refused`).
+pub fn refused_among_searches<A: Allocator + Clone>(
+    alloc: A,
+    procedure: Jamboree,
+    config: Config,
+    steps: &[Step<Jamboree>],
+) -> Result<After<Jamboree, A>, AllocError>
+    requires { AreSearches steps.now }
+    ensures { IfOk result (λ run. (before later : List SearchStep) (said more : List (Result (DidOf Leaf) Refusal)) (home serial : ℕ) (refusal : Refusal) →
+        steps.now ≡ before ++ Steal 5 home (record { tenant = 7; serial = serial }) ∷ later → run.answers.items ≡ said ++ Err refusal ∷ more → length said ≡ length before →
+        (lone_refusal (jamboree procedure.grain) (alone (jamboree procedure.grain) (own_steps 7 before said)) (Steal 5 home (record { tenant = 7; serial = serial })) ≡ Some refusal)
+        ⊎ ((refusal ≡ Busy) × (another : ℕ) × (another ≢ 7) × (tenant : Tenant) × (alone (jamboree procedure.grain) (own_steps another before said) ≡ Some tenant) × (is_busy_in 5 tenant.frames ≡ true))) }
 {
     run(alloc, procedure, config, steps)
 }

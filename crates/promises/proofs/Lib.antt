@@ -3,3 +3,4 @@ pub mod Answered
 pub mod Isolation
 pub mod Refused
 pub mod HallLemmas
+mod SearchLists

@@ -6,7 +6,7 @@
 //!
 //! - **Isolation**: [`run_two`], for any procedure. [`same_journals`]: the same for a hall, which is under the server's lock.
 //! - **Answers** and **refusals**: [`run_any`], for any procedure.
-//! - **Values**: [`run`], for searches. [`value_in`], [`entry_in`]: what a hall tells of a completed job.
+//! - **Values**: [`run`], for searches: isolation, refusals and minimax values of one run. [`value_in`], [`entry_in`]: what a hall tells of a completed job.
 //! - **Sessions**: [`serve`], from its bytes to its bytes. **`solve`**: [`solve`].
 //! - **Customers**: `site_book::no_customer_is_disturbed`.
 //!
@@ -17,12 +17,12 @@
 //! ```
 #![tactic(auto)]
 
-ghost use Rattle.std.specs.Prelude.{◌≡◌, ◌≤◌, ℕ, Some, IfOk, IfSome, length};
-ghost use Rattle.sched_rules.specs.Trees.{Tenant};
+ghost use Rattle.std.specs.Prelude.{◌≡◌, ◌≤◌, ℕ, IfOk, IfSome, length};
 ghost use Rattle.sched_rules.specs.Cores.{shared_by_nobody, tenant_in};
 ghost use Rattle.sched_rules.specs.Headline.{IsHeadline, own_answers};
-ghost use Rattle.jamboree_core.specs.Replies.{AreReplies, AreSearches};
-ghost use Rattle.jamboree_core.specs.NewRuns.{submitted_by, IsHeadlineFromNew};
+ghost use Rattle.jamboree_core.specs.jamboree_rules.Procedure.{jamboree};
+ghost use Rattle.jamboree_core.specs.Replies.{AreSearches};
+ghost use Rattle.jamboree_core.specs.NewRuns.{IsHeadlineFromNew};
 ghost use Rattle.hall.specs.Journals.{journal_in};
 ghost use Rattle.desk_office.specs.Answers.{SeenSession};
 ghost use Rattle.solve_engine.specs.Solving.{SolvedRun};
@@ -140,9 +140,12 @@ fn searched<A: Allocator + Clone>(
 }
 
 /// Offers a list of steps, by any workers for any tenants, to a new core with these totals. Each Submit of the list
-/// asks for a search. Each completed job of any tenant then holds the reply to the words of the Submit of its number:
-/// the minimax value, the best choice and a true table of the board and the depth there. Nothing is promised of an
-/// `AllocError`.
+/// asks for a search. Each tenant is what its own taken steps make of it, as if no other tenant were there, and the core
+/// is in the state to which all steps lead. Each completed job of any tenant holds the reply to the words of the Submit
+/// of its number: the minimax value, the best choice and a true table of the board and the depth there. Each frame is
+/// sound, whatever the order of spawns, steals, inlets and aborts (`headline`). There is one answer for each step
+/// (`answered`). A step that is no Admit or AdmitMore is refused only because of its own tenant's state, or with Busy
+/// because the worker that it needs is busy with another tenant (`refused`). Nothing is promised of an `AllocError`.
 pub fn run<A: Allocator + Clone>(
     alloc: A,
     procedure: Jamboree,
@@ -150,7 +153,9 @@ pub fn run<A: Allocator + Clone>(
     steps: &[Step<Jamboree>],
 ) -> Result<After<Jamboree, A>, AllocError>
     requires { AreSearches steps.now }
-    ensures { IfOk result (λ run. (number : ℕ) (tenant : Tenant) → tenant_in run.core.shared.tenants number ≡ Some tenant → AreReplies (submitted_by steps.now run.answers.items number) tenant.jobs) }
+    ensures headline { IfOk result (λ run. IsHeadlineFromNew procedure.grain config steps.now run.answers.items run.core.shared) }
+    ensures answered { IfOk result (λ run. length run.answers.items ≡ length steps.now) }
+    ensures refused { IfOk result (λ run. AreRefusedForThese (jamboree procedure.grain) steps.now run.answers.items) }
 {
     searched(alloc, procedure, config, steps)
 }

@@ -1,5 +1,9 @@
 use Rattle.promises.proofs.Answered.{if-ok}
+use Rattle.promises.proofs.SearchLists.{as-many-answers, refused-of-searches}
 use Rattle.promises.proofs.run.Goals as goal
 
-pub returns : goal.returns
-returns g c = if-ok c.searched.result (λ run whole. whole.replies) c.searched.ensures
+pub returns-clause-answered : goal.returns-clause-answered
+returns-clause-answered g c = if-ok c.searched.result (λ run whole. as-many-answers _ _ _ _ _ whole) c.searched.ensures
+
+pub returns-clause-refused : goal.returns-clause-refused
+returns-clause-refused g c = if-ok c.searched.result (λ run whole. refused-of-searches _ _ _ _ _ whole) c.searched.ensures

@@ -4,6 +4,6 @@ use Rattle.promise_uses.proofs.runs.table_of_nine.Goals as goal
 
 pub returns : goal.returns
 returns g c =
-    if-ok c.run.result (λ run replies tenant words there done.
-    let has = reply-at _ tenant.jobs 5 words (replies 9 tenant there) done in
-    (has.origin, has.at, has.reply.table.each, has.reply.table.holds, has.reply.table.best)) c.run.ensures
+    if-ok c.run.result (λ run headline tenant words there done.
+    let has = reply-at _ tenant.jobs 5 words (headline.replies 9 tenant there) done in
+    (has.origin, has.at, has.reply.table.each, has.reply.table.holds, has.reply.table.best)) c.run.ensures.headline

@@ -4,7 +4,7 @@ use Rattle.promise_uses.proofs.runs.words_of_seven.Goals as goal
 
 pub returns : goal.returns
 returns g c =
-    if-ok c.run.result (λ run replies tenant words there done.
-    let has = reply-at _ tenant.jobs 3 words (replies 7 tenant there) done in
+    if-ok c.run.result (λ run headline tenant words there done.
+    let has = reply-at _ tenant.jobs 3 words (headline.replies 7 tenant there) done in
     let is = has.reply in
-    (has.origin, has.at, is.own, is.opp, is.depth, is.value, is.choice, is.table)) c.run.ensures
+    (has.origin, has.at, is.own, is.opp, is.depth, is.value, is.choice, is.table)) c.run.ensures.headline
