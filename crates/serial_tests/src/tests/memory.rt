@@ -6,6 +6,7 @@ mod cores;
 mod frames;
 mod growths;
 mod halls;
+mod nodes;
 mod plain_core;
 mod sizes;
 mod storage;

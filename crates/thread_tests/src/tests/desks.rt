@@ -1,15 +1,17 @@
 //! A desk in one thread and in several. Each test tries something at a desk of its own.
 ghost use Rattle.std.specs.Prelude.{◌≡◌};
 
+mod four;
 mod holds;
+mod late;
 mod waiting;
 mod wakes;
 
 use super::calls::{At, Found, Turn, end, hall_of, left_of, opening};
 use super::{holds, holds_of};
 use desk::{
-    Badge, Desk, DeskLedger, DidOf, Hall, Jamboree, LeafAnswer, Opened, PARTS, Refusal, Seat, Step,
-    Worker,
+    Badge, Desk, DeskLedger, DidOf, Hall, Jamboree, Leaf, LeafAnswer, Opened, PARTS, Refusal, Seat,
+    Step, Worker,
 };
 use frame_table::FrameId;
 use std::alloc::Global;
@@ -26,6 +28,10 @@ use waiting::{What, Who};
 enum Trial {
     /// One seat, and one badge for its worker: whether the desk is closed before they come.
     One(bool),
+    /// Four seats in four threads, each with a badge of its own.
+    Four,
+    /// An answer that comes once its seat has left, or has cancelled the job, and the number that refuses it.
+    Late(bool, u8),
     /// So many wait at once, and this comes to them.
     Crowd(Who, u64, What),
 }
@@ -62,6 +68,8 @@ where
 {
     match trial {
         Trial::One(is_closed) => one_stays(rt, desk, is_closed),
+        Trial::Four => four::four_stay(rt, desk),
+        Trial::Late(leaves, number) => late::comes_late(rt, desk, leaves, number),
         Trial::Crowd(who, many, what) => waiting::come_back_there(rt, &desk, who, many, what),
     }
 }
@@ -100,12 +108,18 @@ enum Said {
 }
 
 impl<L: DeskLedger, R: Wait> At<'_, L, R> {
+    /// What a worker is to compute for the job under this root, after the two steps that begin it.
+    fn begin(&self, badge: &mut Badge<L>, worker: Worker, root: FrameId) -> Option<Leaf> {
+        let _took = self.offer(badge, worker, root, Turn::Steal(0)).ok()?;
+        match self.offer(badge, worker, root, Turn::Advance) {
+            Ok(DidOf::Computing(leaf)) => Some(leaf),
+            _ => None,
+        }
+    }
+
     /// Which job is done by the five steps of a worker that compute and finish the job under this root.
     fn compute(&self, badge: &mut Badge<L>, worker: Worker, root: FrameId) -> Option<u64> {
-        let _took = self.offer(badge, worker, root, Turn::Steal(0)).ok()?;
-        let Ok(DidOf::Computing(leaf)) = self.offer(badge, worker, root, Turn::Advance) else {
-            return None;
-        };
+        let leaf = self.begin(badge, worker, root)?;
         for turn in [Turn::Answer(LeafAnswer::compute(leaf)), Turn::Advance] {
             let _did = self.offer(badge, worker, root, turn).ok()?;
         }
@@ -153,10 +167,10 @@ impl<L: DeskLedger, R: Wait + Abort> At<'_, L, R> {
         }
     }
 
-    /// A worker does the first job, the opening at depth 0, and the seat that waited for it has its reply.
-    fn do_first(&self, seat: &Seat<L>, badge: &mut Badge<L>) {
+    /// The worker of this number does the first job, the opening at depth 0, and the seat that waited for it has its reply.
+    fn do_first(&self, seat: &Seat<L>, badge: &mut Badge<L>, number: u8) {
         let root = root_of(seat.tenant(), 1);
-        let done = self.compute(badge, worker_of(self.rt, 1), root);
+        let done = self.compute(badge, worker_of(self.rt, number), root);
         holds(self.rt, done == Some(1) && badge.share() == 5);
         holds(self.rt, self.wait(seat, 1) == Found::Done(0, None));
     }
@@ -174,31 +188,31 @@ impl<L: DeskLedger, R: Wait + Abort> At<'_, L, R> {
         if is_closed {
             self.talks(&mut seat, &[Said::NoneReady, Said::Wait(1, Found::Pending)]);
         }
-        self.do_first(&seat, &mut badge);
+        self.do_first(&seat, &mut badge, 1);
         self.talks(&mut seat, &FIRST_IS_DONE);
+        self.talks(&mut seat, &[Said::Count(7)]);
         self.talks(&mut seat, &SECOND_IS_CANCELLED);
+        self.talks(&mut seat, &[Said::Count(9)]);
         self.leave(seat);
         badge
     }
 }
 
 /// The seat's first job, which is done.
-const FIRST_IS_DONE: [Said; 4] = [
+const FIRST_IS_DONE: [Said; 3] = [
     Said::Left(4, 7, 123),
     Said::Share(2, 1),
     Said::Cancel(1, Err(Refusal::NoJob)),
-    Said::Count(7),
 ];
 
 /// The seat's second job, which is cancelled.
-const SECOND_IS_CANCELLED: [Said; 7] = [
+const SECOND_IS_CANCELLED: [Said; 6] = [
     Said::Ask(0, Ok(2)),
     Said::Live(1, 12),
     Said::Cancel(2, Ok(())),
     Said::Get(2, Found::Cancelled),
     Said::Left(4, 6, 123),
     Said::Share(4, 2),
-    Said::Count(9),
 ];
 
 /// One seat, and one badge for its worker. At the end the hall has taken ten steps, keeps five, and let ten go with

@@ -97,6 +97,37 @@ fn example_of_the_crate(rt: HostRuntime) {
     abort_the_example(&rt, &mut table, root);
 }
 
+/// Frames 2, 3 and 4 under frame 1, and frame 5 under 3.
+fn add_five(rt: &impl Abort, table: &mut FrameTable<u64>) {
+    for (serial, parent) in [(2u64, 1u64), (3, 1), (4, 1), (5, 3)] {
+        add(rt, table, name(7, serial), Some(name(7, parent)));
+    }
+}
+
+/// Whether an abort at a frame that is there takes these values.
+fn takes(rt: &impl Abort, table: &mut FrameTable<u64>, f: FrameId, values: &[u64]) -> bool {
+    holds(rt, table.contains(f));
+    table.remove_under(f) == values
+}
+
+/// Whether of five frames the first alone is there, without a child.
+fn is_alone(table: &FrameTable<u64>) -> bool {
+    let gone = !table.contains(name(7, 2)) && !table.contains(name(7, 5));
+    gone && table.frame_count(7) == 1 && table.contains(name(7, 1)) && !table.has_child(name(7, 1))
+}
+
+/// An abort at the root of five takes the values of the four below, and the root stays; one at frame 4, which has no
+/// child, takes nothing.
+#[test]
+fn an_abort_at_the_root_of_five_leaves_it(rt: HostRuntime) {
+    let mut table: FrameTable<u64> = table_of(&rt, rt.alloc(), 7, 5);
+    add(&rt, &mut table, name(7, 1), None);
+    add_five(&rt, &mut table);
+    holds(&rt, takes(&rt, &mut table, name(7, 4), &[]));
+    holds(&rt, takes(&rt, &mut table, name(7, 1), &[20, 30, 40, 50]));
+    holds(&rt, is_alone(&table));
+}
+
 /// A leaf goes that has ten times its serial as its value.
 fn remove_leaf<A: Allocator>(rt: &impl Abort, table: &mut FrameTable<u64, A>, f: FrameId) {
     holds(rt, table.contains(f) && !table.has_child(f));

@@ -122,20 +122,74 @@ fn reserves(
     book.reserve(tenant, reserve_of(rt, segments, 8))
 }
 
-/// Two tenants reserve all segments, and a third none. What the first is charged, the second has left.
+/// A tenant that isn't there reserves a segment and a node.
+fn reserves_one(rt: &impl Abort, book: &mut Book, tenant: u64) -> Result<(), QuotaRefusal> {
+    holds(rt, book.left(tenant).is_none());
+    book.reserve(tenant, reserve_of(rt, 1, 1))
+}
+
+/// A tenant that is there is charged so many segments and nodes.
+fn charges(
+    rt: &impl Abort,
+    book: &mut Book,
+    tenant: u64,
+    segments: u32,
+    nodes: u32,
+) -> Result<(), QuotaRefusal> {
+    holds(rt, book.left(tenant).is_some());
+    book.charge(tenant, segments, nodes)
+}
+
+/// A tenant that is there takes a step.
+fn ticks(rt: &impl Abort, book: &mut Book, tenant: u64) -> Result<(), QuotaRefusal> {
+    holds(rt, book.left(tenant).is_some());
+    book.tick(tenant)
+}
+
+/// So many segments come back that a tenant was charged.
+fn gives_back(rt: &impl Abort, book: &mut Book, tenant: u64, segments: u32) {
+    let left = book.left(tenant).expect(rt, "the tenant is there");
+    let reserved = book.reserved(tenant).expect(rt, "the tenant is there");
+    holds(rt, left.segments <= reserved.segments());
+    holds(rt, segments <= reserved.segments() - left.segments);
+    book.give_back(tenant, segments);
+}
+
+/// A tenant that is there leaves.
+fn releases(rt: &impl Abort, book: &mut Book, tenant: u64) {
+    holds(rt, book.left(tenant).is_some());
+    book.release(tenant);
+}
+
+/// Two tenants reserve all segments, and a third none, which is refused by 1.
+fn share(rt: &impl Abort, book: &mut Book) {
+    holds(rt, reserves(rt, book, 1, 5) == Ok(()));
+    holds(rt, reserves(rt, book, 2, 3) == Ok(()));
+    holds(rt, reserves_one(rt, book, 3) == Err(QuotaRefusal::Full));
+    holds(rt, QuotaRefusal::Full.number() == 1);
+}
+
+/// The first is charged no more than it has, which is refused by 2, and takes a step; its segments come back.
+fn use_up(rt: &impl Abort, book: &mut Book) {
+    holds(rt, charges(rt, book, 1, 6, 0) == Err(QuotaRefusal::Short));
+    holds(rt, QuotaRefusal::Short.number() == 2);
+    holds(rt, charges(rt, book, 1, 5, 1) == Ok(()));
+    holds(rt, book.left(1) == Some(left_of(0, 7, 128)));
+    holds(rt, ticks(rt, book, 1) == Ok(()));
+    holds(rt, book.left(1) == Some(left_of(0, 7, 127)));
+    gives_back(rt, book, 1, 5);
+    holds(rt, book.left(1) == Some(left_of(5, 7, 127)));
+}
+
+/// What the first is charged, the second has left. Once the second has left, there is room for a third.
 #[test]
 fn two_tenants_share_a_book(rt: HostRuntime) -> Result<(), Fail> {
     let mut book = Book::new(rt.alloc(), 8, 32)?;
-    holds(&rt, reserves(&rt, &mut book, 1, 5) == Ok(()));
-    holds(&rt, reserves(&rt, &mut book, 2, 3) == Ok(()));
-    holds(
-        &rt,
-        reserves(&rt, &mut book, 3, 1) == Err(QuotaRefusal::Full),
-    );
-    holds(&rt, book.left(1).is_some());
-    holds(&rt, book.charge(1, 5, 1) == Ok(()));
-    holds(&rt, book.left(1) == Some(left_of(0, 7, 128)));
+    share(&rt, &mut book);
+    use_up(&rt, &mut book);
     holds(&rt, book.left(2) == Some(left_of(3, 8, 128)));
+    releases(&rt, &mut book, 2);
+    holds(&rt, reserves_one(&rt, &mut book, 3) == Ok(()));
     Ok(())
 }
 
