@@ -1,5 +1,5 @@
-//! Each law of `promises` at work: on tenants 7 and 9, their jobs 3 and 5, worker 5, the third entry of a table, the
-//! second line, a failed write.
+//! Each law of `promises`, and of a site's crates, at work: on tenants 7 and 9, their jobs 3 and 5, worker 5, the third entry of a table,
+//! the second line, a failed write, any customer and any guest.
 //!
 //! Each function's comment says which clause it uses; the check of the documents refuses a clause of a page that none uses.
 //!
@@ -9,8 +9,10 @@
 //! suffices.
 #![tactic(auto)]
 
+mod comings;
 mod customers;
 mod desks;
+mod directories;
 mod halls;
 mod isolation;
 mod runs;
@@ -18,7 +20,9 @@ mod seen;
 mod sessions;
 mod solving;
 mod soundness;
+mod turns;
 
+pub use comings::{when_they_have_gone, who_enters, who_goes_for_another, who_has_no_room};
 pub use customers::{
     a_customer_and_the_guests, a_customer_at_its_limits, a_guest_at_its_limits, nobody_is_left,
     plans_that_come_in, room_for_all, within_all_budgets,
@@ -27,6 +31,7 @@ pub use desks::{
     a_new_seat, job_three_of_nine, live_of_nine, nine_asks, nine_asks_in_vain, nine_cancels,
     nine_leaves, nine_reserves, quota_of_nine, two_sessions,
 };
+pub use directories::{lines_at_a_rate, what_is_accepted};
 pub use halls::{entry_of_nine, seven_and_nine, seven_cancels, value_of_nine, value_of_seven};
 pub use isolation::seven_in_a_running_core;
 pub use runs::{
@@ -37,3 +42,4 @@ pub use seen::{a_spent_ask, hello_and_bye, quota_after_hello};
 pub use sessions::third_answer;
 pub use solving::three_lines;
 pub use soundness::third_frame_of_nine;
+pub use turns::{when_it_is_picked_again, when_the_least_is_picked};

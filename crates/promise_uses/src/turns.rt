@@ -1,0 +1,38 @@
+//! When it is somebody's turn, at any place of any group: of one that was served least, and of one that was served at most so much more.
+ghost use Rattle.std.specs.Prelude.{◌≡◌, ◌+◌, ◌<◌, ◌≤◌, ℕ, List, count_by, true};
+ghost use Rattle.fair_pool.specs.declared.account.ShareAccount.{ShareAccount};
+ghost use Rattle.fair_pool.specs.Accounts.{is_rival};
+ghost use Rattle.fair_pool.specs.Lines.{LineOf, IsNextAccount, account_at, charged};
+ghost use Rattle.fair_pool.specs.Waits.{LineEvent, Waits, IsEach, IsLeast, IsLed, is_ahead, is_member, picks_in, tasks_in, arrivals_in};
+
+use fair_pool::laws::{who_is_least_is_picked_soon, who_is_ready_is_picked};
+
+/// Who was served least is the first that is picked where no other is before it. Behind two others it is picked third at the latest, and
+/// where of 128 tasks one is a pick, fewer than 384 tasks are done until then. Uses `fair_pool::who_is_least_is_picked_soon` (`picks`,
+/// `tasks`).
+pub fn when_the_least_is_picked()
+    ensures first { (group place : ℕ) (line : LineOf) (account : ShareAccount) (events : List LineEvent) → IsLeast group place line account → Waits group place line events →
+        count_by (is_ahead group account) line.accounts ≡ 1 → picks_in events ≤ 0 }
+    ensures third { (group place : ℕ) (line : LineOf) (account : ShareAccount) (events : List LineEvent) → IsLeast group place line account → Waits group place line events →
+        count_by (is_ahead group account) line.accounts ≡ 3 → picks_in events ≤ 2 }
+    ensures tasks { (group place : ℕ) (line : LineOf) (account : ShareAccount) (events : List LineEvent) → IsLeast group place line account → Waits group place line events →
+        IsEach 128 0 events → count_by (is_ahead group account) line.accounts ≡ 3 → tasks_in events < 384 }
+{
+    who_is_least_is_picked_soon()
+}
+
+/// Who was served at most 5 more than others is picked again after 12 picks, where two others are there or come, and where of 128 tasks one
+/// is a pick, fewer than 1664 tasks are done until then; who is alone is the next that is picked. And who was picked is ahead by what its
+/// task cost. Uses `fair_pool::who_is_ready_is_picked` (`picks`, `tasks`, `lead`).
+pub fn when_it_is_picked_again()
+    ensures alone { (group place lead : ℕ) (line : LineOf) (account : ShareAccount) (events : List LineEvent) → IsLed group place lead line account → Waits group place line events →
+        count_by (is_member group) line.accounts + arrivals_in group events ≡ 1 → picks_in events ≤ 0 }
+    ensures again { (group place : ℕ) (line : LineOf) (account : ShareAccount) (events : List LineEvent) → IsLed group place 5 line account → Waits group place line events →
+        count_by (is_member group) line.accounts + arrivals_in group events ≡ 3 → picks_in events ≤ 12 }
+    ensures tasks { (group place : ℕ) (line : LineOf) (account : ShareAccount) (events : List LineEvent) → IsLed group place 5 line account → Waits group place line events →
+        count_by (is_member group) line.accounts + arrivals_in group events ≡ 3 → IsEach 128 0 events → tasks_in events < 1664 }
+    ensures lead { (group place amount other : ℕ) (line : LineOf) → IsNextAccount group line.accounts place → is_rival group (account_at line.accounts other) ≡ true →
+        (account_at (charged place amount line).accounts place).served ≤ (account_at (charged place amount line).accounts other).served + amount }
+{
+    who_is_ready_is_picked()
+}
