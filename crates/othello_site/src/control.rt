@@ -60,11 +60,9 @@ fn reloaded<R: Paths + AllocGlobal + Clock + Wait>(
 fn drain<R: AllocGlobal + Clock + Wait>(
     rt: &R,
     shared: &Shared,
-    seconds: u32,
+    millis: u64,
 ) -> Result<String, AllocError> {
-    let until = shared
-        .now(rt)
-        .saturating_add(u64::from(seconds).saturating_mul(1_000));
+    let until = shared.now(rt).saturating_add(millis);
     shared.register(rt).draining = Some(until);
     String::from_str(rt.alloc(), "OK\n")
 }
@@ -156,7 +154,7 @@ fn answer<R: Paths + AllocGlobal + Clock + Wait>(
     match command {
         Command::Stats => stats_of(rt, shared),
         Command::End(whose) => end(rt, shared, whose),
-        Command::Drain(seconds) => drain(rt, shared, seconds),
+        Command::Drain(millis) => drain(rt, shared, millis),
         Command::Reload(ends) => reloaded(rt, shared, ends),
         Command::Unknown => String::from_str(rt.alloc(), USAGE),
     }

@@ -6,6 +6,7 @@ pub mod Arrivals
 pub mod Paces
 pub mod Watches
 pub mod Callers
+pub mod Commands
 pub mod Views
 pub mod Descriptors
 pub mod Reloads

@@ -1,4 +1,9 @@
 //! What a line of the operator asks.
+ghost use Rattle.std.specs.Prelude.{◌≡◌};
+ghost use Rattle.protocol.specs.Words.{split_at_space};
+ghost use Rattle.site_rules.specs.Commands.{bare_command, command_of, command_with, end_by, session_by};
+ghost use Rattle.site_rules.specs.Views.{command_seen};
+
 use protocol::{split_at_space, word_number};
 
 /// Whose sessions are meant.
@@ -19,16 +24,18 @@ pub enum Command<'a> {
     Stats,
     /// That these sessions end.
     End(Whose<'a>),
-    /// That nobody else comes, and that the site ends when all have left, at the latest after so many seconds.
-    Drain(u32),
+    /// That nobody else comes, and that the site ends when all have left, at the latest after so many milliseconds.
+    Drain(u64),
     /// That the site go by the file as it is now; or also that those end who are beyond it (true).
     Reload(bool),
     /// Nothing that is known.
     Unknown,
 }
 
-/// What a line asks.
-pub fn read_command(line: &[u8]) -> Command<'_> {
+/// What a line asks. A DRAIN has a number of seconds.
+pub fn read_command(line: &[u8]) -> Command<'_>
+    ensures { command_seen result ≡ command_of line.now }
+{
     match split_at_space(line) {
         None => bare_command(line),
         Some((word, rest)) => command_with(word, rest),
@@ -36,7 +43,9 @@ pub fn read_command(line: &[u8]) -> Command<'_> {
 }
 
 /// What a line of one word asks.
-fn bare_command<'a>(word: &[u8]) -> Command<'a> {
+fn bare_command<'a>(word: &[u8]) -> Command<'a>
+    ensures { command_seen result ≡ bare_command word.now }
+{
     if word == b"STATS".as_slice() {
         Command::Stats
     } else if word == b"RELOAD".as_slice() {
@@ -47,12 +56,14 @@ fn bare_command<'a>(word: &[u8]) -> Command<'a> {
 }
 
 /// What a line of more words asks.
-fn command_with<'a>(word: &[u8], rest: &'a [u8]) -> Command<'a> {
+fn command_with<'a>(word: &[u8], rest: &'a [u8]) -> Command<'a>
+    ensures { command_seen result ≡ command_with word.now rest.now }
+{
     if word == b"RELOAD".as_slice() && rest == b"END".as_slice() {
         Command::Reload(true)
     } else if word == b"DRAIN".as_slice() {
         match word_number(rest) {
-            Some(seconds) => Command::Drain(seconds),
+            Some(seconds) => Command::Drain(u64::from(seconds) * 1_000),
             None => Command::Unknown,
         }
     } else if word == b"END".as_slice() {
@@ -63,7 +74,9 @@ fn command_with<'a>(word: &[u8], rest: &'a [u8]) -> Command<'a> {
 }
 
 /// Whose sessions are to end.
-fn end_of(rest: &[u8]) -> Command<'_> {
+fn end_of(rest: &[u8]) -> Command<'_>
+    ensures { command_seen result ≡ end_by (split_at_space rest.now) }
+{
     let Some((kind, name)) = split_at_space(rest) else {
         return Command::Unknown;
     };
@@ -79,7 +92,9 @@ fn end_of(rest: &[u8]) -> Command<'_> {
 }
 
 /// The session of a hall's number and its own: `HALL NUMBER`.
-fn session_of(name: &[u8]) -> Command<'_> {
+fn session_of(name: &[u8]) -> Command<'_>
+    ensures { command_seen result ≡ session_by (split_at_space name.now) }
+{
     let Some((hall, number)) = split_at_space(name) else {
         return Command::Unknown;
     };

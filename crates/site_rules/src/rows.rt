@@ -8,6 +8,7 @@ ghost use Rattle.site_rules.specs.Paces.{time_left};
 ghost use Rattle.site_rules.specs.Watches.{watch_after, is_gone};
 ghost use Rattle.site_rules.specs.declared.arrivals.Arrival.TheVariants.{Counted, Heard, Closed};
 ghost use Rattle.site_rules.specs.declared.watches.ClientState.TheVariants.{Silent, Ended, Lost};
+ghost use Rattle.site_rules.specs.Commands.{command_of, Customer, Address, Session, Stats, End, Drain, Reload, Unknown as not_known};
 ghost use Rattle.site_rules.specs.Fields.{field_of};
 ghost use Rattle.site_rules.specs.Headers.{signature, local_header, reading};
 ghost use Rattle.site_rules.specs.Texts.{Told, Unknown, text_reading, IsReading};
@@ -119,4 +120,17 @@ pub fn texts_are_read()
     ensures greater_port { IsReading (codes "PROXY TCP4 10.0.0.1 127.0.0.2 65536 1" ++ 13 ∷ 10 ∷ []) (Err WrongText) }
     ensures long { IsReading (codes "PROXY " ++ replicate 101 65) (Err WrongText) }
     ensures version_2 { IsReading (take 5 signature) (Ok None) }
+{}
+
+/// Commands of the operator.
+pub fn commands_are_read()
+    ensures stats { command_of (codes "STATS") ≡ Stats }
+    ensures customer { command_of (codes "END CUSTOMER school") ≡ End (Customer (codes "school")) }
+    ensures address { command_of (codes "END ADDRESS 10.0.0.1") ≡ End (Address (codes "10.0.0.1")) }
+    ensures session { command_of (codes "END SESSION 2 7") ≡ End (Session 2 7) }
+    ensures no_session { command_of (codes "END SESSION 2") ≡ not_known }
+    ensures drain { command_of (codes "DRAIN 30") ≡ Drain 30000 }
+    ensures reload { command_of (codes "RELOAD") ≡ Reload false }
+    ensures reload_and_end { command_of (codes "RELOAD END") ≡ Reload true }
+    ensures lower_case { command_of (codes "stats") ≡ not_known }
 {}
