@@ -1,11 +1,33 @@
 -- What all frames are charged is within the sizes of their roots.
-use Rattle.sched_laws.proofs.Common.{◌≡◌, inl, inr, ℕ, ◌+◌, ◌≤◌, Bool, true, false, if◌then◌else◌, List, [], ◌∷◌, Option, Some, None, length, refl, ap, sym, ◌∙◌, subst, arith, eqb, filter, cases_Bool, eqb-true, eq-eqb, sum_by-cons, charge, frame_at, parent_of, children_of, values_of, IsTree, is_child_of, is_that, Each, found-each, found-serial, tree-rising, children-by-paths, Tree, Tenant, words_in, sight, charged_for, Fitting, Rooting, mark_of_state, ParentFits, IsShaped, TenantFits}
+use Rattle.sched_laws.proofs.Common.{◌≡◌, inl, inr, ℕ, ◌+◌, ◌≤◌, true, false, if◌then◌else◌, List, [], ◌∷◌, Option, Some, None, length, refl, ap, sym, ◌∙◌, arith, filter, cases_Bool, eqb-true, eq-eqb, sum_by-cons, charge, frame_at, parent_of, values_of, IsTree, is_child_of, is_that, Each, found-each, found-serial, tree-rising, children-by-paths, Tree, Tenant, sight, charged_for, Fitting, Rooting, mark_of_state, ParentFits, IsShaped, TenantFits}
 use Rattle.std.specs.Prelude.{sum_by}
 use Rattle.sched_laws.proofs.Holds.{Lists, F, kids, fits-holds, found-own}
 use Rattle.sched_laws.proofs.Fits.{words-found, kept-above, has-origin}
 use Rattle.jamboree_core.proofs.Weights.{sum-less, sum-member, parent-under, sight-parent}
-use Rattle.jamboree_core.specs.Weights.{Weight, parent_words, weight_among, nearest_words}
-use Rattle.jamboree_core.specs.Charges.{sizes_of, CoversSizes, size_by, root_sizes}
+use Rattle.jamboree_core.specs.Weights.{Weight, parent_words, weight_among}
+use Rattle.jamboree_core.proofs.Weights.{nearest_words}
+use Rattle.sched_rules.specs.Laws.{Mark}
+
+-- the sizes of children under these words, together
+abbrev pub sizes_of : Weight → List ℕ → List (List ℕ) → ℕ
+sizes_of size own children = sum_by (λ child. size child (Some own)) children
+
+-- each frame that fits has room in its size for its own segments, and for the sizes of its children
+abbrev pub CoversSizes : Fitting → Rooting → Weight → Type 0
+CoversSizes fits rooted size =
+    (origin own : List ℕ) (above older younger children : List (List ℕ)) (mark : Mark) →
+    fits own children mark →
+    ParentFits fits rooted origin above older own younger →
+    charge (length own) + sizes_of size own children ≤ size own (nearest_words above)
+
+-- the size of a root; 0 for a frame with a parent
+abbrev pub size_by : Weight → List ℕ → Option ℕ → ℕ
+size_by size words None = size words None
+size_by size words (Some parent) = 0
+
+-- the sizes of the roots of a tree together
+abbrev pub root_sizes : Weight → Tree → ℕ
+root_sizes size tree = sum_by (λ frame. size_by size frame.value (parent_of frame.path)) tree
 
 -- the sum of two sums
 sum-plus : (a b : F → ℕ) (xs : Tree) → sum_by (λ x. a x + b x) xs ≡ sum_by a xs + sum_by b xs

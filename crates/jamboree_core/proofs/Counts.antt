@@ -1,19 +1,34 @@
 -- Frames have places for the choices of their boards, whatever the order of steps.
-use Rattle.jamboree_core.proofs.Common.{◌≡◌, ◌≢◌, ℕ, inl, inr, Bool, true, false, List, [], ◌∷◌, ◌++◌, length, refl, ap, sym, ◌∙◌, subst, ◌+◌, ◌<◌, ◌≤◌, ◌==◌, arith, replicate, neg_ℤ, int_le, int_lt, padded, stored, grown, cells_of, Act, Continuation, Grow, Spawn, Go, Wait, Compute, Return, Neither, Computes, HasReturned, ParentFits, Lists, next_act, inlet_act, accepts, seen, changes_of, AreFitting, IsRoot, jamboree, Leaf, LeafAnswer, Change, OwnBits, OppBits, Phase, Spawned, Status, pairs_of, frame_of, floor, rest_at, first_search, tests, next-keeps, inlet-keeps, accept-keeps, IsLawful, Job, Live, Done, Spent as SpentJob, Cancelled as CancelledJob, JobsFit, Tree, Tenant, TenantFits, TenantSearches, board}
-use Rattle.std.specs.Prelude.{suc, pos, ◌+ℤ◌}
+use Rattle.jamboree_core.proofs.Common.{◌≡◌, ◌≢◌, ℕ, Bool, true, false, List, [], ◌∷◌, length, refl, sym, ◌∙◌, subst, ◌+◌, ◌<◌, ◌≤◌, arith, neg_ℤ, padded, stored, grown, cells_of, Act, Continuation, Grow, Spawn, Go, Wait, Compute, Return, Neither, ParentFits, Lists, next_act, AreFitting, IsRoot, jamboree, Change, OwnBits, OppBits, Phase, Spawned, Status, pairs_of, frame_of, floor, rest_at, next-keeps, inlet-keeps, accept-keeps, IsLawful, Tenant, TenantFits, board}
+use Rattle.std.specs.Prelude.{pos, ◌+ℤ◌}
 use Rattle.sched_rules.specs.Laws.{AllFit, NextKeeps, InletKeeps, AcceptKeeps, NewChildFits}
 use Rattle.othello_moves.specs.Choices.{choices}
 use Rattle.jamboree_rules.specs.Acts.{spawns, opening}
 use Rattle.jamboree_rules.specs.Frames.{Frame}
 use Rattle.jamboree_rules.proofs.Forms.{IsFormed, formed-told, frame-stored, written}
-use Rattle.jamboree_rules.proofs.Steps.{rest-there}
-use Rattle.jamboree_core.proofs.OpenedWords.{opened-is}
+use Rattle.jamboree_rules.proofs.Steps.{rest-there, opened-is}
 use Rattle.jamboree_rules.proofs.Kinship.{with_place}
 use Rattle.jamboree_rules.proofs.Keeping.{StandsUnder, frame_by, frame_after, inlet-is, inlet-stores}
 use Rattle.jamboree_rules.proofs.ActCases.{by-acts}
 use Rattle.sched_rules.specs.declared.act.InletAct.{InletAct}
 use Rattle.jamboree_rules.proofs.Rooted.{answer-good, accepts-is, answered_frame}
-use Rattle.jamboree_core.specs.Sizes.{IsCounted, AreCounted, TenantCounts}
+use Rattle.sched_rules.specs.Laws.{Mark}
+use Rattle.jamboree_rules.specs.Frames.{role_root}
+
+-- a frame with places for choices has one for each choice of its board; its depth is above the grain, a root's above 0
+pub record IsCounted (grain : ℕ) (f : Frame) : Type 0 where
+  pub places : f.count ≢ 0 → f.count ≡ length (choices (board f))
+  pub deep : f.count ≢ 0 → 0 < f.depth
+  pub deeper : f.count ≢ 0 → f.role ≢ role_root → grain < f.depth
+
+-- a frame's words fit, and its places are counted
+pub record AreCounted (grain : ℕ) (words : List ℕ) (children : List (List ℕ)) (mark : Mark) : Type 0 where
+  pub fits : AreFitting words children mark
+  pub counted : IsCounted grain (frame_of words)
+
+-- a tenant's jobs are searches whose frames' places are counted
+abbrev pub TenantCounts : ℕ → List (List ℕ) → Tenant → Type 0
+TenantCounts grain origins tenant = TenantFits (AreCounted grain) IsRoot origins tenant
 
 -- a frame without places
 pub counted-none : (grain : ℕ) (f : Frame) → f.count ≡ 0 → IsCounted grain f

@@ -1,11 +1,13 @@
 -- What lasts over lists of steps: sixteen steps a node, and the nodes that were reserved.
-use Rattle.jamboree_core.proofs.Common.{◌≡◌, ◌≢◌, ℕ, false, List, [], ◌∷◌, ◌++◌, Option, Some, None, Result, Ok, Err, refl, ap, sym, ◌∙◌, subst, append_assoc, append-nil, arith, eqb, Refusal, NoTenant, OldTenant, StepOf, Submit, Admit, Functions, Tenant, admitted_with, Outcome, lone, lone_step, state_after, alone_from, submits, origins_of, LeftShaped, lone-shaped, LeftFits, step-fits, IsShaped, frame_at, F, Leaf, LeafAnswer, IsRoot, jamboree, IsSearch, AreSearches, StaysTaken, AreTakenFrom, IsJournalOf, RootFits, root_words, padded}
+use Rattle.jamboree_core.proofs.Common.{◌≡◌, ◌≢◌, ℕ, false, List, [], ◌∷◌, ◌++◌, Option, Some, None, Result, Ok, Err, refl, ap, sym, ◌∙◌, subst, append_assoc, append-nil, arith, eqb, Refusal, NoTenant, StepOf, Submit, Admit, Tenant, Outcome, lone, state_after, alone_from, submits, origins_of, LeftShaped, lone-shaped, LeftFits, step-fits, IsShaped, frame_at, F, Leaf, LeafAnswer, IsRoot, jamboree, IsSearch, AreSearches, StaysTaken, AreTakenFrom, IsJournalOf, RootFits, root_words, padded}
 use Rattle.jamboree_core.proofs.Replying.{search-fits}
 use Rattle.sched_rules.specs.Trees.{left}
-use Rattle.jamboree_rules.specs.Places.{frame_size, frame_of}
-use Rattle.jamboree_core.specs.Paces.{HasSteps, StillHasSteps, RootTurns}
+use Rattle.jamboree_rules.specs.Places.{frame_of}
+use Rattle.jamboree_core.specs.Paces.{HasSteps}
+use Rattle.jamboree_core.proofs.Paces.{StillHasSteps, RootTurns}
 use Rattle.jamboree_core.proofs.Paces.{step-turns, step-found}
-use Rattle.jamboree_core.specs.Turns.{extra_turns, AreRunning, TenantRuns, Runs}
+use Rattle.jamboree_core.specs.Turns.{extra_turns}
+use Rattle.jamboree_core.proofs.Runs.{AreRunning, TenantRuns}
 use Rattle.jamboree_core.proofs.Runs.{runs-lawful, runs-else}
 use Rattle.jamboree_core.proofs.SearchTurns.{search-turns, extra-few}
 

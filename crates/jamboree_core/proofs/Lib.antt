@@ -13,7 +13,6 @@ pub mod Answering
 pub mod Weights
 pub mod Paces
 pub mod Charges
-pub mod OpenedWords
 pub mod Needs
 pub mod NeedsBounds
 pub mod Sufficing

@@ -1,28 +1,24 @@
 -- What a search may still open is used up by its steps, whatever their order.
-use Rattle.jamboree_core.proofs.Common.{◌≡◌, ◌≢◌, ℕ, inl, inr, Bool, true, false, List, [], ◌∷◌, ◌++◌, Option, Some, None, length, refl, ap, sym, ◌∙◌, subst, ◌+◌, ◌-◌, ◌<◌, ◌≤◌, ◌==◌, ◌⊎◌, if◌then◌else◌, arith, cases_Bool, false≢true, eqb-true, replicate, slice_index, slice_set, neg_ℤ, negsuc, int_le, int_lt, ints, padded, stored, grown, Cell, cells_of, Act, Continuation, Grow, Spawn, Go, Wait, Compute, Return, Neither, Computes, HasReturned, ParentFits, Lists, next_act, inlet_act, accepts, seen, changes_of, changes_by, AreFitting, IsRoot, jamboree, Leaf, LeafAnswer, Change, OwnBits, OppBits, Phase, Spawned, Status, pairs_of, frame_of, board, floor, rest_at, changes_of_answer, first_search, tests}
-use Rattle.othello_moves.specs.declared.choices.Choice.TheVariants.{Pass}
-use Rattle.std.specs.Prelude.{zero, suc, slice_index_or, ℤ, pos, ◌+ℤ◌, ◌<ℤ◌, ◌≤ℤ◌, map}
+use Rattle.jamboree_core.proofs.Common.{◌≡◌, ◌≢◌, ℕ, inl, inr, Bool, true, false, List, [], ◌∷◌, ◌++◌, Option, Some, length, refl, ap, ◌∙◌, subst, ◌+◌, ◌-◌, ◌<◌, ◌≤◌, ◌==◌, ◌⊎◌, arith, cases_Bool, replicate, slice_index, slice_set, neg_ℤ, int_le, int_lt, ints, stored, grown, Cell, cells_of, Act, Continuation, Wait, Return, Neither, Computes, HasReturned, Lists, next_act, inlet_act, accepts, seen, changes_of, AreFitting, IsRoot, jamboree, LeafAnswer, Change, OwnBits, OppBits, Phase, Spawned, Status, pairs_of, frame_of, board, floor, rest_at, first_search, tests}
+use Rattle.std.specs.Prelude.{zero, suc, ℤ, pos, ◌+ℤ◌, ◌<ℤ◌, ◌≤ℤ◌}
 use Rattle.std.specs.Ordering.{int_eq}
-use Rattle.std.proofs.lemmas.Grind.{common_steps}
 use Rattle.std.proofs.lemmas.Int.{clamps}
 use Rattle.std.proofs.lemmas.Bool.{ne_eqb}
-use Rattle.std.proofs.lemmas.Bool.Decides.{nat_tests}
 use Rattle.std.proofs.Common.{⊎_elim}
 use Rattle.othello_moves.specs.Choices.{choices, after, plies}
 use Rattle.sched_rules.specs.declared.act.InletAct.{InletAct}
-use Rattle.jamboree_rules.specs.Acts.{spawns, opening, returns}
-use Rattle.jamboree_rules.specs.Frames.{Frame, choice_at, least, greatest}
-use Rattle.jamboree_rules.specs.Fits.{Fits, IsFirst, IsTest, IsAgain, IsInRole, IsChildOf, IsSearchingFrame}
-use Rattle.jamboree_rules.proofs.Forms.{IsFormed, IsFrame, IsInSearch, formed-told, frame-stored, written}
-use Rattle.jamboree_rules.proofs.Steps.{new_child, new_words, child-frame, frames, opened_changes, opened_frame, rest-there}
-use Rattle.jamboree_core.proofs.OpenedWords.{opened-is}
-use Rattle.jamboree_rules.proofs.Kinship.{in-search, taken_in, with_place}
+use Rattle.jamboree_rules.specs.Acts.{spawns, opening}
+use Rattle.jamboree_rules.specs.Frames.{Frame, choice_at, least}
+use Rattle.jamboree_rules.specs.Fits.{IsFirst, IsTest, IsAgain, IsChildOf, IsSearchingFrame}
+use Rattle.jamboree_rules.proofs.Forms.{IsFormed, formed-told, frame-stored, written}
+use Rattle.jamboree_rules.proofs.Steps.{new_child, new_words, child-frame, frames, opened_changes, rest-there, opened-is}
+use Rattle.jamboree_rules.proofs.Kinship.{in-search, with_place}
 use Rattle.jamboree_rules.proofs.Keeping.{StandsUnder, IsBoardOf, frame_by, frame_after, kin-of, inlet-is, inlet-stores, test-told, other-told}
 use Rattle.jamboree_rules.proofs.Searching.{not-le-told}
-use Rattle.jamboree_rules.proofs.ActCases.{HoldsOfActs, by-acts}
-use Rattle.jamboree_rules.proofs.Rooted.{answer-good, accepts-is, answered_frame}
-use Rattle.jamboree_core.specs.Weights.{nearest_words, weight_opened, KeepsChildren, UsesUp}
-use Rattle.jamboree_core.specs.Needs.{Cost, search_cost, again_cost, later_cost, later_costs, first_costs, choice_costs, IsEnough, root_cost, is_narrow, new_cost, frame_cost, still_opens}
+use Rattle.jamboree_rules.proofs.ActCases.{by-acts}
+use Rattle.jamboree_rules.proofs.Rooted.{answer-good, accepts-is}
+use Rattle.jamboree_core.proofs.Weights.{nearest_words, weight_opened, KeepsChildren, UsesUp}
+use Rattle.jamboree_core.specs.Needs.{Cost, search_cost, again_cost, later_cost, later_costs, first_costs, choice_costs, IsEnough, is_narrow, new_cost, frame_cost, still_opens}
 
 -- The costs of choices, where a status is set.
 

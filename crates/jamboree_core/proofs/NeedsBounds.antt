@@ -1,13 +1,11 @@
 -- A cost by plies and choices suffices, where no board has more choices.
-use Rattle.jamboree_core.proofs.Common.{◌≡◌, ◌≢◌, ℕ, inl, inr, Bool, true, false, List, [], ◌∷◌, length, refl, ap, sym, ◌∙◌, subst, ◌+◌, ◌-◌, ◌<◌, ◌≤◌, ◌==◌, if◌then◌else◌, arith, cases_Bool, false≢true, replicate, slice_index, Cell}
+use Rattle.jamboree_core.proofs.Common.{◌≡◌, ℕ, inl, inr, Bool, true, false, List, [], ◌∷◌, length, refl, ap, ◌∙◌, ◌+◌, ◌-◌, ◌<◌, ◌≤◌, arith, cases_Bool, replicate, Cell}
 use Rattle.std.specs.Prelude.{zero, suc, ◌*◌, slice_index_or, map}
-use Rattle.std.proofs.lemmas.Bool.Decides.{nat_tests}
-use Rattle.std.proofs.lemmas.Grind.{common_steps}
 use Rattle.othello_board.specs.Rules.{is_nil, exchanged, played}
 use Rattle.othello_moves.specs.declared.choices.Choice.{Choice}
 use Rattle.othello_moves.specs.declared.choices.Choice.TheVariants.{Square, Pass}
 use Rattle.othello_moves.specs.Choices.{choices, legal_squares, after, plies}
-use Rattle.jamboree_core.specs.Needs.{Cost, choice_of, search_cost, again_cost, later_cost, later_costs, first_costs, choice_costs, IsEnough, test_nodes, full_nodes, nodes_by, under_by, plain_cost}
+use Rattle.jamboree_core.specs.Needs.{Cost, choice_of, search_cost, later_cost, later_costs, first_costs, choice_costs, IsEnough, test_nodes, full_nodes, nodes_by, under_by, plain_cost}
 
 -- choices that aren't spawned cost each at most m
 later-most : (cost : ℕ → ℕ → ℕ) (m k n : ℕ) → ((i : ℕ) → k ≤ i → i < k + n → cost i 0 ≤ m) → later_costs cost k (replicate n 0) ≤ n * m

@@ -1,12 +1,13 @@
 -- A job for which enough was reserved is never spent.
-use Rattle.jamboree_core.proofs.Common.{◌≡◌, ◌≢◌, ◌⊎◌, ℕ, inl, inr, Bool, true, false, not, ◌||◌, ◌&&◌, ◌==◌, List, [], ◌∷◌, Option, Some, None, Result, Ok, Err, refl, ap, sym, ◌∙◌, subst, ◌≤◌, arith, cases_Bool, false≢true, eqb, eq-eqb, ◌++◌, Refusal, NoTenant, Admit, frame_of, padded, cells_of, root_words, Quota, frame_at, parent_of, found-serial, State, Running, Neither, HasReturned, mark_of_state, Tree, Tenant, Outcome, refusal_in, lone_step, act_by_sight, is_run_by, is_returned, run-free, has-returned, has_child, IsShaped, TenantFits, F, StepOf, Spend, FrameId, NotSpent, Leaf, LeafAnswer, AreFitting, IsRoot, jamboree, IsJournalOf, AreSearches, origins_of, TenantSearches, is_spendable, lone, LeftShaped, lone-shaped, LeftFits, step-fits, IsSearch, submits, RootFits, Submit, words_in, is_outside}
+use Rattle.jamboree_core.proofs.Common.{◌≡◌, ℕ, Bool, true, false, ◌&&◌, List, [], Option, Some, None, Result, Ok, Err, refl, ap, ◌∙◌, ◌≤◌, arith, false≢true, eq-eqb, ◌++◌, Refusal, NoTenant, Admit, frame_of, padded, cells_of, root_words, Quota, frame_at, parent_of, found-serial, State, Running, Tenant, Outcome, lone_step, act_by_sight, is_run_by, is_returned, run-free, has-returned, IsShaped, F, StepOf, Spend, NotSpent, Leaf, LeafAnswer, IsRoot, jamboree, IsJournalOf, AreSearches, origins_of, TenantSearches, is_spendable, lone, LeftShaped, lone-shaped, LeftFits, step-fits, IsSearch, submits, RootFits, Submit}
 use Rattle.std.proofs.lemmas.Bool.{or_from, or_parts, ltb-false}
 use Rattle.sched_rules.specs.Lone.{is_run, applies, act_tests, is_bad_inlet, is_lower, lone_refusal}
 use Rattle.sched_rules.specs.Trees.{left, charged_for}
 use Rattle.jamboree_rules.specs.Places.{frame_size}
 use Rattle.jamboree_core.proofs.Weights.{step-room}
 use Rattle.jamboree_core.specs.Needs.{Cost, IsEnough, HasNodes}
-use Rattle.jamboree_core.specs.Sizes.{Size, IsRoomy, enough_segments, AreCounted, TenantCounts, HasSegments, HasSegmentsToo, StillHasSegments, root_weight}
+use Rattle.jamboree_core.specs.Sizes.{Size, IsRoomy, enough_segments, HasSegments, HasSegmentsToo, StillHasSegments, root_weight}
+use Rattle.jamboree_core.proofs.Counts.{AreCounted, TenantCounts}
 use Rattle.jamboree_core.proofs.Replying.{search-fits}
 use Rattle.jamboree_core.proofs.JournalLemmas.{journal-searches}
 use Rattle.jamboree_core.proofs.Possible.{act-good, inlet-good}

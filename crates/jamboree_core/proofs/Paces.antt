@@ -1,5 +1,5 @@
 -- Sixteen steps a node suffice, whatever their order.
-use Rattle.sched_laws.proofs.Common.{◌≡◌, ◌≢◌, inl, inr, ℕ, ◌+◌, ◌-◌, ◌*◌, ◌≤◌, Bool, true, false, not, ◌||◌, ◌&&◌, List, [], ◌∷◌, ◌++◌, Option, Some, None, Ok, refl, ap, sym, ◌∙◌, subst, arith, eqb, length, replicate, filter, cases_Bool, eq-eqb, eqb-true, false≢true, ne_eqb, not-false, and_parts, sum_by-append, sum_by-cons, padded, State, Running, Ready, Computing, Returned, FrameId, frame_at, has_frame, parent_of, children_of, aborted, aborted-itself, is_child_of, frames_without, goes_under, with_state, new_frame, is_ready, IsTree, AreSerialsRising, is_that, above-missing, found-serial, found-there, there-found, tree-rising, under-there, named-under, Act, Continuation, Grow, Spawn, Go, Wait, Compute, Return, InletAct, StepOf, Submit, Functions, Tree, Tenant, words_in, sight, stored, with_frame_words, without_job, root_of, has_child, left, Fitting, Rooting, Neither, Computes, HasReturned, mark_of_state, ParentFits, grown, has_one, Outcome, lone_step, act_by_sight, counted, holding, in_state, opened, ended, advance_tests, advanced, answer_tests, answered, inlet_tests, finish_tests, staying, does_wait, finished, taken_in, then_done, taken_by, submitted, is_run_by, is_computed_by, is_returned, is_root, IsShaped, TenantFits}
+use Rattle.sched_laws.proofs.Common.{◌≡◌, inl, inr, ℕ, ◌+◌, ◌-◌, ◌≤◌, Bool, true, false, not, ◌||◌, ◌&&◌, List, [], ◌∷◌, ◌++◌, Option, Some, None, Ok, refl, ap, sym, ◌∙◌, subst, arith, eqb, replicate, filter, cases_Bool, eq-eqb, eqb-true, false≢true, ne_eqb, not-false, and_parts, sum_by-append, sum_by-cons, padded, State, Running, Ready, Computing, Returned, FrameId, frame_at, has_frame, parent_of, aborted, aborted-itself, is_child_of, goes_under, with_state, new_frame, is_ready, AreSerialsRising, is_that, above-missing, found-serial, there-found, tree-rising, under-there, named-under, Act, Continuation, Grow, Spawn, Go, Wait, Compute, Return, StepOf, Submit, Functions, Tree, Tenant, words_in, sight, stored, with_frame_words, without_job, root_of, has_child, left, Fitting, Rooting, Neither, Computes, HasReturned, mark_of_state, ParentFits, grown, has_one, Outcome, lone_step, act_by_sight, counted, holding, advance_tests, advanced, answer_tests, answered, inlet_tests, staying, does_wait, finished, taken_in, then_done, is_run_by, is_computed_by, is_returned, IsShaped, TenantFits}
 use Rattle.std.specs.Prelude.{sum_by}
 use Rattle.frame_table.specs.declared.names.State.TheVariants.{Waiting}
 use Rattle.frame_table.proofs.TreeChanges.{child-under-parent}
@@ -9,7 +9,35 @@ use Rattle.sched_laws.proofs.FitSteps.{computes-marked, has-returned}
 use Rattle.sched_laws.proofs.Parts.{has_child-with_frame_words}
 use Rattle.sched_laws.proofs.Shaped.{AllPass, by-effects, run-free, returned-marked, returned-childless, staying-parent}
 use Rattle.jamboree_core.proofs.Weights.{sum-member, tree-staying}
-use Rattle.jamboree_core.specs.Paces.{turns_in, turns_of, HasSteps, StillHasSteps, ActTurns, TakesTurns, RootTurns}
+use Rattle.jamboree_core.specs.Paces.{turns_in, turns_of, HasSteps}
+
+-- so it is of a tenant, if it is still there
+abbrev pub StillHasSteps : (List ℕ → ℕ) → Option Tenant → Type 0
+StillHasSteps extra None = Unit {0}
+StillHasSteps extra (Some tenant) = HasSteps extra tenant
+
+-- what an act leaves of the steps that a frame's words ask for: one less where it grows or goes on, two less where it is computed; a
+-- frame waits only with a child
+abbrev pub ActTurns : (List ℕ → ℕ) → (own changed : List ℕ) → List (List ℕ) → Continuation → Type 0
+ActTurns extra own changed children (Grow more) = extra changed + 1 ≤ extra own
+ActTurns extra own changed children (Spawn given size) = (extra changed ≤ extra own) × (extra (padded given size) ≤ 9)
+ActTurns extra own changed children Go = extra changed + 1 ≤ extra own
+ActTurns extra own changed children Wait = (extra changed ≤ extra own) × (has_one children ≡ true)
+ActTurns extra own changed children Compute = extra changed + 2 ≤ extra own
+ActTurns extra own changed children Return = extra changed ≤ extra own
+
+-- each step of a procedure's frames leaves so many steps
+pub record TakesTurns {I A : Type 0} (functions : Functions I A) (fits : Fitting) (rooted : Rooting) (extra : List ℕ → ℕ) : Type 0 where
+  pub next : (origin own : List ℕ) (above older younger children : List (List ℕ)) → fits own children Neither → ParentFits fits rooted origin above older own younger →
+      ActTurns extra own (grown (functions.next (own ∷ above)).after (stored (functions.next (own ∷ above)).stores own)) children (functions.next (own ∷ above)).after
+  pub inlet : (own child : List ℕ) (before behind : List (List ℕ)) → fits own (before ++ child ∷ behind) Neither → fits child [] HasReturned →
+      extra (stored (functions.inlet own child).stores own) ≤ extra own
+  pub accept : (own : List ℕ) (answer : A) → fits own [] Computes → extra (stored (functions.accept own answer) own) ≤ extra own
+
+-- the root of a step, if it submits one, asks for few steps
+abbrev pub RootTurns : {A : Type 0} → (List ℕ → ℕ) → StepOf A → Type 0
+RootTurns extra (Submit number words size) = extra (padded words size) ≤ 10
+RootTurns extra _ = Unit {0}
 
 -- Sums over frames, where one changes or goes.
 

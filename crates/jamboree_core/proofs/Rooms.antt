@@ -1,6 +1,6 @@
 -- Each frame of a search has room in its size for its own segments and for its children's sizes.
-use Rattle.jamboree_core.proofs.Common.{◌≡◌, ◌≢◌, ℕ, inl, inr, Bool, true, false, List, [], ◌∷◌, ◌++◌, Option, Some, None, length, refl, ap, sym, ◌∙◌, subst, ◌+◌, ◌-◌, ◌<◌, ◌≤◌, ◌==◌, if◌then◌else◌, arith, cases_Bool, eqb, Lists, Cell, cells_of, board, frame_of, AreFitting, IsRoot, Mark, Neither, ParentFits}
-use Rattle.std.specs.Prelude.{zero, suc, ◌*◌, sum_by, map, slice_index_or}
+use Rattle.jamboree_core.proofs.Common.{◌≡◌, ◌≢◌, ℕ, inl, inr, List, [], ◌∷◌, Some, length, refl, ap, sym, ◌∙◌, ◌+◌, ◌-◌, ◌<◌, ◌≤◌, ◌==◌, arith, cases_Bool, Lists, board, frame_of, IsRoot, Mark, ParentFits}
+use Rattle.std.specs.Prelude.{zero, suc, ◌*◌, sum_by, slice_index_or}
 use Rattle.std.proofs.lemmas.Bool.{cases_eq, ne_eqb}
 use Rattle.std.proofs.lemmas.Grind.{common_steps}
 use Rattle.std.proofs.lemmas.List.Sums.{sum_by-cons}
@@ -8,14 +8,15 @@ use Rattle.othello_moves.specs.declared.choices.Choice.{Choice}
 use Rattle.othello_moves.specs.declared.choices.Choice.TheVariants.{Pass}
 use Rattle.othello_moves.specs.Choices.{choices, after, plies}
 use Rattle.sched_rules.specs.cactus_stack.Nodes.{charge}
-use Rattle.jamboree_core.specs.Weights.{nearest_words}
-use Rattle.jamboree_core.specs.Charges.{sizes_of, CoversSizes}
+use Rattle.jamboree_core.proofs.Weights.{nearest_words}
+use Rattle.jamboree_core.proofs.Charges.{sizes_of, CoversSizes}
 use Rattle.jamboree_rules.specs.Frames.{Frame, choice_at}
 use Rattle.jamboree_rules.specs.Fits.{AreChildren, IsInRole, how_many}
 use Rattle.jamboree_rules.proofs.Forms.{IsFormed, formed-told}
 use Rattle.jamboree_rules.proofs.Steps.{frames, status-count}
 use Rattle.jamboree_rules.proofs.Keeping.{kin-of}
-use Rattle.jamboree_core.specs.Sizes.{Size, sizes_over, choice_sizes, IsRoomy, enough_segments, frame_size_of, AreCounted}
+use Rattle.jamboree_core.specs.Sizes.{Size, sizes_over, choice_sizes, IsRoomy, frame_size_of}
+use Rattle.jamboree_core.proofs.Counts.{AreCounted}
 use Rattle.jamboree_core.proofs.Needs.{none-left}
 
 -- Children for different choices.

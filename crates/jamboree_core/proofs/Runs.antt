@@ -1,25 +1,46 @@
 -- Each choice that is searched has a child, whatever the order of steps.
-use Rattle.jamboree_core.proofs.Common.{◌≡◌, ◌≢◌, ℕ, inl, inr, Bool, true, false, List, [], ◌∷◌, ◌++◌, length, refl, ap, sym, ◌∙◌, subst, ◌+◌, ◌-◌, ◌<◌, ◌≤◌, ◌==◌, ◌||◌, if◌then◌else◌, arith, cases_Bool, eqb-true, replicate, slice_index, slice_set, neg_ℤ, int_le, int_lt, padded, stored, grown, cells_of, Act, Continuation, Grow, Spawn, Go, Wait, Compute, Return, Neither, Computes, HasReturned, ParentFits, Lists, next_act, inlet_act, accepts, seen, changes_of, AreFitting, IsRoot, jamboree, Leaf, LeafAnswer, Change, OwnBits, OppBits, Phase, Spawned, Status, pairs_of, frame_of, floor, rest_at, first_search, tests, next-keeps, inlet-keeps, accept-keeps, IsLawful, Job, Live, Done, Spent as SpentJob, Cancelled as CancelledJob, JobsFit, JobFits, Tree, Tenant, TenantFits, TenantSearches}
+use Rattle.jamboree_core.proofs.Common.{◌≡◌, ◌≢◌, ℕ, inl, inr, Bool, true, false, List, [], ◌∷◌, ◌++◌, length, refl, sym, ◌∙◌, subst, ◌+◌, ◌<◌, ◌≤◌, ◌==◌, ◌||◌, if◌then◌else◌, arith, slice_index, slice_set, neg_ℤ, int_le, int_lt, padded, stored, grown, cells_of, Act, Continuation, Grow, Spawn, Go, Wait, Compute, Return, Neither, ParentFits, Lists, next_act, seen, AreFitting, IsRoot, jamboree, Change, OwnBits, OppBits, Phase, Spawned, Status, pairs_of, frame_of, floor, rest_at, first_search, tests, next-keeps, inlet-keeps, accept-keeps, IsLawful, Job, Live, Done, Spent as SpentJob, Cancelled as CancelledJob, JobsFit, Tree, Tenant, TenantFits, TenantSearches}
 use Rattle.std.specs.Prelude.{zero, suc, count_by, pos, ◌+ℤ◌}
 use Rattle.std.proofs.lemmas.Bool.{cases_eq}
 use Rattle.std.proofs.lemmas.Grind.{common_steps}
 use Rattle.std.proofs.lemmas.List.{length-append}
 use Rattle.std.proofs.Common.{⊎_elim}
-use Rattle.sched_rules.specs.Laws.{AllFit, NextKeeps, InletKeeps, AcceptKeeps, NewChildFits, children_after, children_left, mark_after}
+use Rattle.sched_rules.specs.Laws.{AllFit, NextKeeps, InletKeeps, AcceptKeeps, NewChildFits, children_after, children_left}
 use Rattle.sched_rules.specs.declared.act.InletAct.{InletAct}
 use Rattle.othello_moves.specs.Choices.{choices}
-use Rattle.jamboree_rules.specs.Acts.{spawns, opening, returns}
-use Rattle.jamboree_rules.specs.Frames.{Frame, least, greatest}
-use Rattle.jamboree_rules.specs.Fits.{IsFirst, IsTest, IsAgain, IsInRole, IsChildOf, IsSearchingFrame}
+use Rattle.jamboree_rules.specs.Acts.{spawns, opening}
+use Rattle.jamboree_rules.specs.Frames.{Frame}
+use Rattle.jamboree_rules.specs.Fits.{IsFirst, IsTest, IsAgain, IsChildOf, IsSearchingFrame}
 use Rattle.jamboree_rules.proofs.Forms.{IsFormed, formed-told, frame-stored, written}
-use Rattle.jamboree_rules.proofs.Searching.{set-there, set-beside, set-length, zero-at}
-use Rattle.jamboree_rules.proofs.Steps.{new_words, rest-there}
-use Rattle.jamboree_core.proofs.OpenedWords.{opened-is}
+use Rattle.jamboree_rules.proofs.Searching.{set-there, set-beside, set-length}
+use Rattle.jamboree_rules.proofs.Steps.{new_words, rest-there, opened-is}
 use Rattle.jamboree_rules.proofs.Kinship.{in-search, with_place}
-use Rattle.jamboree_rules.proofs.Keeping.{StandsUnder, IsBoardOf, frame_by, frame_after, kin-of, inlet-is, inlet-stores, test-told, other-told}
+use Rattle.jamboree_rules.proofs.Keeping.{StandsUnder, frame_by, kin-of, inlet-is, inlet-stores, test-told, other-told}
 use Rattle.jamboree_rules.proofs.ActCases.{by-acts}
 use Rattle.jamboree_rules.proofs.Rooted.{answer-good, accepts-is}
-use Rattle.jamboree_core.specs.Turns.{running_count, Runs, AreRunning, TenantRuns}
+use Rattle.sched_rules.specs.Laws.{Mark}
+use Rattle.jamboree_rules.specs.Frames.{phase_first, phase_tests, status_not_spawned, status_runs, status_runs_again}
+
+-- how many of these statuses are those of choices that are searched: as the first, by a test or again
+abbrev pub running_count : List ℕ → ℕ
+running_count statuses = count_by (λ status. (status == status_runs) || (status == status_runs_again)) statuses
+
+-- each choice that is searched has a child, of which there are so many: a frame at its first choice has one, once it is spawned; at its
+-- tests each choice that is spawned is searched, failed or settled, and there are at least as many children as choices searched
+pub record Runs (f : Frame) (children : ℕ) : Type 0 where
+  pub alone : f.phase ≡ phase_first → f.spawned ≤ 1
+  pub first : f.phase ≡ phase_first → f.spawned ≢ 0 → 0 < children
+  pub begun : f.phase ≡ phase_tests → (k : ℕ) → k < f.spawned → slice_index f.statuses k ≢ status_not_spawned
+  pub tests : f.phase ≡ phase_tests → running_count f.statuses ≤ children
+
+-- a frame's words fit, and each choice that is searched has a child
+pub record AreRunning (words : List ℕ) (children : List (List ℕ)) (mark : Mark) : Type 0 where
+  pub fits : AreFitting words children mark
+  pub runs : Runs (frame_of words) (length children)
+
+-- a tenant's jobs are searches of which each choice that is searched has a child
+abbrev pub TenantRuns : List (List ℕ) → Tenant → Type 0
+TenantRuns origins tenant = TenantFits AreRunning IsRoot origins tenant
 
 -- How many choices are searched, where a status is set.
 

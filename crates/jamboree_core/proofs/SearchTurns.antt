@@ -1,23 +1,23 @@
 -- A tenant of searches takes at most sixteen steps for each node.
-use Rattle.jamboree_core.proofs.Common.{◌≡◌, ◌≢◌, ℕ, inl, inr, Bool, true, false, List, [], ◌∷◌, ◌++◌, length, refl, ap, sym, ◌∙◌, subst, ◌+◌, ◌<◌, ◌≤◌, ◌==◌, if◌then◌else◌, arith, cases_Bool, eqb-true, and_parts, replicate, slice_index, neg_ℤ, int_le, int_lt, padded, stored, grown, cells_of, Act, Continuation, Grow, Spawn, Go, Wait, Compute, Return, Neither, Computes, HasReturned, Lists, next_act, inlet_act, accepts, changes_of, changes_of_answer, AreFitting, IsRoot, jamboree, Leaf, LeafAnswer, Change, OwnBits, OppBits, Phase, Spawned, Status, pairs_of, frame_of, floor, rest_at, first_search, tests, are_entries, nat_lt}
+use Rattle.jamboree_core.proofs.Common.{◌≡◌, ◌≢◌, ℕ, inl, inr, true, List, [], ◌∷◌, ◌++◌, length, refl, ap, sym, ◌∙◌, subst, ◌+◌, ◌≤◌, ◌==◌, arith, cases_Bool, eqb-true, and_parts, replicate, slice_index, neg_ℤ, stored, grown, cells_of, Act, Neither, Computes, HasReturned, Lists, next_act, inlet_act, accepts, changes_of, changes_of_answer, IsRoot, jamboree, LeafAnswer, Change, OwnBits, OppBits, Phase, Spawned, Status, pairs_of, frame_of, floor, rest_at, are_entries}
 use Rattle.std.specs.Prelude.{zero, suc, ℤ, pos, ◌+ℤ◌, map, nat_le, drop}
 use Rattle.std.proofs.lemmas.Bool.{leb-true}
 use Rattle.std.proofs.lemmas.Bool.Decides.{nat_tests}
 use Rattle.sched_rules.specs.declared.act.InletAct.{InletAct}
 use Rattle.sched_rules.specs.Laws.{has_one}
-use Rattle.jamboree_core.specs.Paces.{ActTurns, TakesTurns}
+use Rattle.jamboree_core.proofs.Paces.{ActTurns, TakesTurns}
 use Rattle.othello_moves.specs.Choices.{choices}
-use Rattle.jamboree_rules.specs.Acts.{spawns, opening}
+use Rattle.jamboree_rules.specs.Acts.{spawns}
 use Rattle.jamboree_rules.specs.Frames.{Frame}
 use Rattle.jamboree_rules.specs.Places.{status_of, is_entry, is_rest, entry_rest}
 use Rattle.jamboree_rules.proofs.Forms.{IsFormed, formed-told, frame-stored, written}
-use Rattle.jamboree_rules.proofs.Steps.{new_words, opened_changes, opened_frame, rest-there}
-use Rattle.jamboree_core.proofs.OpenedWords.{opened-is}
+use Rattle.jamboree_rules.proofs.Steps.{new_words, opened_changes, opened_frame, rest-there, opened-is}
 use Rattle.jamboree_rules.proofs.Kinship.{with_place}
 use Rattle.jamboree_rules.proofs.Keeping.{StandsUnder, frame_after, inlet-is, inlet-stores}
 use Rattle.jamboree_rules.proofs.ActCases.{by-acts}
 use Rattle.jamboree_rules.proofs.Rooted.{answer-good, accepts-is, answered_frame}
-use Rattle.jamboree_core.specs.Turns.{extra_turns, running_count, Runs, AreRunning}
+use Rattle.jamboree_core.specs.Turns.{extra_turns}
+use Rattle.jamboree_core.proofs.Runs.{AreRunning}
 use Rattle.jamboree_core.proofs.Runs.{count-some, fitting-above, one_if_running}
 
 -- the steps that words ask for: none once the frame has begun

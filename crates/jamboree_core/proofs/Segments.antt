@@ -1,31 +1,30 @@
 -- A tenant of searches whose sizes were reserved is never refused a segment.
-use Rattle.jamboree_core.proofs.Common.{◌≡◌, ◌≢◌, ◌⊎◌, ℕ, inl, inr, Bool, true, false, not, ◌&&◌, ◌==◌, List, [], ◌∷◌, ◌++◌, Option, Some, None, Result, Ok, Err, length, refl, ap, sym, ◌∙◌, subst, ◌+◌, ◌-◌, ◌<◌, ◌≤◌, arith, cases_Bool, false≢true, eqb, not-false, append-nil, frame_at, parent_of, found-serial, tree-rising, replicate, Quota, Tree, Tenant, with_frame_words, Neither, Computes, HasReturned, mark_of_state, Outcome, unless, refusal_in, lone_step, at_frame, is_run_by, act_by_sight, new_frame, is_outside, advance_tests, advanced, then_done, counted, holding, stored, grown, is_bad_act, has_child, run-free, IsShaped, LeftShaped, LeftFits, TenantFits, step-shaped, step-fits, F, Lists, Refusal, StepOf, Advance, FrameId, Act, Continuation, Grow, Spawn, Go, Wait, Compute, Return, Leaf, LeafAnswer, AreFitting, IsRoot, jamboree, frame_of, board, padded, next_act, inlet_act, accepts, changes_of, changes_of_answer, cells_of}
-use Rattle.std.specs.Prelude.{zero, suc, sum_by}
-use Rattle.std.proofs.lemmas.Bool.Decides.{nat_tests}
-use Rattle.std.proofs.lemmas.Bool.{ltb-false, or_parts, ne_eqb, le-ltb, leb-true, and_parts}
+use Rattle.jamboree_core.proofs.Common.{◌≡◌, ◌⊎◌, ℕ, inl, inr, Bool, true, false, not, ◌&&◌, ◌==◌, List, [], ◌∷◌, ◌++◌, Option, Some, None, Ok, length, refl, ap, ◌∙◌, subst, ◌+◌, ◌≤◌, arith, not-false, frame_at, parent_of, tree-rising, replicate, Tenant, with_frame_words, Neither, Computes, HasReturned, unless, lone_step, is_run_by, act_by_sight, new_frame, is_outside, advance_tests, advanced, then_done, counted, holding, stored, grown, is_bad_act, has_child, IsShaped, LeftShaped, LeftFits, TenantFits, step-shaped, step-fits, F, Lists, Refusal, Advance, FrameId, Act, Continuation, Grow, Spawn, Go, Wait, Compute, Return, LeafAnswer, AreFitting, IsRoot, jamboree, frame_of, padded, next_act, inlet_act, accepts, changes_of, changes_of_answer}
+use Rattle.std.proofs.lemmas.Bool.{or_parts, ne_eqb, le-ltb, leb-true, and_parts}
 use Rattle.std.proofs.Common.{length-append}
 use Rattle.std.proofs.lemmas.List.{length-replicate}
 use Rattle.std.specs.Prelude.{nat_lt}
 use Rattle.cactus_stack.proofs.LawFacts.{length-padded}
 use Rattle.sched_rules.proofs.StoreLemmas.{length-stored}
 use Rattle.sched_rules.specs.declared.act.InletAct.{InletAct}
-use Rattle.sched_rules.specs.Lone.{is_spawn, is_bad_then, is_frame_size, is_lower, segments_for as segments_of_act, lone_refusal}
+use Rattle.sched_rules.specs.Lone.{is_spawn, is_bad_then, is_frame_size, segments_for as segments_of_act}
 use Rattle.sched_rules.specs.Trees.{left, charged_for}
-use Rattle.sched_rules.specs.cactus_stack.Nodes.{charge, growth_charge}
-use Rattle.jamboree_core.specs.Weights.{Weight, nearest_words, weight_opened, weight_among, weight_in, parent_words, KeepsChildren, UsesUp, IsPaid, IsStillPaid}
-use Rattle.jamboree_core.specs.Charges.{size_by, root_sizes}
+use Rattle.sched_rules.specs.cactus_stack.Nodes.{charge}
+use Rattle.jamboree_core.specs.Weights.{weight_among, weight_in, parent_words, IsStillPaid}
+use Rattle.jamboree_core.proofs.Weights.{nearest_words, weight_opened, KeepsChildren, UsesUp}
+use Rattle.jamboree_core.proofs.Charges.{size_by}
 use Rattle.jamboree_core.proofs.Weights.{sum-less, step-room}
 use Rattle.jamboree_core.proofs.Charges.{charged-within}
-use Rattle.sched_laws.proofs.Holds.{found-own, charged-with_frame_words, charged-append, charged-one}
+use Rattle.sched_laws.proofs.Holds.{charged-with_frame_words, charged-append, charged-one}
 use Rattle.sched_laws.proofs.Fits.{with_frame_words-twice}
 use Rattle.sched_laws.proofs.Shaped.{AllPass}
 use Rattle.frame_table.proofs.TreeLaws.{found-each}
-use Rattle.frame_table.specs.TreeLaws.{Each}
 use Rattle.jamboree_rules.specs.Frames.{Frame}
 use Rattle.jamboree_rules.proofs.Forms.{formed-told, written}
 use Rattle.jamboree_rules.proofs.Keeping.{StandsUnder, next-goes, inlet-is, inlet-stores}
 use Rattle.jamboree_rules.proofs.Rooted.{answer-good, accepts-is}
-use Rattle.jamboree_core.specs.Sizes.{Size, IsRoomy, enough_segments, frame_size_of, AreCounted, TenantCounts, root_weight, HasSegments, StillHasSegments, HasSegmentsToo}
+use Rattle.jamboree_core.specs.Sizes.{Size, IsRoomy, frame_size_of, root_weight, HasSegments}
+use Rattle.jamboree_core.proofs.Counts.{AreCounted, TenantCounts}
 use Rattle.jamboree_core.proofs.Counts.{counts-lawful}
 use Rattle.jamboree_core.proofs.Rooms.{search-room}
 

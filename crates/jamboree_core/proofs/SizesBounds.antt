@@ -1,6 +1,6 @@
 -- A size by plies and choices suffices, where no board has more choices.
-use Rattle.jamboree_core.proofs.Common.{◌≡◌, ℕ, inl, inr, Bool, true, false, List, [], ◌∷◌, length, refl, ap, sym, ◌∙◌, ◌+◌, ◌-◌, ◌<◌, ◌≤◌, if◌then◌else◌, arith, cases_Bool, Cell}
-use Rattle.std.specs.Prelude.{zero, suc, ◌*◌, map, sum_by}
+use Rattle.jamboree_core.proofs.Common.{◌≡◌, ℕ, inl, inr, Bool, true, false, List, [], ◌∷◌, length, refl, ap, ◌∙◌, ◌+◌, ◌-◌, ◌<◌, ◌≤◌, arith, cases_Bool, Cell}
+use Rattle.std.specs.Prelude.{zero, suc, ◌*◌, map}
 use Rattle.std.proofs.lemmas.List.Sums.{sum_by-cons}
 use Rattle.othello_board.specs.Rules.{is_nil, exchanged, played}
 use Rattle.othello_moves.specs.declared.choices.Choice.{Choice}

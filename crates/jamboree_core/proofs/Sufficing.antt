@@ -1,5 +1,5 @@
 -- A tenant of searches that reserved enough is never refused a node.
-use Rattle.jamboree_core.proofs.Common.{◌≡◌, ◌≢◌, inl, inr, ℕ, Bool, true, false, not, ◌&&◌, List, [], ◌∷◌, Option, Some, None, Result, Ok, Err, refl, ap, sym, ◌∙◌, subst, ◌≤◌, arith, cases_Bool, false≢true, not-false, Frame as TreeFrame, frame_at, found-serial, Tree, Tenant, Neither, mark_of_state, Outcome, unless, refusal_in, lone, at_frame, is_run_by, act_by_sight, advance_tests, advanced, ◌==◌, run-free, IsShaped, TenantFits, LeftFits, F, Leaf, LeafAnswer, AreFitting, IsRoot, jamboree, StepOf, Advance, FrameId, Refusal, lone_step, TenantSearches, IsSearch, AreSearches, Submit, cells_of, root_words, padded}
+use Rattle.jamboree_core.proofs.Common.{◌≡◌, ◌≢◌, inl, inr, ℕ, Bool, false, not, ◌&&◌, List, [], ◌∷◌, Option, Some, None, Ok, refl, ap, sym, ◌∙◌, ◌≤◌, arith, cases_Bool, false≢true, not-false, frame_at, found-serial, Tenant, Outcome, unless, refusal_in, at_frame, is_run_by, act_by_sight, advance_tests, advanced, ◌==◌, run-free, IsShaped, F, Leaf, LeafAnswer, jamboree, StepOf, Advance, FrameId, Refusal, lone_step, TenantSearches, Submit, cells_of, root_words, padded}
 use Rattle.sched_rules.specs.declared.refusal.Refusal.TheVariants.{NoNodes}
 use Rattle.sched_rules.specs.Lone.{is_spawn, lone_refusal}
 use Rattle.sched_rules.specs.Trees.{left}

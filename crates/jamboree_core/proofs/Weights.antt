@@ -1,12 +1,64 @@
 -- What a procedure opens stays within what its frames weigh, whatever the order of the steps.
-use Rattle.sched_laws.proofs.Common.{◌≡◌, ◌≢◌, ℕ, suc, ◌+◌, ◌*◌, ◌≤◌, ◌⊎◌, inl, inr, Bool, true, false, not, ◌||◌, ◌&&◌, List, [], ◌∷◌, ◌++◌, Option, Some, None, refl, ap, sym, ◌∙◌, arith, eqb, subst, length, replicate, Ok, values_of, frame_words, has_frame, AllBelow, Returned, Computing, in_state, filter, sum_by-append, sum_by-cons, cases_Bool, cases_eq, eq-eqb, not-false, Quota, padded, State, Running, Ready, FrameId, frame_at, parent_of, children_of, aborted, frames_without, goes_under, with_state, new_frame, IsTree, is_that, Each, found-each, found-serial, found-there, there-found, tree-rising, placed, under-there, named-under, frame_at-left, frame_at-push, filter-found, tree-aborted, tree-without, tree-without_job, tree-new_frame, parent_of-path_under, AllBelow-alike, IsUnder, Act, Continuation, Grow, Spawn, Go, Wait, Compute, Return, InletAct, StepOf, AdmitMore, Submit, Job, Live, Functions, Tree, Tenant, words_in, sight, stored, with_frame_words, without_job, root_of, has_child, Fitting, Rooting, Neither, Computes, HasReturned, mark_of_state, ParentFits, grown, Outcome, lone_step, act_by_sight, counted, holding, opened, ended, advance_tests, advanced, answer_tests, answered, inlet_tests, staying, does_wait, is_spawn, false≢true, taken_in, then_done, taken_by, submitted, is_lower, is_run_by, is_computed_by, is_returned, IsShaped, TenantFits}
-use Rattle.sched_laws.proofs.Holds.{Lists, F, kids, fits-holds, found-same, found-own, among, among-kids, frame_at-with_frame_words, with_frame_words-alike, tree-with_frame_words}
+use Rattle.sched_laws.proofs.Common.{◌≡◌, ◌≢◌, ℕ, suc, ◌+◌, ◌*◌, ◌≤◌, ◌⊎◌, inl, inr, Bool, true, false, not, ◌||◌, ◌&&◌, List, [], ◌∷◌, ◌++◌, Option, Some, None, refl, ap, sym, ◌∙◌, arith, eqb, subst, replicate, Ok, values_of, frame_words, has_frame, AllBelow, Returned, Computing, in_state, filter, sum_by-append, sum_by-cons, cases_Bool, cases_eq, eq-eqb, not-false, Quota, padded, State, Running, Ready, FrameId, frame_at, parent_of, children_of, aborted, goes_under, with_state, new_frame, IsTree, is_that, Each, found-each, found-serial, found-there, there-found, tree-rising, placed, under-there, named-under, frame_at-left, filter-found, tree-aborted, tree-without, tree-without_job, parent_of-path_under, AllBelow-alike, Act, Continuation, Grow, Spawn, Go, Wait, Compute, Return, StepOf, Functions, Tree, Tenant, words_in, sight, stored, with_frame_words, without_job, root_of, has_child, Fitting, Rooting, Neither, Computes, HasReturned, mark_of_state, ParentFits, grown, Outcome, lone_step, act_by_sight, counted, holding, opened, advance_tests, advanced, answer_tests, answered, inlet_tests, staying, does_wait, is_spawn, false≢true, taken_in, then_done, submitted, is_lower, is_run_by, is_computed_by, is_returned, IsShaped, TenantFits}
+use Rattle.sched_laws.proofs.Holds.{Lists, F, kids, found-same, found-own, among, among-kids, frame_at-with_frame_words, with_frame_words-alike, tree-with_frame_words}
 use Rattle.sched_laws.proofs.Fits.{words-found, words-other, words-own, words-with_state, with_frame_words-twice, sight-top, sight-under, sight-head, parent-neither, kept-above, has-origin, fits-marked}
 use Rattle.sched_laws.proofs.FitSteps.{computes-marked, has-returned}
 use Rattle.sched_laws.proofs.Shaped.{AllPass, by-effects, run-free, returned-marked, returned-childless, staying-parent}
 use Rattle.std.specs.Prelude.{zero, sum_by}
 use Rattle.frame_table.specs.declared.names.State.TheVariants.{Waiting}
-use Rattle.jamboree_core.specs.Weights.{Weight, parent_words, weight_among, weight_in, nearest_words, weight_opened, KeepsChildren, UsesUp, taken_with, IsPaid, IsStillPaid, IsPaidToo}
+use Rattle.jamboree_core.specs.Weights.{Weight, parent_words, weight_among, weight_in, taken_with, IsPaid, IsStillPaid, IsPaidToo}
+
+-- the parent's words, from what a frame sees above itself
+abbrev pub nearest_words : List (List ℕ) → Option (List ℕ)
+nearest_words [] = None
+nearest_words (parent ∷ above) = Some parent
+
+-- what the child takes that an act opens, if it opens one: the price of a node, and its weight under these words
+abbrev pub weight_opened : ℕ → Weight → List ℕ → Continuation → ℕ
+weight_opened price weight own (Grow more) = 0
+weight_opened price weight own (Spawn given size) = price + weight (padded given size) (Some own)
+weight_opened price weight own Go = 0
+weight_opened price weight own Wait = 0
+weight_opened price weight own Compute = 0
+weight_opened price weight own Return = 0
+
+-- no child weighs more where its parent's words change from own to changed
+abbrev pub KeepsChildren : Weight → (own changed : List ℕ) → Type 0
+KeepsChildren weight own changed = (child : List ℕ) → weight child (Some changed) ≤ weight child (Some own)
+
+-- Advance needs this: the frame and the child that it opens weigh together, with the price of the child's node, at most what the frame
+-- did; and its children, if it has any, no more than they did
+abbrev pub NextUsesUp : {I A : Type 0} → Functions I A → Fitting → Rooting → ℕ → Weight → Type 0
+NextUsesUp functions fits rooted price weight =
+    (origin own : List ℕ) (above older younger children : List (List ℕ)) →
+    fits own children Neither →
+    ParentFits fits rooted origin above older own younger →
+    let act = functions.next (own ∷ above) in
+    let changed = grown act.after (stored act.stores own) in
+    (weight changed (nearest_words above) + weight_opened price weight changed act.after ≤ weight own (nearest_words above))
+    × ((children ≡ []) ⊎ KeepsChildren weight own changed)
+
+-- Inlet needs this: after it neither the frame nor any child of it weighs more
+abbrev pub InletUsesUp : {I A : Type 0} → Functions I A → Fitting → Weight → Type 0
+InletUsesUp functions fits weight =
+    (own child : List ℕ) (before behind : List (List ℕ)) (above : Option (List ℕ)) →
+    fits own (before ++ child ∷ behind) Neither →
+    fits child [] HasReturned →
+    let changed = stored (functions.inlet own child).stores own in
+    (weight changed above ≤ weight own above) × KeepsChildren weight own changed
+
+-- Answer needs this: after it the frame weighs no more
+abbrev pub AcceptUsesUp : {I A : Type 0} → Functions I A → Fitting → Weight → Type 0
+AcceptUsesUp {A = A} functions fits weight =
+    (own : List ℕ) (answer : A) (above : Option (List ℕ)) →
+    fits own [] Computes →
+    weight (stored (functions.accept own answer) own) above ≤ weight own above
+
+-- each step of a procedure's frames uses up weight: what is opened, at this price a node, and what frames weigh never grow together
+pub record UsesUp {I A : Type 0} (functions : Functions I A) (fits : Fitting) (rooted : Rooting) (price : ℕ) (weight : Weight) : Type 0 where
+  pub next : NextUsesUp functions fits rooted price weight
+  pub inlet : InletUsesUp functions fits weight
+  pub accept : AcceptUsesUp functions fits weight
 
 -- Sums over frames.
 

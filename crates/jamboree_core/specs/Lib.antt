@@ -9,7 +9,6 @@ pub mod Rows
 pub mod NewRuns
 pub mod Weights
 pub mod Paces
-pub mod Charges
 pub mod Needs
 pub mod Turns
 pub mod Sizes

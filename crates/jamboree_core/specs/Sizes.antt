@@ -1,18 +1,15 @@
 -- Meaning: how many segments a search takes at the same time at most, whatever the order of its steps.
-use Rattle.std.specs.Prelude.{◌≡◌, ◌≢◌, ℕ, zero, suc, ◌+◌, ◌*◌, ◌-◌, ◌<◌, ◌≤◌, ◌==◌, Bool, List, Option, Some, None, length, sum_by, if◌then◌else◌}
+use Rattle.std.specs.Prelude.{ℕ, zero, suc, ◌+◌, ◌*◌, ◌-◌, ◌<◌, ◌≤◌, ◌==◌, Bool, List, Option, Some, None, length, sum_by, if◌then◌else◌}
 use Rattle.sched_rules.specs.cactus_stack.Nodes.{charge}
 use Rattle.othello_board.specs.declared.cells.Cell.{Cell}
 use Rattle.othello_moves.specs.declared.choices.Choice.{Choice}
 use Rattle.othello_board.specs.Rules.{is_nil}
 use Rattle.othello_moves.specs.Choices.{choices, legal_squares, after, plies}
 use Rattle.sched_rules.specs.Trees.{Tenant}
-use Rattle.sched_rules.specs.Laws.{Mark}
 use Rattle.sched_rules.specs.declared.step.StepOf.{StepOf}
-use Rattle.sched_laws.specs.Fitted.{TenantFits}
 use Rattle.jamboree_core.specs.Weights.{IsPaid, IsStillPaid, IsPaidToo}
-use Rattle.jamboree_rules.specs.Frames.{Frame, role_root, board, choice_at}
+use Rattle.jamboree_rules.specs.Frames.{board, choice_at}
 use Rattle.jamboree_rules.specs.Places.{frame_of}
-use Rattle.jamboree_rules.specs.Fits.{AreFitting, IsRoot}
 
 -- a bound of the segments that a frame and all frames under it take at the same time, by its depth and its board
 abbrev pub Size : Type 0
@@ -40,21 +37,6 @@ enough_segments size depth b = if depth == 0 then 1 else choice_sizes size depth
 abbrev pub frame_size_of : Size → List ℕ → Option (List ℕ) → ℕ
 frame_size_of size own None = enough_segments size (frame_of own).depth (board (frame_of own))
 frame_size_of size own (Some parent) = size (frame_of own).depth (after (board (frame_of parent)) (choice_at (frame_of parent) (frame_of own).number))
-
--- a frame with places for choices has one for each choice of its board; its depth is above the grain, a root's above 0
-pub record IsCounted (grain : ℕ) (f : Frame) : Type 0 where
-  pub places : f.count ≢ 0 → f.count ≡ length (choices (board f))
-  pub deep : f.count ≢ 0 → 0 < f.depth
-  pub deeper : f.count ≢ 0 → f.role ≢ role_root → grain < f.depth
-
--- a frame's words fit, and its places are counted
-pub record AreCounted (grain : ℕ) (words : List ℕ) (children : List (List ℕ)) (mark : Mark) : Type 0 where
-  pub fits : AreFitting words children mark
-  pub counted : IsCounted grain (frame_of words)
-
--- a tenant's jobs are searches whose frames' places are counted
-abbrev pub TenantCounts : ℕ → List (List ℕ) → Tenant → Type 0
-TenantCounts grain origins tenant = TenantFits (AreCounted grain) IsRoot origins tenant
 
 -- the size of a root by its words; 0 for a frame with a parent
 abbrev pub root_weight : Size → List ℕ → Option (List ℕ) → ℕ

@@ -26,6 +26,12 @@
 //! that fact, and the same for one tenant by its journal, the list of its own steps that were taken
 //! (`specs/Journals.antt`). The laws are public functions that do nothing.
 //!
+//! [`reserves`] says what a tenant has to reserve so that none of its jobs is ever spent, whatever the
+//! order of steps. What a frame may still open is a weight that its steps use up (`specs/Weights.antt`,
+//! `specs/Needs.antt`); the segments of a frame and of all under it are within its size
+//! (`specs/Charges.antt`, `specs/Sizes.antt`); and sixteen steps a node suffice, as a frame waits only
+//! for a child (`specs/Paces.antt`, `specs/Turns.antt`).
+//!
 //! Why it is so:
 //!
 //! - Functions over a core say the headline in full (`run_searches`, `step_search`), as `Core` is generic and

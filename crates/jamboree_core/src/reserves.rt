@@ -17,9 +17,9 @@ ghost use Rattle.jamboree_rules.specs.Procedure.{jamboree};
 ghost use Rattle.jamboree_core.specs.Journals.{IsJournalOf};
 ghost use Rattle.jamboree_core.specs.Replies.{AreSearches};
 ghost use Rattle.jamboree_core.specs.Searching.{TenantSearches};
-ghost use Rattle.jamboree_core.specs.Sizes.{HasSegments, HasSegmentsToo, IsRoomy, Size, StillHasSegments, enough_segments, plain_size};
+ghost use Rattle.jamboree_core.specs.Sizes.{HasSegments, HasSegmentsToo, IsRoomy, Size, StillHasSegments, enough_segments, plain_segments, plain_size};
 ghost use Rattle.jamboree_core.specs.Turns.{extra_turns};
-ghost use Rattle.jamboree_core.specs.Needs.{Cost, HasNodes, HasNodesToo, IsEnough, StillHasNodes, enough_nodes, plain_cost};
+ghost use Rattle.jamboree_core.specs.Needs.{Cost, HasNodes, HasNodesToo, IsEnough, StillHasNodes, enough_nodes, full_nodes, plain_cost, test_nodes};
 
 /// A job of a tenant that has no other job alive is asked for with at least `enough_nodes` nodes left (`begins`).
 /// Then what was opened, and what the frames may still open, is within the reservation (`HasNodes`), and stays so
@@ -71,4 +71,15 @@ pub fn a_job_with_enough_is_never_spent()
 pub fn plain_bounds_suffice()
     ensures nodes { (c grain : ℕ) → 64 ≤ c → IsEnough grain (plain_cost c grain) }
     ensures segments { (c grain : ℕ) → 64 ≤ c → IsRoomy grain (plain_size c grain) }
+{}
+
+/// What the bounds by plies and choices come to. With 56 choices and two plies above the grain: frames in a window of
+/// width one, in a wider one, and segments at the same time. With one choice and one ply: the frame, one more as it
+/// may pass, and a child. With five choices, whose frame has 17 words, two segments for it.
+pub fn plain_bounds_in_small()
+    ensures tests { test_nodes 56 2 ≡ 3250 }
+    ensures nodes { full_nodes 56 2 ≡ 9520 }
+    ensures segments { plain_segments 56 2 ≡ 3478 }
+    ensures passes { full_nodes 1 1 ≡ 3 }
+    ensures words { plain_segments 5 1 ≡ 8 }
 {}

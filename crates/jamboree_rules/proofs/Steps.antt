@@ -388,7 +388,7 @@ module _ (own : List ℕ) (o p n : ℕ) (len : length own ≡ 12) where
   opened-length : length (written (opened_changes o p n) own) ≡ 12
   opened-length = length-stored (pairs_of (opened_changes o p n)) own ∙ len
 
-  opened-is : frame_of (written (opened_changes o p n) own ++ replicate n 0) ≡ opened_frame (frame_of own) o p n
+  pub opened-is : frame_of (written (opened_changes o p n) own ++ replicate n 0) ≡ opened_frame (frame_of own) o p n
   opened-is =
       frame-grown (written (opened_changes o p n) own) n opened-length
       ∙ ap (λ (g : Frame). record g { statuses = replicate n 0; rests = replicate n 0 })
