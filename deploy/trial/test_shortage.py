@@ -13,7 +13,7 @@ import time
 from collections.abc import Iterator
 
 import pytest
-from place import LONG, LONGEST, SLOW, SMALL, Answer, From, Site, address_of, program, until
+from place import LEFT, LONG, LONGEST, SCHOOL, SLOW, SMALL, Answer, From, Site, address_of, program, until
 
 KEPT = 64  # descriptors that the site keeps for all but its connections
 
@@ -168,3 +168,46 @@ def test_stopped_and_continued(length: int) -> None:
         assert len(found) == min(lines, 1) and all(line.startswith(b"TABLE 1 ") for line in found), found
         rows = [line for line in site.ask("STATS") if line.startswith("session=")]
         assert len(rows) == 3 and sum(" waits=1 " in row for row in rows) == 1, rows
+
+
+def test_lines_that_come_without_end_are_slowed() -> None:
+    """Three thousand at once: a thousand are answered at once, and then one in two milliseconds; none is refused."""
+    with Site() as site, site.opened(address_of(1), *SMALL) as session:
+        begun, found = time.monotonic(), b""
+        session.socket.sendall(b"QUOTA\n" * 3000)
+        while found.count(b"\n") < 3000:
+            found += session.socket.recv(65536)
+        assert set(found.splitlines()) == {b"QUOTA 64 2048 32768"} and time.monotonic() - begun > 2.5
+
+
+def test_the_log_is_not_drowned() -> None:
+    with Site(terms=LEFT, more=SCHOOL) as site, site.opened("127.6.0.1", 4096, 65536), site.opened("127.6.0.1", 4096, 65536):
+        assert site.said(address_of(1), b"HELLO 1 1 guess\n" * 40).count(b"ERR 30\n") == 40
+        assert site.told("127.6.0.1", 4096, 65536)[1] == 14
+        until(lambda: 'event=refused reason=budget address=127.6.0.1 customer="school"\n' in site.log.read_text(), 5, "the school's refusal is logged")
+        said = site.log.read_text().count("reason=token address=127.1.0.2 ")
+        assert 0 < said < 20 and site.count('refused_total{reason="token"}') == 40
+        assert site.count('customer_refused_total{customer="school"}') == 1
+
+
+def test_what_is_no_token_is_no_guess() -> None:
+    with Site() as site:
+        lines = b"HELLO 1 1 \nHELLO 1 1 a\tb\nHELLO 1 1 \x7f\nHELLO 1 1 \x01\nHELLO 1 1  a\n"
+        assert site.said(address_of(1), lines + b"HELLO 1 1 \x80\n") == b"ERR 21\n" * 5 + b"ERR 30\n"
+        assert site.count('refused_total{reason="token"}') == 1
+
+
+def test_a_crowded_address_is_not_told_of_a_budget() -> None:
+    """A guest's connection beyond its number is heard, and closed in place of an answer to HELLO; a named customer's own number is its own."""
+    terms = [*LEFT, ("rate = 10\nburst = 100", "rate = 10\nburst = 100\nconnections = 3")]
+    with Site(terms=terms, more=SCHOOL + "connections = 3\n") as site, contextlib.ExitStack() as open_ones:
+        for address, answer in ((address_of(1), b""), ("127.6.0.1", b"ERR 14\n")):
+            streams = [open_ones.enter_context(socket.create_connection(("127.0.0.1", site.plain), 5, (address, 0))) for _ in range(4)]
+            found = list[bytes]()
+            for stream in streams:
+                stream.sendall(b"QUOTA\n")
+                found.append(stream.recv(100))
+            assert found == [b"ERR 28\n"] * 4
+            late = open_ones.enter_context(socket.create_connection(("127.0.0.1", site.plain), 5, (address, 0)))
+            late.sendall(b"HELLO 1 1\n")
+            assert late.recv(100) == answer, address
