@@ -5,14 +5,14 @@ import subprocess
 from browsers import opened
 from stand import GAME, TEXT, page, whole_game
 
-MIDDLE = f"moves={GAME}&at=11&black=Anna&white=Bo"
+MIDDLE = f"moves={GAME}&at=11&black=Anna&white=Bo&depth=8"
 
 
 def make(address, port, folder):
     folder.mkdir(exist_ok=True)
     whole = whole_game(6)
     views = (("board-first", (1280, 800), "en", "light", "", "moves"), ("board-middle", (1280, 800), "en", "dark", MIDDLE, "moves"), ("board-mistakes", (1280, 800), "en", "light", f"moves={whole}&at=52&depth=4", "mistakes"),
-             ("board-phone", (390, 844), "de", "light", f"{MIDDLE}&depth=8", "moves"))  # fmt: skip
+             ("board-phone", (390, 844), "de", "light", MIDDLE, "moves"))  # fmt: skip
     for name, size, language, scheme, state, tab in views:
         with opened("chromium", language, scheme, size) as shown:
             shown.open(f"{address}#{state}")
@@ -21,7 +21,7 @@ def make(address, port, folder):
             shown.evaluate("document.activeElement.blur()")
             shown.picture(folder / f"{name}.png")
     with page(port, "--address", "0.0.0.0", "--name", "board.school.example") as (_, service), opened("chromium", size=(1280, 800)) as shown, opened("chromium") as pupil:
-        shown.open(f"{service}#{MIDDLE}&depth=8")
+        shown.open(f"{service}#{MIDDLE}")
         shown.known(600)
         shown.tab("class")
         shown.until("a class can be opened", "!document.getElementById('class-open').hidden")
