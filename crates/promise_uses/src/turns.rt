@@ -1,14 +1,14 @@
 //! When it is somebody's turn, at any place of any group: of one that was served least, and of one that was served at most so much more.
 ghost use Rattle.std.specs.Prelude.{◌≡◌, ◌+◌, ◌<◌, ◌≤◌, ℕ, List, count_by, true};
-ghost use Rattle.fair_pool.specs.declared.account.ShareAccount.{ShareAccount};
-ghost use Rattle.fair_pool.specs.Accounts.{is_rival};
-ghost use Rattle.fair_pool.specs.Lines.{LineOf, IsNextAccount, account_at, charged};
-ghost use Rattle.fair_pool.specs.Waits.{LineEvent, Waits, IsEach, IsLeast, IsLed, is_ahead, is_member, picks_in, tasks_in, arrivals_in};
+ghost use Rattle.fair_share.specs.declared.account.ShareAccount.{ShareAccount};
+ghost use Rattle.fair_share.specs.Accounts.{is_rival};
+ghost use Rattle.fair_share.specs.Lines.{LineOf, IsNextAccount, account_at, charged};
+ghost use Rattle.fair_share.specs.Waits.{LineEvent, Waits, IsEach, IsLeast, IsLed, is_ahead, is_member, picks_in, tasks_in, arrivals_in};
 
-use fair_pool::laws::{who_is_least_is_picked_soon, who_is_ready_is_picked};
+use fair_share::laws::{who_is_least_is_picked_soon, who_is_ready_is_picked};
 
 /// Who was served least is the first that is picked where no other is before it. Behind two others it is picked third at the latest, and
-/// where of 128 tasks one is a pick, fewer than 384 tasks are done until then. Uses `fair_pool::who_is_least_is_picked_soon` (`picks`,
+/// where of 128 tasks one is a pick, fewer than 384 tasks are done until then. Uses `fair_share::who_is_least_is_picked_soon` (`picks`,
 /// `tasks`).
 pub fn when_the_least_is_picked()
     ensures first { (group place : ℕ) (line : LineOf) (account : ShareAccount) (events : List LineEvent) → IsLeast group place line account → Waits group place line events →
@@ -23,7 +23,7 @@ pub fn when_the_least_is_picked()
 
 /// Who was served at most 5 more than others is picked again after 12 picks, where two others are there or come, and where of 128 tasks one
 /// is a pick, fewer than 1664 tasks are done until then; who is alone is the next that is picked. And who was picked is ahead by what its
-/// task cost. Uses `fair_pool::who_is_ready_is_picked` (`picks`, `tasks`, `lead`).
+/// task cost. Uses `fair_share::who_is_ready_is_picked` (`picks`, `tasks`, `lead`).
 pub fn when_it_is_picked_again()
     ensures alone { (group place lead : ℕ) (line : LineOf) (account : ShareAccount) (events : List LineEvent) → IsLed group place lead line account → Waits group place line events →
         count_by (is_member group) line.accounts + arrivals_in group events ≡ 1 → picks_in events ≤ 0 }
