@@ -278,8 +278,8 @@ class Service:
             asked = request.json()
             if what == "pupils":
                 return Answer(kind="application/x-ndjson", lines=self.rooms.pupils(room, asked.get("key") if isinstance(asked, dict) else None))
-            number, *stands = pupil_of(asked)
-            self.rooms.tell_of(room, number, *stands)
+            number, called, alone, state = pupil_of(asked)
+            self.rooms.tell_of(room, number, called, alone, state)
             return Answer(kind="application/x-ndjson", lines=self.rooms.follow(room, number)) if what == "follow" else Answer.json({})
         if request.method == "POST":
             asked = request.json()
