@@ -1,0 +1,5 @@
+use Rattle.jamboree_core.specs.Replies.{AreSearches}
+use Rattle.serial_tests.proofs.tests.search.cores.long_list.Given as goal
+
+abbrev pub invariant-loop-at : goal.invariant-loop-at
+invariant-loop-at l = AreSearches l.steps.items
