@@ -37,7 +37,7 @@ pub use Rattle.jamboree_rules.specs.sched_rules.declared.act.Continuation.{Conti
 pub use Rattle.jamboree_rules.specs.sched_rules.declared.act.InletAct.{InletAct}
 pub use Rattle.othello_board.specs.Words.{cells, cells_of}
 pub use Rattle.othello_board.specs.declared.cells.Cell.{Cell}
-pub use Rattle.othello_moves.proofs.AllowedLemmas.{choices_allowed, choices_fit}
+pub use Rattle.othello_moves.proofs.AllowedLemmas.{choices_allowed, choices-fit}
 pub use Rattle.othello_moves.specs.Choices.{IsAllowed, after, choices, plies}
 pub use Rattle.othello_moves.specs.Depths.{greatest_depth}
 pub use Rattle.othello_moves.specs.declared.choices.Choice.{Choice}

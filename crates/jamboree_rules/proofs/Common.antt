@@ -33,7 +33,7 @@ unfoldable pub use Rattle.othello_board.specs.Rules.{squares}
 pub use Rattle.othello_board.specs.Words.{bits_of, cell_of, cells_of}
 pub use Rattle.othello_board.specs.declared.cells.Cell.{Cell}
 pub use Rattle.othello_board.specs.declared.cells.Cell.TheVariants.{Empty, Opp, Own}
-pub use Rattle.othello_moves.proofs.AllowedLemmas.{choices_allowed, choices_fit, contained-allowed, length-after, squares-length}
+pub use Rattle.othello_moves.proofs.AllowedLemmas.{choices_allowed, choices-fit, contained-allowed, length-after, squares-length}
 pub use Rattle.othello_moves.proofs.BitLemmas.{is_among-filter, is-square}
 pub use Rattle.othello_moves.proofs.LeadLemmas.{no-square}
 pub use Rattle.othello_moves.specs.Choices.{IsAllowed, after, choices, choices_without_move, legal_squares, plies}

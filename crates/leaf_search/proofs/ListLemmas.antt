@@ -1,5 +1,5 @@
 -- The list of the choices of a board, one choice after another.
-use Rattle.leaf_search.proofs.Common.{append-nil, append_assoc, ◌≡◌, ◌<◌, ◌≤◌, ◌+◌, ℕ, suc, length, List, [], ◌∷◌, ◌++◌, map, refl, sym, ◌∙◌, ap, ap₂, subst, arith, Contains, Contains-append_right, length-append, length-map, map-append, choices, Choice, Cell, Ranked, numbered, numbered_choice, choices_fit, IsPermutation, IsPermutation-map, length_permutation, take, drop, refill, take-append_seam, drop-cons, get_or, length-drop, eqb, Bool, false, pos, Square}
+use Rattle.leaf_search.proofs.Common.{append-nil, append_assoc, ◌≡◌, ◌<◌, ◌≤◌, ◌+◌, ℕ, suc, length, List, [], ◌∷◌, ◌++◌, map, refl, sym, ◌∙◌, ap, ap₂, subst, arith, Contains, Contains-append_right, length-append, length-map, map-append, choices, Choice, Cell, Ranked, numbered, numbered_choice, choices-fit, IsPermutation, IsPermutation-map, length_permutation, take, drop, refill, take-append_seam, drop-cons, get_or, length-drop, eqb, Bool, false, pos, Square}
 use Rattle.leaf_search.proofs.RankingLemmas.{length-numbered, numbered-push}
 
 -- the items are the choices taken so far, numbered
@@ -24,7 +24,7 @@ module _ {board : List Cell} {items : List Ranked} {left : List Choice} (s : IsL
 
     -- there is room
     pub IsListed-room : length items < 64
-    IsListed-room = omega (arith, as-many, ap length split-next, length-append s.taken (c ∷ rest), choices_fit board)
+    IsListed-room = omega (arith, as-many, ap length split-next, length-append s.taken (c ∷ rest), choices-fit board)
 
     pub IsListed-turn : (r : Ranked) → r.choice ≡ c → r.place ≡ length items → IsListed board (items ++ r ∷ []) rest
     IsListed-turn r choice place = record {

@@ -26,8 +26,8 @@ pub legal_squares-fit : (board : List Cell) → length (legal_squares board) ≤
 legal_squares-fit board = omega (arith, length-filter (is_legal board) in_order, count_by-le-length (is_legal board) in_order, in_order-length)
 
 -- and at most 64 choices
-pub choices_fit : (board : List Cell) → length (choices board) ≤ 64
-choices_fit board = grind (arith, cond_both, length-map, legal_squares-fit)
+pub choices-fit : (board : List Cell) → length (choices board) ≤ 64
+choices-fit board = grind (arith, cond_both, length-map, legal_squares-fit)
 
 pub squares-length : length squares ≡ 64
 unfolding squares

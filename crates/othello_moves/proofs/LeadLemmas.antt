@@ -91,7 +91,7 @@ keeps-on (suc n) board d t e =
 -- ---- a word slid back, bit by bit
 
 -- whether the next square, where there is one, passes a test
-abbrev there_is : (ℕ → Bool) → Option ℕ → Bool
+abbrev pub there_is : (ℕ → Bool) → Option ℕ → Bool
 there_is test None = false
 there_is test (Some u) = test u
 
@@ -319,7 +319,7 @@ led-two-more found pairs slid twice m board d pair_bits slides slides_again bits
 nil-led_by : (c : Cell) (u : ℕ) (beyond : Option (List ℕ)) → not (is_nil (unwrap_or (led_by c u beyond) [])) ≡ (is_opp_cell c && is_some beyond)
 nil-led_by c u beyond = grind arith
 
-run-by : (board : List Cell) (d : Direction) (t : ℕ) (next : Option ℕ) → step d t ≡ next → there_is (leads 5 board d) next ≡ not (is_nil (run board t d))
+pub run-by : (board : List Cell) (d : Direction) (t : ℕ) (next : Option ℕ) → step d t ≡ next → there_is (leads 5 board d) next ≡ not (is_nil (run board t d))
 run-by board d t next h5 = grind (arith, beside-edge, beside-next, nil-led_by)
 
 -- the squares from which a run begins

@@ -1,9 +1,9 @@
 -- Meaning: what a player to move may choose, and the board after each choice, by the rules of the World Othello
 -- Federation. A pass is the one choice of a side that can't move in a game that isn't over. The order of
 -- the choices is the project's: legal corners first, then the other legal squares by rising index.
-use Rattle.std.specs.Prelude.{ℕ, ◌<◌, IsTrue, not, if◌then◌else◌, List, [], ◌∷◌, ◌++◌, map, filter}
+use Rattle.std.specs.Prelude.{ℕ, ◌<◌, IsTrue, not, if◌then◌else◌, List, [], ◌∷◌, ◌++◌, map, filter, count_by}
 use Rattle.othello_board.specs.declared.cells.Cell.{Cell}
-use Rattle.othello_board.specs.Rules.{squares, is_among, is_legal, is_nil, exchanged, played}
+use Rattle.othello_board.specs.Rules.{squares, cell_at, is_among, is_empty_cell, is_opp_cell, is_legal, is_nil, exchanged, played}
 use Rattle.othello_moves.specs.declared.choices.Choice.{Choice}
 use Rattle.othello_moves.specs.declared.choices.Choice.TheVariants.{Square, Pass}
 
@@ -43,3 +43,11 @@ IsAllowed board Pass = Unit {0}
 abbrev pub plies : Choice → ℕ
 plies (Square s) = 1
 plies Pass = 0
+
+-- how many squares of a board are empty
+abbrev pub empty_squares : List Cell → ℕ
+empty_squares board = count_by (λ s. is_empty_cell (cell_at board s)) squares
+
+-- how many opposing discs are on a board
+abbrev pub opposing_discs : List Cell → ℕ
+opposing_discs board = count_by (λ s. is_opp_cell (cell_at board s)) squares
