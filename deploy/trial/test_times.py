@@ -6,9 +6,11 @@ import contextlib
 import ctypes
 import os
 import socket
+import threading
 import time
 
-from place import LONG, OPENING, SLOW, SMALL, Answer, Site, address_of, header_of, until
+from coluwen import Refused
+from place import GREAT, LONG, LONGEST, OPENING, SLOW, SMALL, Answer, Site, address_of, header_of, until
 
 TERMS = [("welcome = 10 ", "welcome = 3 "), ("idle = 3600 ", "idle = 6 "), ("write = 60 ", "write = 3 "), ("hangup = 60 ", "hangup = 3 ")]
 
@@ -114,3 +116,31 @@ def test_an_answer_waits_for_no_acknowledgement() -> None:
         assert site.process
         with other_end(site.process.pid, session.socket) as end:
             assert end.getsockopt(socket.IPPROTO_TCP, socket.TCP_NODELAY) == 1
+
+
+def test_who_was_served_much_is_served_again_where_new_ones_keep_coming() -> None:
+    """One worker, leaves of six plies: a guest is answered again and again beside 50 sessions that ask, cancel, leave and come anew."""
+    with Site(terms=SLOW) as site, concurrent.futures.ThreadPoolExecutor(50) as many:
+        over, begun = threading.Event(), [0] * 50
+
+        def come_and_go(number: int) -> None:
+            while not over.is_set():
+                with contextlib.suppress(Refused, OSError), site.opened(address_of(number), *GREAT) as session:
+                    job = session.ask_line(LONG)
+                    over.wait(0.05)
+                    session.cancel(job)
+                    begun[number] += 1
+
+        crowd = [many.submit(come_and_go, number) for number in range(50)]
+        try:
+            until(lambda: all(begun), 60, "all have come once")
+            with site.opened(address_of(60), *LONGEST) as guest:
+                for _ in range(5):
+                    asked = time.monotonic()
+                    assert guest.wait(guest.ask_line(f"10 {OPENING}"))[0] == "DONE"
+                    assert time.monotonic() - asked < 20, f"{time.monotonic() - asked:.0f} s beside {sum(begun)} sessions"
+                    print(f"{time.monotonic() - asked:.2f} s beside {sum(begun)}")
+        finally:
+            over.set()
+            for each in crowd:
+                each.result()

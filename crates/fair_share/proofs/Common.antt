@@ -13,10 +13,10 @@ pub use Rattle.std.specs.Vec.Iter.{into_iter_items, into_iter_len}
 pub use Rattle.sched_rules.specs.Cores.{CoreState}
 pub use Rattle.sched_rules.specs.Views.{newest_ready_in}
 pub use Rattle.fair_share.specs.Accounts.{account_charged, capped_sum, free_account, is_active, is_before, is_rival, rested, woken_from}
-pub use Rattle.fair_share.specs.Lines.{IsBestBelow, IsNextAccount, LineOf, account_at, account_names, charged, floor_of, has_member, has_rival, least_from}
+pub use Rattle.fair_share.specs.Lines.{IsBestBelow, IsLongest, IsLongestBelow, IsNextAccount, LineOf, account_at, account_names, charged, floor_of, has_member, has_rival, least_from}
 pub use Rattle.fair_share.specs.Lines.{lesser, named_from, place_among, place_among_from, place_from, place_named, rested_at, woken}
 unfoldable pub use Rattle.fair_share.specs.Picks.{seen_up_to}
 pub use Rattle.fair_share.specs.Shares.{SharesOf, customer_at, network_at, rested_unless, tenant_in_place, tenant_seen}
-pub use Rattle.fair_share.specs.Waits.{Comes, IsEach, IsFair, IsLeast, IsLed, LineEvent, Picks, Rests, Serves, Waits, Wakes, arrivals_in, is_ahead, is_member}
-pub use Rattle.fair_share.specs.Waits.{line_after, picks_in, place_in, tasks_in}
+pub use Rattle.fair_share.specs.Waits.{Comes, IsEach, IsFair, IsLeast, IsEachLong, IsLed, IsWaiting, LineEvent, Longs, Picks, Rests, Serves, Waits, Wakes, arrivals_in, is_ahead, is_member, is_older}
+pub use Rattle.fair_share.specs.Waits.{line_after, long_picks_in, picks_in, place_in, tasks_in}
 pub use Rattle.fair_share.specs.declared.account.ShareAccount.{ShareAccount}

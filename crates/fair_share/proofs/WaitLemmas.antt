@@ -1,5 +1,5 @@
 -- Who waits comes next after those ahead of it.
-use Rattle.fair_share.proofs.Common.{◌≡◌, ◌≢◌, ℕ, zero, suc, ◌+◌, ◌*◌, ◌<◌, ◌≤◌, Bool, true, false, List, [], ◌∷◌, set, sym, ◌∙◌, refl, ap, subst, arith, Option, Some, None, cond, unwrap_or, sum_by, get_or-set_other, sum_by-cons, ShareAccount, free_account, is_active, is_rival, is_before, capped_sum, account_charged, woken_from, rested, LineOf, account_at, lesser, least_from, floor_of, LineEvent, Comes, Wakes, Rests, Serves, Picks, line_after, place_in, IsFair, Waits, picks_in, tasks_in, IsEach, is_ahead, IsLeast}
+use Rattle.fair_share.proofs.Common.{◌≡◌, ◌≢◌, ℕ, zero, suc, ◌+◌, ◌*◌, ◌<◌, ◌≤◌, Bool, true, false, List, [], ◌∷◌, set, sym, ◌∙◌, refl, ap, subst, arith, Option, Some, None, cond, unwrap_or, sum_by, get_or-set_other, sum_by-cons, ShareAccount, free_account, is_active, is_rival, is_before, capped_sum, account_charged, woken_from, rested, LineOf, account_at, charged, lesser, least_from, floor_of, LineEvent, Comes, Wakes, Rests, Serves, Picks, Longs, line_after, place_in, IsFair, Waits, picks_in, tasks_in, IsEach, is_ahead, IsLeast}
 
 abbrev pub one : Bool → ℕ
 one b = cond b 1 0
@@ -12,10 +12,27 @@ few-tasks many since (Wakes place ∷ events) each less = few-tasks many since e
 few-tasks many since (Rests place ∷ events) each less = few-tasks many since events each less
 few-tasks many since (Serves place amount ∷ events) each less = omega (arith, few-tasks many (since + 1) events each.1 each.0)
 few-tasks many since (Picks place amount ∷ events) each less = omega (arith, few-tasks many 0 events each (omega arith))
+few-tasks many since (Longs place amount ∷ events) each less = omega (arith, few-tasks many (since + 1) events each.1 each.0)
 
 -- one more is before
-charged-behind : (a b : ShareAccount) (amount : ℕ) → 0 < amount → a.served < 18446744073709551615 → a.served ≤ b.served → is_before a (account_charged amount b) ≡ true
-charged-behind a b amount some few least = grind arith
+charged-behind : (a b : ShareAccount) (amount turn : ℕ) → 0 < amount → a.served < 18446744073709551615 → a.served ≤ b.served → is_before a (account_charged amount turn b) ≡ true
+charged-behind a b amount turn some few least = grind arith
+
+-- one that is served later is before too
+charged-later : (a b : ShareAccount) (amount turn : ℕ) → a.since < turn → a.served < 18446744073709551615 → a.served ≤ b.served → is_active b ≡ true → is_before a (account_charged amount turn b) ≡ true
+charged-later a b amount turn since few least active = grind arith
+
+charged-rival : (group : ℕ) (y : ShareAccount) (amount turn : ℕ) → is_rival group y ≡ false → is_rival group (account_charged amount turn y) ≡ false
+charged-rival group y amount turn rests = grind arith
+
+active-rival : (group : ℕ) (y : ShareAccount) → is_rival group y ≡ true → is_active y ≡ true
+active-rival group y is = grind arith
+
+before-out : (group : ℕ) (account y : ShareAccount) → is_before account y ≡ true → is_ahead group account y ≡ false
+before-out group account y before = grind arith
+
+charged-out : (group : ℕ) (y account : ShareAccount) → is_rival group y ≡ false → is_ahead group account y ≡ false
+charged-out group y account rests = grind arith
 
 -- who isn't before another has been served as much at least
 pub not-before : (a b : ShareAccount) → is_before a b ≡ false → b.served ≤ a.served
@@ -119,13 +136,16 @@ none-ahead group account = refl
 
 module _ (group : ℕ) (account y : ShareAccount) where
   -- after a task of somebody served at least as much: it isn't ahead where it wasn't
-  task-ahead : (amount : ℕ) → account.served < 18446744073709551615 → (is_rival group y ≡ true → account.served ≤ y.served) → ahead_one group account (account_charged amount y) ≤ ahead_one group account y
-  task-ahead amount few least = grind arith
+  task-ahead : (amount turn : ℕ) → account.since < turn → account.served < 18446744073709551615 → (is_rival group y ≡ true → account.served ≤ y.served) → ahead_one group account (account_charged amount turn y) ≤ ahead_one group account y
+  task-ahead amount turn since few least = let out = not-ahead (is_rival group y) refl in omega (arith, ap one out) where
+    not-ahead : (b : Bool) → is_rival group y ≡ b → is_ahead group account (account_charged amount turn y) ≡ false
+    not-ahead true is = let later = charged-later account y amount turn since few (least is) (active-rival group y is) in before-out group account (account_charged amount turn y) later
+    not-ahead false is = charged-out group (account_charged amount turn y) account (charged-rival group y amount turn is)
 
   -- after a pick: it isn't ahead any more
-  pick-ahead : (amount : ℕ) → account.served < 18446744073709551615 → 0 < amount → is_rival group y ≡ true → account.served ≤ y.served →
-      is_before account y ≡ false → ahead_one group account (account_charged amount y) + 1 ≤ ahead_one group account y
-  pick-ahead amount few some active least before = grind (arith, charged-behind account y amount some few least)
+  pick-ahead : (amount turn : ℕ) → account.served < 18446744073709551615 → 0 < amount → is_rival group y ≡ true → account.served ≤ y.served →
+      is_before account y ≡ false → ahead_one group account (account_charged amount turn y) + 1 ≤ ahead_one group account y
+  pick-ahead amount turn few some active least before = grind (arith, charged-behind account y amount turn some few least)
 
   -- one that becomes active isn't ahead
   woken-ahead : (floor turn : ℕ) → account.since < turn → (y.group ≡ group → account.served ≤ floor) → is_ahead group account (woken_from floor turn y) ≡ false
@@ -135,14 +155,14 @@ module _ (group : ℕ) (account y : ShareAccount) where
   rests-no : is_rival group (rested y) ≡ true → account.served ≤ (rested y).served
   rests-no active = grind arith
 
-  more-least : (amount : ℕ) → account.served < 18446744073709551615 → (is_rival group y ≡ true → account.served ≤ y.served) →
-      is_rival group (account_charged amount y) ≡ true → account.served ≤ (account_charged amount y).served
-  more-least amount few least active = grind arith
+  more-least : (amount turn : ℕ) → account.served < 18446744073709551615 → (is_rival group y ≡ true → account.served ≤ y.served) →
+      is_rival group (account_charged amount turn y) ≡ true → account.served ≤ (account_charged amount turn y).served
+  more-least amount turn few least active = grind arith
 
   woken-least : (floor turn : ℕ) → (y.group ≡ group → account.served ≤ floor) → is_rival group (woken_from floor turn y) ≡ true → account.served ≤ (woken_from floor turn y).served
   woken-least floor turn least active = grind arith
 
-capped-turn : (turn : ℕ) → turn ≤ 18446744073709551615 → (turn ≤ capped_sum turn 1) × (capped_sum turn 1 ≤ 18446744073709551615)
+pub capped-turn : (turn : ℕ) → turn ≤ 18446744073709551615 → (turn ≤ capped_sum turn 1) × (capped_sum turn 1 ≤ 18446744073709551615)
 capped-turn turn most = grind arith
 
 -- a line after somebody has woken, who was active, or wasn't
@@ -168,6 +188,13 @@ module _ (group place : ℕ) (line : LineOf) (account : ShareAccount) (is : IsLe
   own-floor : (y : ShareAccount) → y.group ≡ group → account.served ≤ floor_of y.group line.accounts
   own-floor y same = rw same (floor-least group account.served line.accounts place (ap (is_rival group) is.here ∙ is.active) is.least)
 
+  -- so does a task of somebody else
+  least-served : (other amount : ℕ) → other ≢ place → IsLeast group place (charged other amount line) account
+  least-served other amount differs =
+      let y = account_at line.accounts other in
+      let later = capped-turn line.turn is.turns in
+      least-set other (account_charged amount line.turn y) (capped_sum line.turn 1) differs (more-least group account y amount line.turn is.served (is.least other)) later.0 later.1
+
   -- what happens to others leaves the least the least
   least-after : (event : LineEvent) → place_in event ≢ place → IsLeast group place (line_after line event) account
   least-after (Comes other y) differs = least-set other (rested y) line.turn differs (rests-no group account y) (omega arith) is.turns
@@ -180,12 +207,15 @@ module _ (group place : ℕ) (line : LineOf) (account : ShareAccount) (is : IsLe
       ]
   least-after (Rests other) differs =
       let y = account_at line.accounts other in least-set other (rested y) line.turn differs (rests-no group account y) (omega arith) is.turns
-  least-after (Serves other amount) differs =
+  least-after (Serves other amount) differs = least-served other amount differs
+  least-after (Picks other amount) differs = least-served other amount differs
+  least-after (Longs other amount) differs = least-served other amount differs
+
+  ahead-served : (other amount : ℕ) → sum_by (ahead_one group account) (charged other amount line).accounts + 0 ≤ sum_by (ahead_one group account) line.accounts + 0
+  ahead-served other amount =
       let y = account_at line.accounts other in
-      least-set other (account_charged amount y) line.turn differs (more-least group account y amount is.served (is.least other)) (omega arith) is.turns
-  least-after (Picks other amount) differs =
-      let y = account_at line.accounts other in
-      least-set other (account_charged amount y) line.turn differs (more-least group account y amount is.served (is.least other)) (omega arith) is.turns
+      sum-set (ahead_one group account) line.accounts other (account_charged amount line.turn y) 0 0 refl
+      (omega (arith, task-ahead group account y amount line.turn is.since is.served (is.least other)))
 
   -- so many are ahead, and a pick is one less
   ahead-after : (event : LineEvent) → IsFair group line event →
@@ -199,14 +229,13 @@ module _ (group place : ℕ) (line : LineOf) (account : ShareAccount) (is : IsLe
       ]
   ahead-after (Rests other) fair =
       let y = account_at line.accounts other in sum-set (ahead_one group account) line.accounts other (rested y) 0 0 refl (omega (arith, ap one (out-of group account (rested y) refl)))
-  ahead-after (Serves other amount) fair =
-      let y = account_at line.accounts other in
-      sum-set (ahead_one group account) line.accounts other (account_charged amount y) 0 0 refl (omega (arith, task-ahead group account y amount is.served (is.least other)))
+  ahead-after (Serves other amount) fair = ahead-served other amount
   ahead-after (Picks other amount) fair =
       let y = account_at line.accounts other in
       let before = subst (λ (a : ShareAccount). is_before a y ≡ false) is.here (fair.0.none_before place (ap (is_rival group) is.here ∙ is.active)) in
-      sum-set (ahead_one group account) line.accounts other (account_charged amount y) 1 0 refl
-      (omega (arith, pick-ahead group account y amount is.served fair.1 fair.0.is_one (is.least other fair.0.is_one) before))
+      sum-set (ahead_one group account) line.accounts other (account_charged amount line.turn y) 1 0 refl
+      (omega (arith, pick-ahead group account y amount line.turn is.served fair.1 fair.0.is_one (is.least other fair.0.is_one) before))
+  ahead-after (Longs other amount) fair = ahead-served other amount
 
 pub picks-cons : (event : LineEvent) (events : List LineEvent) → picks_in (event ∷ events) ≡ picks_in (event ∷ []) + picks_in events
 picks-cons (Comes place account) events = omega arith
@@ -214,6 +243,7 @@ picks-cons (Wakes place) events = omega arith
 picks-cons (Rests place) events = omega arith
 picks-cons (Serves place amount) events = omega arith
 picks-cons (Picks place amount) events = omega arith
+picks-cons (Longs place amount) events = omega arith
 
 -- so the picks are fewer than those ahead, itself among them
 pub few-picks : (group place : ℕ) (line : LineOf) (account : ShareAccount) (events : List LineEvent) → IsLeast group place line account →

@@ -14,7 +14,7 @@ is_active account = nat_lt 0 account.since
 abbrev pub is_rival : ℕ → ShareAccount → Bool
 is_rival group account = is_active account && (account.group == group)
 
--- whether the first comes before the second: it was served less, or as much and it became active earlier
+-- whether the first comes before the second: it was served less, or as much and it has waited for longer
 abbrev pub is_before : ShareAccount → ShareAccount → Bool
 is_before first second = nat_lt first.served second.served || ((first.served == second.served) && nat_lt first.since second.since)
 
@@ -22,11 +22,11 @@ is_before first second = nat_lt first.served second.served || ((first.served == 
 abbrev pub capped_sum : ℕ → ℕ → ℕ
 capped_sum a b = if nat_lt (18446744073709551615 - a) b then 18446744073709551615 else a + b
 
--- after it was served so much more
-abbrev pub account_charged : ℕ → ShareAccount → ShareAccount
-account_charged amount account = record account { served = capped_sum account.served amount }
+-- after it was served so much more at this turn: if it is active, it waits from then on
+abbrev pub account_charged : ℕ → ℕ → ShareAccount → ShareAccount
+account_charged amount turn account = record account { served = capped_sum account.served amount; since = if is_active account then turn else 0 }
 
--- active since this turn, served as much as it was, or as this floor where that is more
+-- active, and waiting, since this turn; served as much as it was, or as this floor where that is more
 abbrev pub woken_from : ℕ → ℕ → ShareAccount → ShareAccount
 woken_from floor turn account = record account { served = if nat_lt account.served floor then floor else account.served; since = turn }
 

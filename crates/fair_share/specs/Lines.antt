@@ -1,9 +1,9 @@
 -- Meaning: a line of accounts, and who comes next in a group.
-use Rattle.std.specs.Prelude.{ℕ, ◌+◌, ◌≡◌, ◌==◌, ◌<◌, nat_lt, Bool, true, false, ◌&&◌, ◌||◌, List, [], ◌∷◌, Option, Some, None, unwrap_or, if◌then◌else◌, map, replicate, slice_index_or, slice_set}
+use Rattle.std.specs.Prelude.{ℕ, ◌+◌, ◌≡◌, ◌==◌, ◌<◌, ◌≤◌, nat_lt, Bool, true, false, ◌&&◌, ◌||◌, List, [], ◌∷◌, Option, Some, None, unwrap_or, if◌then◌else◌, map, replicate, slice_index_or, slice_set}
 use Rattle.fair_share.specs.declared.account.ShareAccount.{ShareAccount}
 use Rattle.fair_share.specs.Accounts.{free_account, is_active, is_rival, is_before, capped_sum, account_charged, woken_from, rested}
 
--- the accounts by their places, and the turn at which the next one becomes active
+-- the accounts by their places, and the turn at which the next one becomes active or is served
 pub record LineOf : Type 0 where
   pub accounts : List ShareAccount
   pub turn : ℕ
@@ -32,6 +32,18 @@ IsBestBelow group accounts limit None = (other : ℕ) → other < limit → is_r
 IsBestBelow group accounts limit (Some best) =
     (best.1 ≡ account_at accounts best.0) × (is_rival group best.1 ≡ true)
     × ((other : ℕ) → other < limit → is_rival group (account_at accounts other) ≡ true → is_before (account_at accounts other) best.1 ≡ false)
+
+-- at this place is who has waited longest: it is active, and nobody active, of whatever group, has waited since an earlier turn
+pub record IsLongest (accounts : List ShareAccount) (place : ℕ) : Type 0 where
+  pub is_one : is_active (account_at accounts place) ≡ true
+  pub none_longer : (other : ℕ) → is_active (account_at accounts other) ≡ true → (account_at accounts place).since ≤ (account_at accounts other).since
+
+-- of those before a place: nobody is active, or it is who has waited longest among them
+abbrev pub IsLongestBelow : ℕ → List ShareAccount → Option (ℕ × ShareAccount) → Type 0
+IsLongestBelow limit accounts None = (other : ℕ) → other < limit → is_active (account_at accounts other) ≡ false
+IsLongestBelow limit accounts (Some best) =
+    (best.1 ≡ account_at accounts best.0) × (is_active best.1 ≡ true)
+    × ((other : ℕ) → other < limit → is_active (account_at accounts other) ≡ true → best.1.since ≤ (account_at accounts other).since)
 
 -- the lesser of a count and another, if there is one
 abbrev pub lesser : ℕ → Option ℕ → ℕ
@@ -65,7 +77,10 @@ rested_at place line = record line { accounts = slice_set line.accounts place (r
 
 -- the line after the account at a place was served so much more
 abbrev pub charged : ℕ → ℕ → LineOf → LineOf
-charged place amount line = record line { accounts = slice_set line.accounts place (account_charged amount (account_at line.accounts place)) }
+charged place amount line = record {
+  accounts = slice_set line.accounts place (account_charged amount line.turn (account_at line.accounts place));
+  turn = capped_sum line.turn 1;
+}
 
 -- the line with another account at a place
 abbrev pub put_at : ℕ → ShareAccount → LineOf → LineOf

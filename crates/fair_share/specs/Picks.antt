@@ -1,10 +1,10 @@
--- Meaning: which frame of a hall comes next, by who was served least.
+-- Meaning: which frame of a hall comes next, by who was served least or has waited longest.
 use Rattle.std.specs.Prelude.{◌≡◌, ◌⊎◌, ℕ, zero, suc, Option, Some, None, is_some}
 use Rattle.sched_rules.specs.Cores.{CoreState}
 use Rattle.sched_rules.specs.Views.{newest_ready_in}
 use Rattle.pool_rules.specs.declared.task.Task.{Task}
 use Rattle.fair_share.specs.Lines.{place_named}
-use Rattle.fair_share.specs.Shares.{SharesOf, IsPick, IsNobody, tenant_in_place, tenant_seen, served_all}
+use Rattle.fair_share.specs.Shares.{SharesOf, pick_counted, IsPick, IsNobody, tenant_in_place, tenant_seen, served_all}
 
 -- after it was seen of each of the first so many places whether its tenant has a ready frame
 unfoldable pub seen_up_to : CoreState → ℕ → SharesOf → SharesOf
@@ -13,9 +13,9 @@ seen_up_to core (suc place) shares =
     let before = seen_up_to core place shares in
     tenant_seen place (is_some (newest_ready_in core (tenant_in_place before place).name)) before
 
--- after it was seen of all tenants
+-- after it was seen of all tenants, for one more pick
 abbrev pub seen_all : CoreState → SharesOf → SharesOf
-seen_all core shares = seen_up_to core 64 shares
+seen_all core shares = pick_counted (seen_up_to core 64 shares)
 
 -- a fair task: the newest ready frame, with its home, of a tenant that is a fair pick
 pub record IsFairTask (core : CoreState) (shares : SharesOf) (task : Task) : Type 0 where

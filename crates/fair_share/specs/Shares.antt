@@ -1,20 +1,22 @@
 -- Meaning: who shares a pool: customers, the networks of each, and the tenants of each network.
-use Rattle.std.specs.Prelude.{ℕ, ◌+◌, ◌-◌, ◌≡◌, ◌==◌, Bool, false, ◌||◌, ◌⊎◌, List, Option, Some, None, if◌then◌else◌, replicate, slice_index, slice_set}
+use Rattle.std.specs.Prelude.{ℕ, zero, suc, ◌+◌, ◌-◌, ◌≡◌, ◌==◌, nat_lt, Bool, false, ◌||◌, ◌⊎◌, List, Option, Some, None, if◌then◌else◌, replicate, slice_index, slice_set}
 use Rattle.fair_share.specs.declared.account.ShareAccount.{ShareAccount}
 use Rattle.fair_share.specs.Accounts.{free_account, is_active, is_rival, capped_sum}
-use Rattle.fair_share.specs.Lines.{LineOf, IsNextAccount, empty_line, account_at, has_rival, has_member, woken, rested_at, charged, put_at, joined, joined_place}
+use Rattle.fair_share.specs.Lines.{LineOf, IsNextAccount, IsLongest, empty_line, account_at, has_rival, has_member, woken, rested_at, charged, put_at, joined, joined_place}
 
 -- three lines: of customers, who are all in group 0; of networks, each in the group of its customer's place; of tenants, each in the group of
--- its network's place. And what each customer was served that isn't there, by its number
+-- its network's place. What each customer was served that isn't there, by its number. And how many picks there were since the last that was
+-- of who had waited longest
 pub record SharesOf : Type 0 where
   pub customers : LineOf
   pub networks : LineOf
   pub tenants : LineOf
   pub kept : List ℕ
+  pub picks : ℕ
 
 -- nobody is there, and so many customers were served nothing
 abbrev pub new_shares : ℕ → SharesOf
-new_shares many = record { customers = empty_line; networks = empty_line; tenants = empty_line; kept = replicate many 0 }
+new_shares many = record { customers = empty_line; networks = empty_line; tenants = empty_line; kept = replicate many 0; picks = 0 }
 
 -- the tenant at a place, the place of its network, and that of its customer
 abbrev pub tenant_in_place : SharesOf → ℕ → ShareAccount
@@ -26,9 +28,13 @@ network_at shares place = (tenant_in_place shares place).group
 abbrev pub customer_at : SharesOf → ℕ → ℕ
 customer_at shares place = (account_at shares.networks.accounts (network_at shares place)).group
 
--- a fair pick: a tenant with a ready frame of a customer that none with a ready frame was served less than; and of its customer's networks
--- and of its network's tenants likewise. Of those that were served as much it is who has been ready longest
-pub record IsPick (shares : SharesOf) (place : ℕ) : Type 0 where
+-- after one more pick: each fourth is of who has waited longest
+abbrev pub pick_counted : SharesOf → SharesOf
+pick_counted shares = record shares { picks = if nat_lt shares.picks 3 then shares.picks + 1 else 0 }
+
+-- a tenant with a ready frame of a customer that none with a ready frame was served less than; and of its customer's networks and of its
+-- network's tenants likewise. Of those that were served as much it is who has waited longest
+pub record IsLeastServed (shares : SharesOf) (place : ℕ) : Type 0 where
   pub customer : IsNextAccount 0 shares.customers.accounts (customer_at shares place)
   pub network : IsNextAccount (customer_at shares place) shares.networks.accounts (network_at shares place)
   pub tenant : IsNextAccount (network_at shares place) shares.tenants.accounts place
@@ -37,13 +43,29 @@ pub record IsPick (shares : SharesOf) (place : ℕ) : Type 0 where
 abbrev pub HasNone : ℕ → List ShareAccount → Type 0
 HasNone group accounts = (place : ℕ) → is_rival group (account_at accounts place) ≡ false
 
--- nobody comes next: no customer is active, or the next one has no active network, or its next network has no active tenant
-abbrev pub IsNobody : SharesOf → Type 0
-IsNobody shares =
+-- a fair pick: the tenant that has waited longest, each fourth time, and else one that was served least
+abbrev pub IsPickOf : ℕ → SharesOf → ℕ → Type 0
+IsPickOf zero shares place = IsLongest shares.tenants.accounts place
+IsPickOf (suc picks) shares place = IsLeastServed shares place
+
+abbrev pub IsPick : SharesOf → ℕ → Type 0
+IsPick shares place = IsPickOf shares.picks shares place
+
+-- nobody is served least: no customer is active, or the next one has no active network, or its next network has no active tenant
+abbrev pub IsNobodyLeast : SharesOf → Type 0
+IsNobodyLeast shares =
     HasNone 0 shares.customers.accounts
     ⊎ ((customer : ℕ) × IsNextAccount 0 shares.customers.accounts customer
     × (HasNone customer shares.networks.accounts
     ⊎ ((network : ℕ) × IsNextAccount customer shares.networks.accounts network × HasNone network shares.tenants.accounts)))
+
+-- nobody comes next
+abbrev pub IsNobodyOf : ℕ → SharesOf → Type 0
+IsNobodyOf zero shares = (place : ℕ) → is_active (account_at shares.tenants.accounts place) ≡ false
+IsNobodyOf (suc picks) shares = IsNobodyLeast shares
+
+abbrev pub IsNobody : SharesOf → Type 0
+IsNobody shares = IsNobodyOf shares.picks shares
 
 -- after a tenant has a ready frame, which had none: it becomes active, and with it its network and its customer, where they weren't
 abbrev pub woken_all : ℕ → SharesOf → SharesOf

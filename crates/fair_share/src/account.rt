@@ -10,7 +10,7 @@ pub struct ShareAccount {
     pub group: usize,
     /// How much it was served; it stays at 2^64 - 1.
     pub served: u64,
-    /// The turn at which it became active, from 1 on; 0 while it isn't.
+    /// The turn since when it waits, from 1 on: at which it became active, or was last served; 0 while it isn't active.
     pub since: u64,
 }
 
@@ -41,24 +41,25 @@ impl ShareAccount {
         self.is_active() && self.group == group
     }
 
-    /// Whether it comes before the other: it was served less, or as much and it became active earlier.
+    /// Whether it comes before the other: it was served less, or as much and it has waited for longer.
     pub(crate) fn is_before(self, other: ShareAccount) -> bool
         ensures { result ≡ is_before self other }
     {
         self.served < other.served || (self.served == other.served && self.since < other.since)
     }
 
-    /// After it was served so much more.
-    pub(crate) fn with_more(self, amount: u64) -> ShareAccount
-        ensures { result ≡ account_charged amount self }
+    /// After it was served so much more at this turn: if it is active, it waits from then on.
+    pub(crate) fn with_more(self, amount: u64, turn: u64) -> ShareAccount
+        ensures { result ≡ account_charged amount turn self }
     {
         ShareAccount {
             served: capped_sum(self.served, amount),
+            since: if self.is_active() { turn } else { 0 },
             ..self
         }
     }
 
-    /// Active since this turn, served as much as it was, or as this floor where that is more.
+    /// Active, and waiting, since this turn; served as much as it was, or as this floor where that is more.
     pub(crate) fn woken_from(self, floor: u64, turn: u64) -> ShareAccount
         ensures { result ≡ woken_from floor turn self }
     {

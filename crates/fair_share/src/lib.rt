@@ -1,9 +1,9 @@
-//! Who comes next, where many share a hall's workers: the least served.
+//! Who comes next, where many share a hall's workers: the least served, and each fourth time who has waited longest.
 //!
 //! A worker of `steal_pool` begins a new job only when all deques are empty, so a short job may wait as long as its neighbours have
 //! work. Where each 128th task that a worker begins is a pick (`steal_pool::Order::WithPicks`), nobody waits for a neighbour: a pick is
-//! the newest ready frame of a tenant of a customer that none with a ready frame was served less than ([`fair_task`], by a
-//! [`FairShare`]). What a tenant was served is charged to it, to its network and to its customer ([`charge`]).
+//! the newest ready frame of a tenant of a customer that none with a ready frame was served less than, and each fourth time that of the
+//! tenant that has waited longest ([`fair_task`], by a [`FairShare`]). What a tenant was served is charged to it, to its network and to its customer ([`charge`]).
 //!
 //! What is proved is that a pick is a fair one at the hall as it is (`specs/Picks.antt`), what a charge changes, and the laws of
 //! [`laws`], which follow from the definitions alone: for how many tasks whoever is active waits for its next pick.

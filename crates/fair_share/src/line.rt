@@ -1,8 +1,8 @@
 //! A line of accounts: who shares something in some group, and who comes next there.
 ghost use Rattle.std.specs.Prelude.{◌≡◌, ℕ, ◌+◌, ◌<◌, List, IfOk, IfNone, IfSome, false};
 ghost use Rattle.fair_share.specs.declared.account.ShareAccount.{ShareAccount};
-ghost use Rattle.fair_share.specs.Accounts.{is_rival};
-ghost use Rattle.fair_share.specs.Lines.{empty_line, account_at, has_rival, IsNextAccount, IsBestBelow, lesser, least_served, woken, rested_at, charged, put_at, account_place, place_named, place_among, joined_place, joined, has_member};
+ghost use Rattle.fair_share.specs.Accounts.{is_active, is_rival};
+ghost use Rattle.fair_share.specs.Lines.{empty_line, account_at, has_rival, IsNextAccount, IsBestBelow, IsLongest, IsLongestBelow, lesser, least_served, woken, rested_at, charged, put_at, account_place, place_named, place_among, joined_place, joined, has_member};
 
 use crate::account::{ShareAccount, capped_sum};
 use std::alloc::{AllocError, Global};
@@ -11,7 +11,7 @@ use std::marker::Model;
 /// How many accounts a line has.
 pub(crate) const PLACES: usize = 64;
 
-/// 64 accounts by their places, and the turn at which the next one becomes active.
+/// 64 accounts by their places, and the turn at which the next one becomes active or is served.
 #[derive(Drop)]
 pub(crate) struct ShareLine {
     accounts: Vec<ShareAccount>,
@@ -79,6 +79,14 @@ impl ShareLine {
         ensures none { IfNone result ((other : ℕ) → is_rival group (account_at self.now.accounts other) ≡ false) }
     {
         next_in(&self.accounts, group)
+    }
+
+    /// Who has waited longest, in whatever group; None where nobody is active.
+    pub(crate) fn longest(&self) -> Option<usize>
+        ensures longest { IfSome result (IsLongest self.now.accounts) }
+        ensures none { IfNone result ((other : ℕ) → is_active (account_at self.now.accounts other) ≡ false) }
+    {
+        longest_in(&self.accounts)
     }
 
     /// Whether somebody is active in a group.
@@ -154,7 +162,8 @@ impl ShareLine {
     pub(crate) fn charge(&mut self, place: usize, amount: u64)
         ensures { self.new ≡ charged place amount self.old }
     {
-        self.put(place, self.at(place).with_more(amount));
+        self.put(place, self.at(place).with_more(amount, self.turn));
+        self.turn = capped_sum(self.turn, 1);
     }
 
     /// Another account comes to a place.
@@ -200,6 +209,44 @@ fn better(
     match best {
         Some((held, other)) => {
             if account.is_before(other) {
+                Some((place, account))
+            } else {
+                Some((held, other))
+            }
+        }
+        None => Some((place, account)),
+    }
+}
+
+/// The place of who has waited longest; None where nobody is active.
+fn longest_in(accounts: &[ShareAccount]) -> Option<usize>
+    ensures longest { IfSome result (IsLongest accounts.now) }
+    ensures none { IfNone result ((other : ℕ) → is_active (account_at accounts.now other) ≡ false) }
+{
+    let mut best = None;
+    for (place, account) in accounts.iter().enumerate() {
+        best = longer(best, place, *account);
+    }
+    match best {
+        Some((place, _)) => Some(place),
+        None => None,
+    }
+}
+
+/// Who has waited for longer: the one that has so far, or the account at a place.
+fn longer(
+    best: Option<(usize, ShareAccount)>,
+    place: usize,
+    account: ShareAccount,
+) -> Option<(usize, ShareAccount)>
+    ensures { (accounts : List ShareAccount) → account ≡ account_at accounts place → IsLongestBelow place accounts best → IsLongestBelow (place + 1) accounts result }
+{
+    if !account.is_active() {
+        return best;
+    }
+    match best {
+        Some((held, other)) => {
+            if account.since < other.since {
                 Some((place, account))
             } else {
                 Some((held, other))

@@ -1,4 +1,4 @@
-//! Which frame of a hall comes next, by who was served least.
+//! Which frame of a hall comes next, by who was served least or has waited longest.
 ghost use Rattle.std.specs.Prelude.{◌≡◌, IfSome, IfNone, is_some};
 ghost use Rattle.sched_rules.specs.Views.{newest_ready_in};
 ghost use Rattle.fair_share.specs.Shares.{tenant_seen, tenant_in_place};
@@ -10,7 +10,7 @@ use hall::Hall;
 use pool_rules::Task;
 use std::alloc::Allocator;
 
-/// Sees of all tenants whether they have a ready frame.
+/// Sees of all tenants whether they have a ready frame, for one more pick.
 #[tactic(auto, using(crate::proofs::PickLemmas::seen_more, crate::proofs::PickLemmas::seen_none))]
 fn see_all<A: Allocator>(hall: &Hall<A>, shares: &mut FairShare)
     ensures { shares.new ≡ seen_all hall.now.shared shares.old }
@@ -18,6 +18,7 @@ fn see_all<A: Allocator>(hall: &Hall<A>, shares: &mut FairShare)
     for place in 0..PLACES {
         see_one(hall, shares, place);
     }
+    shares.count();
 }
 
 /// Sees whether the tenant at a place has a ready frame. Nobody is looked for where the place is free.
@@ -33,7 +34,7 @@ fn see_one<A: Allocator>(hall: &Hall<A>, shares: &mut FairShare, place: usize)
 }
 
 /// The task that comes next: the newest ready frame of a tenant of a customer that none with a ready frame was served less than, and
-/// of its networks and tenants likewise. The frame isn't taken, and nobody is charged. None where no tenant that shares has one.
+/// of its networks and tenants likewise; each fourth time that of the tenant that has waited longest. The frame isn't taken, and nobody is charged. None where no tenant that shares has one.
 pub fn fair_task<A: Allocator>(hall: &Hall<A>, shares: &mut FairShare) -> Option<Task>
     ensures seen { shares.new ≡ seen_all hall.now.shared shares.old }
     ensures task { IfSome result (IsFairTask hall.now.shared shares.new) }

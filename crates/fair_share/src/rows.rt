@@ -6,7 +6,7 @@ ghost use Rattle.fair_share.specs.Waits.{is_ahead, Comes, Wakes, Rests, Serves, 
 ghost use Rattle.fair_share.specs.Shares.{new_shares, tenant_entered, entered_place, customer_at, network_at, tenant_seen, left_all};
 ghost use Rattle.fair_share.specs.Rows.{account, four, three, served};
 
-/// Two were served as much: the one that has been active for longer comes before the other. One that was served less comes before
+/// Two were served as much: the one that has waited for longer comes before the other. One that was served less comes before
 /// both.
 pub fn who_comes_before_whom()
     ensures longer { is_before (account 2 0 50 2) (account 1 0 50 3) ≡ true }
@@ -23,7 +23,7 @@ pub fn where_one_starts()
     ensures starts { account_at (woken 2 four).accounts 2 ≡ account 3 0 50 4 }
     ensures next_turn { (woken 2 four).turn ≡ 5 }
     ensures stays { woken 0 four ≡ four }
-    ensures greater { account_at (woken 2 (charged 2 70 four)).accounts 2 ≡ account 3 0 80 4 }
+    ensures greater { account_at (woken 2 (charged 2 70 four)).accounts 2 ≡ account 3 0 80 5 }
     ensures alone { account_at (woken 3 (rested_at 3 four)).accounts 3 ≡ account 4 1 0 4 }
 {}
 

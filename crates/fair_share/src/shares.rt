@@ -1,21 +1,23 @@
-//! Who comes next, where many share a pool: the least served.
+//! Who comes next, where many share a pool: the least served, and each fourth time who has waited longest.
 //!
 //! A [`FairShare`] knows up to 64 tenants, each of a network of a customer, and what each tenant, each network and each customer was
 //! served, in whatever unit the caller counts. It is told who has something to be done ([`FairShare::see`]) and what was done
 //! ([`FairShare::charge`]), and it says who comes next ([`FairShare::pick`]): of the customers with something to be done the one that
 //! was served least, of its networks likewise, and of that network's tenants likewise. So neither 30 sessions nor 60 addresses are 30
-//! or 60 shares. Where two were served as much, it is who has had something to be done for longer. (The field calls it start-time
+//! or 60 shares. Where two were served as much, it is who has waited for longer. (The field calls it start-time
 //! fair queueing, by Goyal, Vin and Cheng 1996, in a hierarchy; stride scheduling, by Waldspurger and Weihl 1995, is its kin.)
 //!
 //! **What the values stand for.** Three lines of 64 accounts (`specs/Lines.antt`): customers, their networks, and the networks' tenants. An
-//! account has a name, the group in which it shares (a network's is its customer's place), what it was served, and the turn at which it
-//! became active. Who becomes active starts at the greater of its own count and the least active one's of its group: so nobody
+//! account has a name, the group in which it shares (a network's is its customer's place), what it was served, and the turn since when it
+//! waits: at which it became active, or was last served. Who becomes active starts at the greater of its own count and the least active one's of its group: so nobody
 //! saves up by doing nothing, and nobody who comes back is behind. A customer's count outlives its tenants; those of networks and
 //! tenants end with them.
 //!
 //! - A call looks at 64 accounts at most, in three lines that lie close together. Only [`FairShare::new`] takes memory.
 //! - A count stays at 2^64 - 1: at 500 million positions a second after a thousand years. From then on nobody is served less.
 //! - A pick has to cost something, or it would be picked for ever: a caller counts at least 1 for a task.
+//! - Who comes anew starts level with the least served, so where they keep coming one that was served more would wait for ever: each
+//!   fourth pick ([`FairShare::count`]) is for the tenant that has waited longest since it was last served, in whatever group.
 //!
 //! ```text
 //! let mut shares = FairShare::new(alloc, 40)?;                  // customers 0 to 39
@@ -27,12 +29,15 @@
 ghost use Rattle.std.specs.Prelude.{◌≡◌, ◌+◌, ◌-◌, ◌<◌, ◌^◌, Some, None, false, IfOk, IfSome, IfNone};
 ghost use Rattle.fair_share.specs.Accounts.{free_account};
 ghost use Rattle.fair_share.specs.Lines.{account_at, place_named};
-ghost use Rattle.fair_share.specs.Shares.{new_shares, tenant_in_place, IsPick, IsNobody, woken_all, rested_all, tenant_seen, served_all, tenant_entered, entered_place, customer_freed, network_freed, left_all};
+ghost use Rattle.fair_share.specs.Shares.{new_shares, tenant_in_place, pick_counted, IsPick, IsNobody, IsLeastServed, IsNobodyLeast, woken_all, rested_all, tenant_seen, served_all, tenant_entered, entered_place, customer_freed, network_freed, left_all};
 
 use crate::account::{ShareAccount, capped_sum};
 use crate::line::ShareLine;
 use std::alloc::{AllocError, Global};
 use std::marker::Model;
+
+/// Each so many-th pick is of who has waited longest.
+const LONGEST_EACH: u8 = 4;
 
 /// Who shares a pool: up to 64 tenants, each of a network of a customer, and what each of these was served.
 #[derive(Drop)]
@@ -41,15 +46,17 @@ pub struct FairShare {
     networks: ShareLine,
     tenants: ShareLine,
     kept: Vec<u64>,
+    /// How many picks there were since the last that was of who had waited longest.
+    picks: u8,
 }
 
-// Clauses see the three lines, and what is kept of customers that aren't there.
+// Clauses see the three lines, what is kept of customers that aren't there, and the number of picks.
 impl Model for FairShare {
     ghost use Rattle.fair_share.specs.Shares.{SharesOf};
 
     ghost Value = { SharesOf };
 
-    ghost view = { λ f. record { customers = f.customers; networks = f.networks; tenants = f.tenants; kept = f.kept.items } };
+    ghost view = { λ f. record { customers = f.customers; networks = f.networks; tenants = f.tenants; kept = f.kept.items; picks = f.picks } };
 }
 
 impl FairShare {
@@ -67,6 +74,7 @@ impl FairShare {
             networks: ShareLine::new(alloc)?,
             tenants: ShareLine::new(alloc)?,
             kept,
+            picks: 0,
         })
     }
 
@@ -129,10 +137,32 @@ impl FairShare {
         self.tenants.charge(place, amount);
     }
 
-    /// The place of the tenant that comes next.
+    /// There is one more pick. Each fourth is of who has waited longest.
+    pub fn count(&mut self)
+        ensures { self.new ≡ pick_counted self.old }
+    {
+        self.picks = if self.picks < LONGEST_EACH - 1 {
+            self.picks + 1
+        } else {
+            0
+        };
+    }
+
+    /// The place of the tenant that comes next: who has waited longest, each fourth time, and else who was served least.
     pub fn pick(&self) -> Option<usize>
         ensures picked { IfSome result (IsPick self.now) }
         ensures nobody { IfNone result (IsNobody self.now) }
+    {
+        if self.picks == 0 {
+            self.tenants.longest()
+        } else {
+            self.least_served()
+        }
+    }
+
+    fn least_served(&self) -> Option<usize>
+        ensures picked { IfSome result (IsLeastServed self.now) }
+        ensures nobody { IfNone result (IsNobodyLeast self.now) }
     {
         let customer = self.customers.next(0)?;
         let network = self.networks.next(customer)?;

@@ -1,11 +1,14 @@
-//! When it is somebody's turn, at any place of any group: of one that was served least, and of one that was served at most so much more.
-ghost use Rattle.std.specs.Prelude.{◌≡◌, ◌+◌, ◌<◌, ◌≤◌, ℕ, List, count_by, true};
+//! When it is somebody's turn, at any place of any group: of one that was served least, of one that was served at most so much more, and of
+//! one that has waited longest.
+ghost use Rattle.std.specs.Prelude.{◌≡◌, ◌+◌, ◌<◌, ◌≤◌, ℕ, List, count_by, length, true};
 ghost use Rattle.fair_share.specs.declared.account.ShareAccount.{ShareAccount};
 ghost use Rattle.fair_share.specs.Accounts.{is_rival};
 ghost use Rattle.fair_share.specs.Lines.{LineOf, IsNextAccount, account_at, charged};
-ghost use Rattle.fair_share.specs.Waits.{LineEvent, Waits, IsEach, IsLeast, IsLed, is_ahead, is_member, picks_in, tasks_in, arrivals_in};
+ghost use Rattle.fair_share.specs.Waits.{LineEvent, Waits, IsEach, IsEachLong, IsLeast, IsLed, IsWaiting, is_ahead, is_member, is_older, picks_in, long_picks_in, tasks_in, arrivals_in};
 
-use fair_share::laws::{who_is_least_is_picked_soon, who_is_ready_is_picked};
+use fair_share::laws::{
+    who_is_least_is_picked_soon, who_is_ready_is_picked, who_waits_longest_is_picked,
+};
 
 /// Who was served least is the first that is picked where no other is before it. Behind two others it is picked third at the latest, and
 /// where of 128 tasks one is a pick, fewer than 384 tasks are done until then. Uses `fair_share::who_is_least_is_picked_soon` (`picks`,
@@ -35,4 +38,20 @@ pub fn when_it_is_picked_again()
         (account_at (charged place amount line).accounts place).served ≤ (account_at (charged place amount line).accounts other).served + amount }
 {
     who_is_ready_is_picked()
+}
+
+/// Who has waited longer than anybody else is the first that is picked for that; behind one other it is the second at the latest. Of 64
+/// places it is picked before 64 such picks, and where of 512 tasks one is such a pick, fewer than 32,768 tasks are done until then. Uses
+/// `fair_share::who_waits_longest_is_picked` (`picks`, `places`, `tasks`).
+pub fn when_it_has_waited_longest()
+    ensures first { (group place : ℕ) (line : LineOf) (account : ShareAccount) (events : List LineEvent) → IsWaiting place line account → Waits group place line events →
+        count_by (is_older account) line.accounts ≡ 1 → long_picks_in events ≤ 0 }
+    ensures second { (group place : ℕ) (line : LineOf) (account : ShareAccount) (events : List LineEvent) → IsWaiting place line account → Waits group place line events →
+        count_by (is_older account) line.accounts ≡ 2 → long_picks_in events ≤ 1 }
+    ensures places { (group place : ℕ) (line : LineOf) (account : ShareAccount) (events : List LineEvent) → IsWaiting place line account → Waits group place line events →
+        length line.accounts ≡ 64 → long_picks_in events ≤ 63 }
+    ensures tasks { (group place : ℕ) (line : LineOf) (account : ShareAccount) (events : List LineEvent) → IsWaiting place line account → Waits group place line events →
+        length line.accounts ≡ 64 → IsEachLong 512 0 events → tasks_in events < 32768 }
+{
+    who_waits_longest_is_picked()
 }

@@ -41,7 +41,8 @@ pub trait HeldHall {
         requires { is_worker_step step.now ≡ true }
         ensures { Self.Badge.share badge.new ≡ share_after (Self.Badge.share badge.old) result };
 
-    /// The task that comes next, by who was served least; `None` where nobody who shares has a ready frame. The frame isn't taken.
+    /// The task that comes next, by who was served least or has waited longest; `None` where nobody who shares has a ready frame. The frame
+    /// isn't taken.
     fn pick(&mut self) -> Option<Task>
         ensures { IfSome result (is_fair self.new) };
 

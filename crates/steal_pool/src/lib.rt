@@ -5,7 +5,7 @@
 //! once all workers were started; where one can't be had it tells it nothing. A worker looks for a frame that is ready: the newest task of
 //! its own deque, else the oldest of another's (`task_deques`), else one that the workplace knows of, for which it sleeps
 //! there. That is the specified [`Order`]; in the other one each 128th task that a worker begins is a pick, where there is one: a task that
-//! the workplace chooses by who was served least, so that nobody waits for a neighbour.
+//! the workplace chooses by who was served least or has waited longest, so that nobody waits for a neighbour.
 //!
 //! With a frame a worker does turn after turn (`pool_rules`): each turn is one step, offered to the hall under its
 //! lock by [`HeldHall::offer`] and by nothing else (steps that follow each other under one lock, [`steps`]), or one

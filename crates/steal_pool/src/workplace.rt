@@ -38,7 +38,8 @@ pub trait Workplace {
         ensures ends { posts tasks.new.ends ≡ posts tasks.old.ends }
         ensures few { Self.Badge.share badge.new ≤ Self.Badge.share badge.old + 32 };
 
-    /// The task that comes next, by who was served least; `None` where nobody who shares has a ready frame, or nobody shares.
+    /// The task that comes next, by who was served least or has waited longest; `None` where nobody who shares has a ready frame, or nobody
+    /// shares.
     fn pick<R: Wait>(&self, rt: &R) -> Option<Task>;
 
     /// Waits until a frame is ready or the workplace is closed, and returns the task that comes next: a pick where users share, else any
