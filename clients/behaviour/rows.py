@@ -18,6 +18,7 @@ import threading
 import time
 from collections.abc import Callable
 
+PATIENCE = 60  # seconds in which a client of another language has answered a call, whatever else its host does
 FOLDER = pathlib.Path(__file__).resolve().parent
 TIMES = ("silence", "patience", "outage", "timeout")
 DEFAULTS = {"sessions": "1", "ahead": "1", "silence": "1000", "patience": "2000", "outage": "0"}
@@ -31,6 +32,7 @@ class Row:
     steps: list[tuple[str, list[str]]] = dataclasses.field(default_factory=list)  # a call, and what it gives
     is_sound: bool = False
     is_nobody: bool = False
+    times: int = 1  # its times, and how long the server waits, are so many times those that are written
 
     def slower(self, times: int) -> Row:
         """The same with all its times so much longer."""
@@ -40,7 +42,7 @@ class Row:
 
         options = {name: str(int(text) * times) if name in TIMES else text for name, text in self.options.items()}
         scripts = [[(word, str(int(text) * times) if word == "pause" else text) for word, text in script] for script in self.scripts]
-        return dataclasses.replace(self, options=options, scripts=scripts, steps=[(longer(words), [*map(longer, wanted)]) for words, wanted in self.steps])
+        return dataclasses.replace(self, times=times, options=options, scripts=scripts, steps=[(longer(words), [*map(longer, wanted)]) for words, wanted in self.steps])
 
 
 def bytes_of(text: str) -> bytes:
@@ -121,7 +123,7 @@ class Server:
 
     def ended(self) -> list[str]:
         """What didn't fit, once nothing more comes."""
-        heard, end = -1, time.monotonic() + 3
+        heard, end = -1, time.monotonic() + 3 * self.row.times
         while heard < len(self.heard) and time.monotonic() < end:  # what was on its way comes
             heard = len(self.heard)
             time.sleep(0.15)
@@ -129,7 +131,7 @@ class Server:
         self.faults += [f"{line} was sent after the end" for line in self.heard[heard:]]
         self.listener.close()
         for thread in self.threads:
-            thread.join(6)
+            thread.join(6 * self.row.times)
         missing = len(self.row.scripts) - self.played
         return self.faults + ([f"{missing} scripts weren't played to their ends"] if missing else [])
 
@@ -137,7 +139,7 @@ class Server:
 class Conversation:
     def __init__(self, server: Server, stream: socket.socket):
         self.server, self.stream, self.rest = server, stream, b""
-        stream.settimeout(8)
+        stream.settimeout(8 * server.row.times)
 
     def line(self) -> str | None:
         """The next line; none at the end."""
@@ -179,7 +181,7 @@ class Conversation:
             elif word == "pause":
                 time.sleep(int(text) / 1000)
             elif word == "gone":
-                self.stream.settimeout(5)
+                self.stream.settimeout(5 * self.server.row.times)
                 if came := ready if ready is not None else self.line():
                     raise ValueError(f"{came!r} came, and the connection was to end")
             at += 1
@@ -259,7 +261,7 @@ def play(row: Row, player: Callable[[int, dict[str, str]], Player]) -> None:
             elif word == "start":
                 client.begin(name, text)
             elif word == "join":
-                compare(wanted, client.started[rest][1].result(10), time.monotonic() - client.started[rest][0])
+                compare(wanted, client.started[rest][1].result(10 * row.times), time.monotonic() - client.started[rest][0])
             elif word == "sleep":
                 time.sleep(int(rest) / 1000)
             elif word == "sent":
@@ -290,7 +292,7 @@ class Remote(Player):
         number = str(next(self.numbers))
         self.answers[number] = future = concurrent.futures.Future[str]()
         say(f"{self.row} {number} {words}")
-        return future.result(20).split("\t")
+        return future.result(PATIENCE).split("\t")
 
 
 def say(line: str) -> None:

@@ -64,7 +64,7 @@ readline.createInterface({ input: rows.stdout }).on("line", async (line) => {
   return reply(["done"]);
 });
 
-describe("behaviour rows", { concurrency: 8, timeout: 200_000 }, () => {
+describe("behaviour rows", { concurrency: 8, timeout: 400_000 }, () => {
   after(() => rows.kill());
   execFileSync("python3", [ROWS, "--names"], { encoding: "utf8" }).trim().split("\n").forEach((name, at) => it(name, async () => {
     const end = new Promise((resolve) => { ends.set(String(at), resolve); });

@@ -295,6 +295,6 @@ test("all idle sessions of a server that began anew are lost, and a call opens a
 test("a program that forgets to close its client ends", () => having(() => sound(), {}, async (_, heard, port) => {
   const program = `import { connect, Position } from ${JSON.stringify(new URL("../src/index.mjs", import.meta.url).href)};
     console.log((await connect("othello://127.0.0.1:${port}?silence=20").analyse(Position.opening(), 2)).best);`;
-  const { stdout } = await promisify(execFile)(process.execPath, ["--input-type=module", "-e", program], { timeout: 20_000 });
+  const { stdout } = await promisify(execFile)(process.execPath, ["--input-type=module", "-e", program], { timeout: 200_000 }); // (one that doesn't end)
   assert.equal(stdout, "d3\n");
 }));

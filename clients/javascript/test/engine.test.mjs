@@ -112,7 +112,7 @@ test("a program that forgets to close it ends, and the package as npm packs it i
   const folder = mkdtempSync(join(tmpdir(), "coluwen-"));
   try {
     const where = new URL("..", import.meta.url).pathname, program = "const engine = new Engine({ workers: 2 }); console.log((await engine.analyse(Position.opening(), 6)).best);";
-    const run = (source, cwd) => execFileSync(process.execPath, ["--input-type=module", "-e", `import { Engine, Position } from ${JSON.stringify(source)}; ${program}`], { cwd, timeout: 10000 }).toString();
+    const run = (source, cwd) => execFileSync(process.execPath, ["--input-type=module", "-e", `import { Engine, Position } from ${JSON.stringify(source)}; ${program}`], { cwd, timeout: 200_000 }).toString();
     assert.equal(run(join(where, "src/index.mjs"), folder), "d3\n");
     try {
       execFileSync("npm", ["--version"]);
