@@ -150,6 +150,8 @@ async function meet() {
 }
 
 function listen() {
+  const held = document.querySelector(".play");
+  new ResizeObserver(() => document.documentElement.style.setProperty("--held", `${held.offsetHeight}px`)).observe(held); // what is reached isn't scrolled behind it
   document.addEventListener("visibilitychange", want);
   window.addEventListener("beforeprint", () => fillSheet(sceneOf(app.state, analyst)));
   window.addEventListener("popstate", () => {
