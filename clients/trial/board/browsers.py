@@ -88,8 +88,7 @@ class Shown:
         """Opens an address as if nothing had been open, and waits for the page."""
         self.driver.get("about:blank")
         if self.frame:
-            origin = "/".join(address.split("/")[:3])
-            self.driver.get(f"{origin}/none")  # (a frame of another origin is given nothing to keep)
+            self.driver.get(f"{address.partition('?')[0].partition('#')[0].rpartition('/')[0]}/none")  # (a frame of another origin is given nothing to keep)
             script = """const one = document.createElement("iframe"); document.body.style.margin = 0; document.body.replaceChildren(one);
               Object.assign(one.style, { border: 0, width: `${arguments[1][0]}px`, height: `${arguments[1][1]}px` }); one.src = arguments[0];"""
             self.driver.execute_script(script, address, self.frame)
@@ -115,8 +114,10 @@ class Shown:
         until(f"{self.name}: {what}", lambda: self.evaluate(script), seconds)
 
     def click(self, selector):
-        """A click of the mouse at an element's middle."""
-        self.driver.find_element("css selector", selector).click()
+        """A click of the mouse at an element's middle, once it is in sight, as a reader scrolls it: the driver knows nothing of what stays above a page that scrolls."""
+        found = self.driver.find_element("css selector", selector)
+        self.driver.execute_script("arguments[0].scrollIntoView({ block: 'nearest' })", found)
+        found.click()
 
     def keys(self, selector, text):
         self.driver.find_element("css selector", selector).send_keys(text)

@@ -8,7 +8,7 @@ import time
 
 from browsers import opened
 from service import NGINX, place_of
-from stand import CELLS, HERE, PAGE, TEXT, asked, check, chosen, fail, free_port, page, stage, until
+from stand import CELLS, HERE, PAGE, TEXT, asked, check, chosen, fail, faults_of, free_port, page, stage, until
 
 
 def try_class(address, name):
@@ -210,11 +210,10 @@ def try_behind(port, folder):
 
 
 def try_all(service, port, folder, name, only=""):
-    for trial in chosen(only, try_class, try_hidden, try_tabs, try_crowd, try_host, try_behind):
-        if trial in (try_class, try_hidden):
-            trial(service, name)
-        elif trial is try_tabs:
-            trial(service) if name == "chromium" else None
-        elif name == "chromium" and (trial is not try_behind or shutil.which("nginx")):
-            trial(*(port, folder) if trial is try_behind else (port,))
+    with faults_of(name) as tried:
+        for trial in chosen(only, try_class, try_hidden, try_tabs, try_crowd, try_host, try_behind):
+            if trial in (try_class, try_hidden):
+                tried(trial.__name__, trial, service, name)
+            elif name == "chromium" and (trial is not try_behind or shutil.which("nginx")):
+                tried(trial.__name__, trial, *{try_tabs: (service,), try_behind: (port, folder)}.get(trial, (port,)))
     print(f"board: {name}: a class follows its teacher, and raises hands")

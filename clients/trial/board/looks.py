@@ -6,7 +6,7 @@ Guidelines 2.2, level AA, by its number.
 import itertools
 
 from browsers import opened
-from stand import GAME, check, chosen, fail
+from stand import GAME, check, chosen, fail, faults_of
 
 WIDTHS = (320, 360, 390, 412, 768, 1280, 1920)
 HEIGHTS = {320: 640, 360: 740, 390: 844, 412: 915, 768: 1024, 1280: 800, 1920: 1080}
@@ -53,6 +53,9 @@ SCORES_CUT = """[...document.querySelectorAll(".score")].filter((one) => { const
 SMALL = """(() => { const all = [...document.querySelectorAll("button, select, input, a, textarea")].filter((one) => one.checkVisibility() && !one.closest(".unseen, .skip, .variations") && !one.matches(".unseen, .skip"));
   const boxes = all.map((one) => (one.closest("label") ?? one).getBoundingClientRect());
   return all.filter((one, at) => boxes[at].width < 24 || boxes[at].height < 23.9).map((one) => `${one.tagName} ${one.id} ${one.textContent.slice(0, 20)}`) })()"""
+# Buttons of one row that lie over one another.
+OVER = """[...document.querySelectorAll(".controls, [role=tablist], .buttons")].flatMap((row) => { const all = [...row.querySelectorAll("button, select, .file")].filter((one) => one.checkVisibility()), boxes = all.map((one) => one.getBoundingClientRect());
+  return all.filter((one, at) => boxes.some((box, other) => other < at && box.left < boxes[at].right - 1 && box.right > boxes[at].left + 1 && box.top < boxes[at].bottom - 1 && box.bottom > boxes[at].top + 1)).map((one) => one.id || one.textContent); })"""
 # What the document itself must have.
 FORM = """(() => { const found = [], ids = [...document.querySelectorAll("[id]")].map((one) => one.id);
   if (new Set(ids).size !== ids.length) found.push("an id stands twice");
@@ -77,6 +80,9 @@ FINGERS = """[...document.querySelectorAll("button:not(.square), select, input[t
 LINES = """(() => { const boxes = [...document.querySelectorAll(".square")].map((one) => one.getBoundingClientRect()), gaps = [];
   boxes.forEach((box, at) => { if (at % 8 < 7) gaps.push(boxes[at + 1].left - box.right); if (at < 56) gaps.push(boxes[at + 8].top - box.bottom); });
   return gaps.filter((gap) => Math.abs(gap - 1) > 0.05).concat(boxes.filter((box) => Math.abs(box.width - Math.round(box.width)) > 0.05).map((box) => box.width)) })()"""
+# What is reached by a key while it lies behind the board: it has to come out (2.4.11).
+BEHIND = """[...document.querySelectorAll("[role=tabpanel] :is(button, select, input, textarea, a)")].filter((one) => one.checkVisibility()).filter((one) => { scrollTo(0, document.documentElement.scrollHeight);
+  one.focus(); const [box, board] = [one, document.querySelector(".play")].map((each) => each.getBoundingClientRect()); return box.bottom < board.bottom + 8 && box.bottom > board.top && box.left < board.right - 1 && box.right > board.left + 1; }).map((one) => one.id || one.textContent)"""
 IN_VIEW = "(() => { const box = document.getElementById('board').getBoundingClientRect(); return box.top >= -1 && box.bottom <= innerHeight + 1 })()"
 
 
@@ -96,11 +102,12 @@ def try_sight(name, address):
                 shown.tab(tab)
                 shown.driver.execute_script("scrollTo(0, document.documentElement.scrollHeight)")
                 check(shown.evaluate(IN_VIEW), f"{what}: {tab} takes the board out of view")
+                check(not (found := shown.evaluate(BEHIND)), f"{what}: {tab}: what a key reaches stays behind the board: {found[:5]}")
                 if width < 700 or height < 500:
                     check(not (found := shown.evaluate(FINGERS)), f"{what}: {tab}: small for fingers: {found[:5]}")
             shown.tab("files")
             shown.click("#copy-text")
-            over = "(() => { const toast = document.getElementById('toast').getBoundingClientRect(); return [...document.querySelectorAll('button')].filter((one) => one.checkVisibility()).some((one) => { const box = one.getBoundingClientRect(); return box.left < toast.right && box.right > toast.left && box.top < toast.bottom && box.bottom > toast.top }) })()"
+            over = "(() => { const toast = document.getElementById('toast').getBoundingClientRect(); return [...document.querySelectorAll('button')].filter((one) => one.checkVisibility()).some((one) => { const box = one.getBoundingClientRect(), top = document.elementFromPoint(box.left + box.width / 2, box.top + box.height / 2); return one.contains(top) && box.left < toast.right && box.right > toast.left && box.top < toast.bottom && box.bottom > toast.top }) })()"
             check(not shown.evaluate(over), f"{what}: what is said covers a button")
             if width > height:
                 check(shown.evaluate("document.getElementById('value').getBoundingClientRect().left >= document.getElementById('board').getBoundingClientRect().right"), f"{what}: not two columns")
@@ -116,7 +123,7 @@ def try_sight(name, address):
 
 def look(shown, what):
     """All that is to be seen at once; gives what is wrong."""
-    scripts = {"cut": CUT, "a value is cut": SCORES_CUT, "contrast": PAINTED, "small": SMALL, "form": FORM}
+    scripts = {"cut": CUT, "a value is cut": SCORES_CUT, "contrast": PAINTED, "small": SMALL, "over another": OVER, "form": FORM}
     return [f"{what}: {name}: {found[:6]}" for name, script in scripts.items() if (found := shown.evaluate(script))]
 
 
@@ -214,5 +221,6 @@ def try_print(name, address):
 
 
 def try_all(address, name, only=""):
-    for trial in chosen(only, try_browser, try_sight, try_print):
-        trial(name, address, **{"short": True} if only == "try_browser" else {})
+    with faults_of(name) as tried:
+        for trial in chosen(only, try_browser, try_sight, try_print):
+            tried(trial.__name__, trial, name, address, **{"short": True} if only == "try_browser" else {})

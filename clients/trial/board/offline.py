@@ -3,7 +3,7 @@ import shutil
 import subprocess
 
 from browsers import opened
-from stand import GAME, NAMES, PAGE, SCORES, TEXT, TOP, check, chosen, files, free_port, play, random_moves, settled, until, whole_game, worths
+from stand import GAME, NAMES, PAGE, SCORES, TEXT, TOP, check, chosen, faults_of, files, free_port, play, random_moves, settled, until, whole_game, worths
 
 # Whether each script and style that the page has asked for is kept.
 KEPT = """(caches.open('board').then(async (kept) => {
@@ -78,5 +78,6 @@ def try_made():
 
 
 def try_all(folder, name, only=""):
-    for trial in chosen(only, try_made, try_file, try_again, try_changed):
-        trial(*{try_made: (), try_again: (name,)}.get(trial, (name, folder)))
+    with faults_of(name) as tried:
+        for trial in chosen(only, try_made, try_file, try_again, try_changed):
+            tried(trial.__name__, trial, *{try_made: (), try_again: (name,)}.get(trial, (name, folder)))

@@ -5,7 +5,7 @@ Other programs may have this machine's processors, so what the page takes is mea
 import statistics
 
 from browsers import main_thread, opened
-from stand import check, chosen, forms, play, whole_game
+from stand import check, chosen, faults_of, forms, play, whole_game
 
 MOVES = ("f5", "d6", "c3", "d3", "c4", "f4", "f6", "g5", "e3", "f3", "g4", "h5")
 SHIFTS = "new PerformanceObserver((list) => { for (const one of list.getEntries()) window.shifts = (window.shifts ?? 0) + one.value; }).observe({ type: 'layout-shift', buffered: true });"
@@ -74,5 +74,6 @@ def try_first(name, address):
 
 
 def try_all(address, name, only=""):
-    for trial in chosen(only, try_shifts, try_clicks, try_first):
-        trial(name, address, *([] if trial is try_first else [forms(name)[3:4] if only else forms(name)]))
+    with faults_of(name) as tried:
+        for trial in chosen(only, try_shifts, try_clicks, try_first):
+            tried(trial.__name__, trial, name, address, *([] if trial is try_first else [forms(name)[3:4] if only else forms(name)]))

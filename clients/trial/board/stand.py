@@ -7,6 +7,7 @@ import os
 import pathlib
 import random
 import re
+import shutil
 import subprocess
 import sys
 import threading
@@ -71,6 +72,13 @@ def files(port=0, folder=PAGE):
         server.server_close()
 
 
+def on_disk(folder):
+    """The page as one file in a folder; gives its address."""
+    shutil.copy(PAGE / "board.html", folder / "board.html")
+    (folder / "none").touch()
+    return f"file://{folder}/board.html"
+
+
 @contextlib.contextmanager
 def page(port, *words, https=False):
     """The page's program; gives its process and address."""
@@ -105,6 +113,27 @@ def forms(name):
 def chosen(only, *trials):
     """The trials of a part that are wanted: all, or the one of that name."""
     return [trial for trial in trials if only in ("", trial.__name__)]
+
+
+def reason(fault):
+    """What a fault says, without the driver's own list of calls."""
+    return str(fault).partition("\n  (Session info")[0].partition("\nStacktrace:")[0] or repr(fault)
+
+
+@contextlib.contextmanager
+def faults_of(name):
+    """Gives what makes a trial: where one fails, the others are tried all the same, and all faults are told at the end."""
+    faults = []
+
+    def tried(what, trial, *words, **more):
+        try:
+            trial(*words, **more)
+        except (SystemExit, Exception) as fault:
+            faults.append(f"{what}: {reason(fault)}")
+            print(f"{name}: {faults[-1]}", flush=True)
+
+    yield tried
+    check(not faults, "\n".join(faults))
 
 
 def about(address):
