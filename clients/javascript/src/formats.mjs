@@ -2,7 +2,7 @@
 import { PASS, Position } from "./board.mjs";
 import { FormatError } from "./faults.mjs";
 
-const SIDES = { B: "X", W: "O" }, NAMES = { X: "black", O: "white" };
+const SIDES = { B: "X", W: "O" }, SETUP = { AB: "X", AW: "O", AE: "-" }, NAMES = { X: "black", O: "white" };
 const BEGINNINGS = { sgf: /^\(\s*;[^)]*?GM\s*\[\s*\d/, ggf: /^(\d+\s+)?\(;/ };
 
 /** What makes a fault at a letter of a text, of which the one at `begin` stands at `place`. */
@@ -34,14 +34,16 @@ class Builder {
   }
 }
 
-/** The game that `make` builds and returns the heads of, and behind it the fault that ended it, if one did. */
-function built(start, make, isGame = () => true) {
-  const builder = new Builder(start), heads = {};
-  let fault = null;
+/** The game that `make` builds from where `begin` says and gives heads, and behind it the fault that ended it, if one did. */
+function built(begin, make, isGame = () => true) {
+  const heads = {};
+  let builder = null, start, fault = null;
   try {
+    builder = new Builder(start = begin());
     make(builder, heads);
   } catch (one) {
     if (!(one instanceof FormatError)) throw one;
+    if (!builder) return [one];
     fault = one;
   }
   const game = { start, moves: builder.moves, black: "", white: "", event: "", date: "", result: null, ...heads, final: builder.position, isWhole: !fault };
@@ -65,7 +67,7 @@ function resultOf([, black, white, side, more], final, fault) {
 /** The game of a transcript. */
 function transcript(line, place) {
   const text = narrow(line), numbers = [];
-  return built(Position.opening(), (builder, heads) => {
+  return built(Position.opening, (builder, heads) => {
     for (let at = 0, found; at < text.length; at = TOKEN.lastIndex) {
       const fault = faultAt(place, text, at), score = builder.moves.length ? matched(SCORE, text, at) : null;
       if (score) return void (heads.result = resultOf(score, builder.position, fault));
@@ -96,31 +98,44 @@ function* ggf(text, place) {
     for (; (found = matched(TAG, text, end)); end = TAG.lastIndex) tags.push([found[1].toUpperCase(), found[2], faultAt(at, text, TAG.lastIndex - found[2].length - 1, begin)]);
     if (matched(GGF_END, text, end)) end = GGF_END.lastIndex;
     else cut = faultAt(at, text, end, begin)("here is no tag, NAME[value], and no end of the game, ;)");
-    const named = Object.fromEntries(tags), board = named.BO === undefined ? null : BOARD.exec(named.BO);
-    const tagFault = (name, why) => tags.findLast(([one]) => one === name)[2](why);
-    if (!/^(othello|reversi)$/i.test((named.GM ?? "Othello").trim())) yield tagFault("GM", `this is a game of ${named.GM}`);
-    else if (named.BO !== undefined && !board) yield tagFault("BO", "its board isn't one of 8 lines: 8, 64 cells and the side to move");
-    else {
-      yield* built(board ? Position.parse(`${board[1]} ${board[2]}`) : Position.opening(), (builder, heads) => {
-        Object.assign(heads, headsOf(named, "PC"), { result: numberOf(named.RE ?? "") });
-        for (const [name, value, fault] of tags.filter(([one]) => one in SIDES)) {
-          const move = GGF_MOVE.exec(value)?.[1].toLowerCase();
-          if (!move) throw fault(`'${value}' is no move`);
-          builder.play(/\d/.test(move) ? move : PASS, fault, SIDES[name]);
-        }
-        if (cut) throw cut;
-      });
-    }
+    const named = Object.fromEntries(tags), wrong = (name, why) => tags.findLast(([one]) => one === name)[2](why);
+    yield* built(() => {
+      const board = named.BO === undefined ? null : BOARD.exec(named.BO), type = named.TY ?? "8";
+      if (!/^(othello|reversi)$/i.test((named.GM ?? "Othello").trim())) throw wrong("GM", `this is a game of ${named.GM}`);
+      if (!/^\s*[8s]/.test(type) || type.includes("anti")) throw wrong("TY", `its type is ${type}`);
+      if (named.BO !== undefined && !board) throw wrong("BO", "its board isn't one of 8 lines: 8, 64 cells and the side to move");
+      return board ? Position.parse(`${board[1]} ${board[2]}`) : Position.opening();
+    }, (builder, heads) => {
+      Object.assign(heads, headsOf(named, "PC"), { result: numberOf(named.RE ?? "") });
+      for (const [name, value, fault] of tags.filter(([one]) => one in SIDES)) {
+        const move = GGF_MOVE.exec(value)?.[1].toLowerCase();
+        if (!move) throw fault(`'${value}' is no move`);
+        builder.play(/\d/.test(move) ? move : PASS, fault, SIDES[name]);
+      }
+      if (cut) throw cut;
+    });
     begin = text.indexOf("(;", end);
   }
 }
 
 const squareOf = (value, fault) => {
-  const word = value.trim().toLowerCase();
-  if (/^[a-h][a-h]$/.test(word)) return `${word[0]}${"abcdefgh".indexOf(word[1]) + 1}`;
+  const word = value.trim().toLowerCase().replace(/^([a-h])([a-h])$/, (_, column, row) => column + ("abcdefgh".indexOf(row) + 1));
   if (!/^[a-h][1-8]$/.test(word)) throw fault(`'${value}' is no square`);
   return word;
 };
+
+/** The opening, or what is set up before the first move of SGF: squares and rectangles, `c3:f6`. */
+function startOf(tags) {
+  const cells = [...Position.opening().cells], first = tags.findIndex(([name]) => name in SIDES);
+  let side = "X";
+  for (const [name, value, fault] of first < 0 ? tags : tags.slice(0, first)) {
+    if (name === "PL") side = /^\s*w/i.test(value) ? "O" : "X";
+    if (!(name in SETUP)) continue;
+    const ends = value.split(/:([^]*)/, 2).map((word) => squareOf(word, fault)), [[left, right], [top, bottom]] = [0, 1].map((at) => [ends[0][at], ends.at(-1)[at]].sort());
+    cells.forEach((_, at) => { if (left <= "abcdefgh"[at % 8] && "abcdefgh"[at % 8] <= right && top <= (at >> 3) + 1 && (at >> 3) + 1 <= bottom) cells[at] = SETUP[name]; });
+  }
+  return new Position(cells.join(""), side);
+}
 
 /** The games of SGF, GM[2]; of variations the first. */
 function* sgf(text, place) {
@@ -134,14 +149,16 @@ function* sgf(text, place) {
       if (found.length === 3 && isFirst) for (const [, value] of found[2].matchAll(/\[((?:\\[^]|[^\]\\])*)\]/g)) tags.push([found[1].toUpperCase(), value.replace(/\\([^])/g, "$1"), faultAt(place, text, end - found[2].trimStart().length + 1)]);
     }
     const named = Object.fromEntries([...tags].reverse()), result = /^([BW])\+(\d+(?:\.\d+)?)/i.exec((named.RE ?? "").trim());
-    if ((named.GM ?? "").trim() !== "2") yield (tags.find(([one]) => one === "GM")?.[2] ?? faultAt(place, text, begin))(`this is no game of Othello, GM[2]: ${named.GM ?? "it says no GM"}`);
-    else {
-      yield* built(Position.opening(), (builder, heads) => {
-        Object.assign(heads, headsOf(named, "EV"), { result: result ? result[2] * (/b/i.test(result[1]) ? 1 : -1) : /^(0|draw)$/i.test((named.RE ?? "").trim()) ? 0 : null });
-        for (const [name, value, fault] of tags.filter(([one]) => one in SIDES)) builder.play(/^(pass|pa|tt)?$/i.test(value.trim()) ? PASS : squareOf(value, fault), fault, SIDES[name]);
-        if (depth) throw faultAt(place, text, end)("here is no property, NAME[value], and no end of the game, )");
-      });
-    }
+    const first = (name) => tags.find(([one]) => one === name)?.[2] ?? faultAt(place, text, begin);
+    yield* built(() => {
+      if ((named.GM ?? "").trim() !== "2") throw first("GM")(`this is no game of Othello, GM[2]: ${named.GM ?? "it says no GM"}`);
+      if (!/^\s*8(:8)?\s*$/.test(named.SZ ?? "8")) throw first("SZ")(`its board has ${named.SZ} lines`);
+      return startOf(tags);
+    }, (builder, heads) => {
+      Object.assign(heads, headsOf(named, "EV"), { result: result ? result[2] * (/b/i.test(result[1]) ? 1 : -1) : /^(0|draw)$/i.test((named.RE ?? "").trim()) ? 0 : null });
+      for (const [name, value, fault] of tags.filter(([one]) => one in SIDES)) builder.play(/^(pass|pa|tt)?$/i.test(value.trim()) ? PASS : squareOf(value, fault), fault, SIDES[name]);
+      if (depth) throw faultAt(place, text, end)("here is no property, NAME[value], and no end of the game, )");
+    });
     begin = text.indexOf("(", end);
   }
 }

@@ -37,16 +37,9 @@ export type AnyMove = string | number | Move;
 
 export declare class Position {
   constructor(cells?: string, side?: Side);
-  static opening(): Position;
-  static parse(text: string): Position;
-  readonly cells: string;
-  readonly side: Side;
-  readonly text: string;
-  readonly empties: number;
-  readonly isOver: boolean;
-  legalMoves(): string[];
-  play(move: AnyMove): Position;
-  flip(): Position;
+  static opening(): Position; static parse(text: string): Position;
+  readonly cells: string; readonly side: Side; readonly text: string; readonly empties: number; readonly isOver: boolean;
+  legalMoves(): string[]; play(move: AnyMove): Position; flip(): Position;
   equals(other: unknown): boolean;
 }
 
@@ -54,17 +47,11 @@ export declare class Position {
 export declare class Score {
   constructor(value: number, sign?: Sign, ends?: boolean, side?: Side);
   static compare(one: Score, other: Score): number;
-  readonly value: number;
-  readonly sign: Sign;
-  readonly ends: boolean;
-  readonly side: Side;
+  readonly value: number; readonly sign: Sign; readonly ends: boolean; readonly side: Side;
   readonly unit: "points" | "discs";
   /** How many points or discs the side is ahead, and black, and white. */
-  readonly mover: number;
-  readonly black: number;
-  readonly white: number;
-  readonly isExact: boolean;
-  readonly isDraw: boolean;
+  readonly mover: number; readonly black: number; readonly white: number;
+  readonly isExact: boolean; readonly isDraw: boolean;
   flip(): Score;
   valueOf(): number;
 }
@@ -79,9 +66,7 @@ export interface Game extends Readonly<Record<"black" | "white" | "event" | "dat
 export declare function games(text: string, how?: { file?: string; kind?: "lines" | "ggf" | "sgf" }): (Game | FormatError)[];
 
 export interface Result {
-  readonly position: Position;
-  readonly depth: number;
-  readonly score: Score;
+  readonly position: Position; readonly depth: number; readonly score: Score;
   /** The first best move; null at depth 0 and in a finished game. */
   readonly best: string | null;
   readonly table: readonly Entry[];
@@ -103,9 +88,7 @@ export type Outcome<Asked extends Question = Question> = { readonly index: numbe
 /** What a client of a server and an engine of this host have in common. */
 export declare abstract class Analyst extends EventTarget {
   analyse(position: string | Position, depth: number, how?: How): Promise<Result>;
-  info(): Promise<Info>;
-  ping(): Promise<number>;
-  close(): Promise<void>;
+  info(): Promise<Info>; ping(): Promise<number>; close(): Promise<void>;
   readonly window: number;
   analyseAll(position: string | Position, depth: number, how?: How): Promise<Entry[]>;
   /** The results 2, 4, 6 .. plies deep and at last `depth` (the greatest that can be had, where none is named); Late after `timeout` in all. */

@@ -10,10 +10,10 @@ test("each row of the formats", () => {
   for (const [kind, text, ...wanted] of rows) {
     const shown = (options) => games(text, options).map((one) => {
       if (one instanceof FormatError) return one.message;
-      const { moves, black, white, event, date, result, isWhole } = one;
-      return { moves: moves.join(""), black, white, event, date, result, isWhole };
+      const { start, moves, black, white, event, date, result, isWhole } = one;
+      return { start: start.text, moves: moves.join(""), black, white, event, date, result, isWhole };
     });
-    const whole = wanted.map((one) => (typeof one === "string" ? one : { black: "", white: "", event: "", date: "", result: null, isWhole: true, ...one }));
+    const whole = wanted.map((one) => (typeof one === "string" ? one : { start: Position.opening().text, black: "", white: "", event: "", date: "", result: null, isWhole: true, ...one }));
     assert.deepEqual(shown({ kind }), whole, text);
     assert.deepEqual(shown(), whole, text);
   }

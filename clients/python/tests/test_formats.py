@@ -425,6 +425,6 @@ ROWS = [json.loads(line) for line in (pathlib.Path(__file__).resolve().parents[2
 def test_the_rows_that_javascript_reads_too(row):
     kind, text, *wanted = row
     for named in (kind, None):
-        shown = [str(one) if isinstance(one, FormatError) else {"moves": "".join(played.move for played in one.moves), "black": one.black, "white": one.white, "event": one.event, "date": one.date, "result": one.result, "isWhole": one.is_whole}
+        shown = [str(one) if isinstance(one, FormatError) else {"start": one.start.text, "moves": "".join(played.move for played in one.moves), "black": one.black, "white": one.white, "event": one.event, "date": one.date, "result": one.result, "isWhole": one.is_whole}
                  for one in formats.games_of(text.encode(), "", named)]  # fmt: skip
-        assert shown == [one if isinstance(one, str) else {"black": "", "white": "", "event": "", "date": "", "result": None, "isWhole": True, **one} for one in wanted]
+        assert shown == [one if isinstance(one, str) else {"start": OPENING.text, "black": "", "white": "", "event": "", "date": "", "result": None, "isWhole": True, **one} for one in wanted]
