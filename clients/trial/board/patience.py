@@ -16,8 +16,9 @@ class Patience:
 
 def until(what, told, seconds=60):
     """Waits until something is so."""
-    patience = Patience(seconds)
+    patience, pause = Patience(seconds), 0.02
     while not told():
         if patience.is_over():
             sys.exit(f"{what}: not after {seconds} seconds")
-        time.sleep(0.02)
+        time.sleep(pause)
+        pause = min(pause * 1.5, 0.25)  # (a browser that is asked all the time does nothing else)
