@@ -1,7 +1,8 @@
 #!/usr/bin/env python3
 """Tries every wrong body of the crates, and says what tells each: a goal of the prover, or a test.
 
-usage: tools/wrong_bodies.py [CRATE..]      (all crates where none is named; status 1 where a body is told by nothing)
+usage: tools/wrong_bodies.py [--resume] [--goals] [CRATE..]      (all crates where none is named, else those in this order; --goals: none of
+those that a test tells; status 1 where a body is told by nothing, or a crate isn't proved)
 
 A wrong body is a file `crates/CRATE/must-fail/NAME.edit`, or `wrong-bodies/NAME.edit`: the gate tries the first, this script all. It
 has a line `file: PATH`, then pairs of lines `old: TEXT` and `new: TEXT`; a line `# test: CRATE WORD` says that no clause can tell
@@ -10,11 +11,17 @@ has to be done where the edit changes the form of a function whose proof is writ
 
 Each crate is checked first. Then those bodies that change different functions are put in together, over a copy of what that check kept,
 so a crate takes one more check or a few. A refusal counts for the body whose function it names; one that names only what the edit took
-away doesn't count. A body that is refused at no goal of its functions is tried alone. Behind a goal stands `side` where it isn't of the
-contract itself (what a call requires, that a number fits, an index, a measure): see that a right body of that form is accepted.
+away doesn't count. A body that is refused at no goal of its functions is tried alone. Of the goals that refuse a body one of the contract is
+named; `side` stands behind it where there is none (but what a call requires, that a number fits, an index, a measure): see that a right
+body of that form is accepted.
+
+What was found of a crate is kept in its `out/wrong-bodies.txt`, with all that the prover said of each body's functions; with `--resume` a
+body that was told is not tried again while the crate, those below it and the edit are what they were.
 """
+import hashlib
 import importlib.machinery
 import importlib.util
+import json
 import pathlib
 import re
 import shutil
@@ -24,7 +31,7 @@ import tempfile
 
 TOP = pathlib.Path(__file__).resolve().parent.parent
 GOAL = re.compile(r"error: `([^`]+)`|\(`([^`]+)`\)|did not prove `([^`]+)`|`([^`]+)` of proofs/")
-CONTRACT = re.compile(r"^(returns|invariant_of|loop.*-(init|preserved)$|.*-(init|preserved)$)")
+CONTRACT = re.compile(r"^((\w+-)?returns|invariant_of|loop.*-(init|preserved)$|.*-(init|preserved)$)")
 PLACE = re.compile(r"(?:note: )?(?:\./)?((?:src|proofs)/\S+?):(\d+):\d+:")
 GONE = re.compile(r"has no field|is not in scope|has no `|was not admitted|was rejected, was not checked")
 TESTED = re.compile(r"^# test: (\w+) (\S+)$", re.M)
@@ -115,13 +122,16 @@ def is_of(function, place, line, texts, folder):
 
 
 def refused(said, functions, texts, folder):
-    """The first goal of these functions that was refused; of any function, where none is named."""
+    """The goal of these functions that was refused, one of the contract if there is one, and all lines that say so; of any function, where
+    none is named. None where there is no such goal."""
+    lines = []
     for line in said.splitlines():
         place = PLACE.match(line)
         if place and (": error" in line or line.startswith("note: ")) and not GONE.search(line) and GOAL.search(line):
             if not functions or any(is_of(it, place[1], int(place[2]), texts, folder) for it in functions):
-                return goal_of(line)
-    return None
+                lines.append(line)
+    goals = [goal_of(line) for line in lines]
+    return (next((goal for goal in goals if CONTRACT.match(goal)), goals[0]), lines) if goals else None
 
 
 def toolchain():
@@ -134,9 +144,11 @@ def toolchain():
 
 
 def by_prover(rt, crate, folder, edits):
-    """For each of these bodies the goal that refuses it, or None."""
+    """For each of these bodies the goal that refuses it and the lines that say so, or None."""
+    if not edits:
+        return
     if subprocess.run(["rt", "check", "--jobs", "1"], cwd=folder, stdin=subprocess.DEVNULL, capture_output=True, check=False).returncode:
-        sys.exit(f"{crate.name}, or a crate below it, isn't proved")
+        raise NotProved
     with tempfile.TemporaryDirectory(prefix="wrong-bodies-") as room:
         if (folder / "out" / "incremental").is_dir():
             shutil.copytree(folder / "out" / "incremental", f"{room}/kept")
@@ -164,30 +176,73 @@ def by_test(folder, edit, where, word):
             pathlib.Path(room, "crates", folder.name, path).write_text(text)
         asked = ["--data", f"{word}={room}/crates/{where}/data/{word}"] if where == "transcripts" else ["--test", "--", word]
         ran = subprocess.run(["rt", "try", "--steps", "1", "--seconds", "120", *asked], cwd=f"{room}/crates/{where}", stdin=subprocess.DEVNULL, capture_output=True, text=True, check=False)
-        return f"test {word} of {where}" if ran.returncode in (1, 4, 6, 101) and word in ran.stdout + ran.stderr else None
+        is_told = ran.returncode in (1, 4, 6, 101) and word in ran.stdout + ran.stderr
+        return (f"test {word} of {where}", []) if is_told else None
+
+
+class NotProved(Exception):
+    """A crate, or one below it, isn't proved."""
+
+
+class Found:
+    """What was found of a crate's bodies, each by the sum of all that it rests on: kept beside what the crate's proof keeps."""
+
+    def __init__(self, crates, name):
+        self.path, self.crates, self.name = TOP / f"crates/{name}/out/wrong-bodies.txt", crates, name
+        self.told = json.loads(self.path.read_text()) if self.path.exists() else {}
+
+    def sum_of(self, edit):
+        tested = TESTED.search(edit.read_text())
+        data = TOP / f"crates/{tested[1]}/data/{tested[2]}" if tested else None
+        text = data.read_bytes() if data and data.exists() else b""
+        return hashlib.sha256(self.crates[tested[1] if tested else self.name].stamp().encode() + edit.read_bytes() + text).hexdigest()[:16]
+
+    def of(self, edit):
+        """What tells a body, by an earlier run over the same text; else None."""
+        told = self.told.get(edit.stem)
+        return told["by"] if told and told["sum"] == self.sum_of(edit) else None
+
+    def keep(self, edit, told):
+        """Keeps what was found, and returns what tells the body."""
+        by, lines = told or (None, [])
+        self.told[edit.stem] = {"by": by, "sum": self.sum_of(edit), "lines": lines}
+        self.path.parent.mkdir(exist_ok=True)
+        self.path.write_text(json.dumps(self.told, indent=1, ensure_ascii=False))
+        return by
+
+
+def look(rt, crates, name, words):
+    """Each wrong body of a crate, with what tells it."""
+    left, kept, folder = [], Found(crates, name), TOP / "crates" / name
+    for edit in edits_of(folder):
+        if "--resume" in words and (told := kept.of(edit)):
+            yield edit, told
+        elif changed(folder, edit, {}) is None:
+            yield edit, "CAN'T BE PUT IN"
+        else:
+            left.append(edit)
+    tested = {edit: said for edit in left if (said := TESTED.search(edit.read_text()))}
+    for edit, told in by_prover(rt, crates[name], folder, [edit for edit in left if edit not in tested]):
+        yield edit, kept.keep(edit, told)
+    for edit, said in tested.items() if "--goals" not in words else ():
+        yield edit, kept.keep(edit, by_test(folder, edit, said[1], said[2]))
 
 
 def main():
-    names, untold, rt = sys.argv[1:], 0, toolchain()
-    if any(name.startswith("-") for name in names):
+    words, untold, rt = sys.argv[1:], 0, toolchain()
+    names = [word for word in words if word not in ("--resume", "--goals")]
+    crates = {crate.name: crate for crate in rt.rtlib.crates_below(str(TOP))}
+    if any(name not in crates for name in names):
         sys.exit(__doc__)
-    for crate in rt.rtlib.crates_below(str(TOP)):
-        folder = TOP / "crates" / crate.name
-        edits = edits_of(folder)
-        if not edits or names and crate.name not in names:
-            continue
-        found = {}
-        for edit in edits:
-            if changed(folder, edit, {}) is None:
-                found[edit] = "CAN'T BE PUT IN"
-            elif said := TESTED.search(edit.read_text()):
-                found[edit] = by_test(folder, edit, said[1], said[2])
-        found.update(by_prover(rt, crate, folder, [edit for edit in edits if edit not in found]))
-        for edit in edits:
-            told = found[edit]
-            untold += told is None or told.startswith("CAN'T")
-            side = "" if told is None or told.startswith(("test ", "CAN'T")) or CONTRACT.match(told) else "  side"
-            print(f"{crate.name}/{edit.stem}: {told or 'TOLD BY NOTHING'}{side}", flush=True)
+    for name in names or crates:
+        try:
+            for edit, told in look(rt, crates, name, words):
+                untold += told is None or told.startswith("CAN'T")
+                side = "" if told is None or told.startswith(("test ", "CAN'T")) or CONTRACT.match(told) else "  side"
+                print(f"{name}/{edit.stem}: {told or 'TOLD BY NOTHING'}{side}", flush=True)
+        except NotProved:
+            untold += 1
+            print(f"{name}: IT, OR A CRATE BELOW IT, ISN'T PROVED", flush=True)
     sys.exit(1 if untold else 0)
 
 
