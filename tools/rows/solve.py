@@ -92,7 +92,7 @@ def main():
     met = collections.Counter(kind for line, answer in zip(lines, answers) for kind in kinds_of(line, answer))
     text = [f"# Made by `tools/rows/solve.py FOLDER {seed}` from that seed: don't edit."]
     for at in range(0, len(lines), SCENE):
-        text += ["", f"= solve grain {GRAINS[at // SCENE % len(GRAINS)]}"]
+        text += ["", f"= solve grain {GRAINS[at // SCENE % len(GRAINS)]} ordered"]
         for line, answer in zip(lines[at:at + SCENE], answers[at:at + SCENE]):
             text += [f"> {line}", f"< {answer}"]
     (folder / "drawn_positions.solve").write_text("\n".join(text) + "\n")

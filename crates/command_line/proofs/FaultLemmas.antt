@@ -1,4 +1,4 @@
--- What a refused value comes to.
+-- What a refusal comes to.
 use Rattle.std.proofs.Common.{◌≡◌, List, [], Option, None, inr}
 use Rattle.clap.specs.declared.error.kind.ErrorKind.{ErrorKind}
 use Rattle.command_line.specs.declared.faults.WordsFault.{WordsFault}
@@ -6,7 +6,7 @@ use Rattle.command_line.specs.declared.faults.WordsFault.TheVariants.{OutOfMemor
 use Rattle.command_line.specs.declared.options.Options.{Options}
 use Rattle.command_line.specs.Faults.{IsOutside, IsRefusalOf}
 
--- a value is refused where the words have no other fault
+-- what the words ask for is refused where they have no other fault
 pub refused-outside : (found : List ErrorKind) (asked : Option Options) (fault : WordsFault) → found ≡ [] → asked ≡ None → IsOutside fault → IsRefusalOf found asked fault
 refused-outside found asked OutOfMemory faultless none outside = tt
 refused-outside found asked (Refused error) faultless none outside = inr (faultless, none, outside)

@@ -9,7 +9,7 @@ use Rattle.command_line.specs.declared.options.Options.{Options}
 use Rattle.command_line.specs.CommandLine.{options_asked, program}
 
 -- words have a fault of this kind: one of those that clap finds, or it finds none and they ask for nothing, as a value
--- is outside its limits
+-- is outside its limits or `--ordered` doesn't stand alone
 abbrev pub IsFaultOf : List ErrorKind → Option Options → ErrorKind → Type 0
 IsFaultOf found asked kind = IsAmong kind found ⊎ ((found ≡ []) × (asked ≡ None) × (kind ≡ ValueValidation))
 
@@ -22,7 +22,7 @@ IsRefusalOf found asked (Refused error) = IsFaultOf found asked (kind_of error)
 abbrev pub IsRefusal : List Text → WordsFault → Type 0
 IsRefusal words fault = IsRefusalOf (fault_of program words) (options_asked words) fault
 
--- a value is refused, as an error of the kind `ValueValidation`, or there was no memory
+-- what the words ask for is refused, as an error of the kind `ValueValidation`, or there was no memory
 abbrev pub IsOutside : WordsFault → Type 0
 IsOutside OutOfMemory = Unit {0}
 IsOutside (Refused error) = kind_of error ≡ ValueValidation

@@ -2,7 +2,7 @@
 ghost use Rattle.std.specs.Prelude.{◌≡◌, IfOk, codes, false, is_none};
 ghost use Rattle.clap.specs.Words.{app_of, found_of, new_app, rows_of, rule_of, shape_of, with_rule};
 ghost use Rattle.clap.specs.declared.builder.command.Command.TheViews.{out-Command};
-ghost use Rattle.command_line.specs.CommandLine.{bare_program, is_set, program, serve_of_sessions, serve_shape, solve_program, solve_shape, visited_rule};
+ghost use Rattle.command_line.specs.CommandLine.{bare_program, flag_rule, is_set, program, serve_of_sessions, serve_shape, solve_program, solve_shape};
 ghost use Rattle.command_line.specs.Settings.{number_rule};
 
 use crate::settings::{GRAIN, NODES, PORT, SEGMENTS, SESSIONS, Setting, WORKERS};
@@ -76,22 +76,31 @@ fn solve_command<'a>(alloc: Global) -> Result<Command<'a>, AllocError>
     ensures local { IfOk result (λ command. (out-Command command).has_globals ≡ false) }
 {
     let command = with_number(alloc, bare(alloc, "solve", SOLVE_ABOUT, SOLVE_HELP), GRAIN)?;
-    command.arg(visited_arg(alloc))
+    let command = command.arg(flag_arg(alloc, "visited", VISITED_HELP))?;
+    command.arg(flag_arg(alloc, "ordered", ORDERED_HELP))
 }
 
 /// What `solve` does, for help.
 const SOLVE_ABOUT: &str =
     "answers lines `depth position` from standard input by lines `value move`";
 
-/// The flag `--visited`.
-fn visited_arg<'a>(alloc: Global) -> Arg<'a>
-    ensures rule { rule_of result ≡ visited_rule }
+/// What `--visited` does, for help.
+const VISITED_HELP: &str =
+    "answers by one serial search, and adds the number of positions that it entered";
+
+/// What `--ordered` does, for help.
+const ORDERED_HELP: &str =
+    "answers by one serial search that tries likely moves first, the fastest way; stands without another option";
+
+/// A flag: its name, and what help says of it.
+fn flag_arg<'a>(alloc: Global, name: &'static str, help: &'static str) -> Arg<'a>
+    ensures rule { rule_of result ≡ flag_rule name.now }
     ensures local { result.global ≡ false }
 {
-    Arg::new(alloc, "visited")
-        .long("visited")
+    Arg::new(alloc, name)
+        .long(name)
         .action(ArgAction::SetTrue)
-        .help("answers by one serial search, and adds the number of positions that it entered")
+        .help(help)
 }
 
 /// The command `serve`.

@@ -1,9 +1,10 @@
 //! What the words ask for.
-ghost use Rattle.std.specs.Prelude.{◌≡◌, [], map, IfErr, IfOk, None, OnErr, OnOk, Some};
+ghost use Rattle.std.specs.Prelude.{◌≡◌, [], false, map, true, IfErr, IfOk, None, OnErr, OnOk, Some};
 ghost use Rattle.clap.specs.Words.{fault_of, found_of, kind_of, rows_of, subcommand_rows_of};
 ghost use Rattle.clap.specs.declared.error.kind.ErrorKind.TheVariants.{ValueValidation};
 ghost use Rattle.command_line.specs.CommandLine.{AreWithinLimits, asked_of, command_asked, options_asked, program, serve_asked, solve_asked};
 ghost use Rattle.command_line.specs.Faults.{IsOutside, IsRefusal};
+ghost use Rattle.command_line.specs.declared.options.Options.TheVariants.{SolveOrdered};
 
 use crate::commands::{command_of, flag_in, othello_command};
 use crate::faults::WordsFault;
@@ -23,6 +24,8 @@ pub enum Options {
         /// Whether each answer also tells how many positions one serial search entered.
         visited: bool,
     },
+    /// To answer the lines of standard input, each by one ordered search.
+    SolveOrdered,
     /// To serve sessions over TCP.
     Serve {
         /// How many sessions, 1 to 1,000.
@@ -44,8 +47,8 @@ impl Options {
     /// What the words ask for, the program's name first.
     ///
     /// At Ok each option has the value that the words give it, or its default, and is within its limits. The words
-    /// are refused only for a fault that they have: one of the kinds that `clap` finds, or a value that is no number
-    /// of 1 to 8 digits within the limits of its option.
+    /// are refused only for a fault that they have: one of the kinds that `clap` finds, a value that is no number
+    /// of 1 to 8 digits within the limits of its option, or `--ordered` beside another option.
     pub fn read<S: AsStr>(alloc: Global, words: &[S]) -> Result<Options, WordsFault>
         ensures read { IfOk result (λ options. options_asked (map S.text words.now) ≡ Some options) }
         ensures within { IfOk result AreWithinLimits }
@@ -67,8 +70,8 @@ impl Options {
     }
 }
 
-/// What the command that the words name asks for. Err where they name none, or an option has no value within its
-/// limits.
+/// What the command that the words name asks for. Err where they name none, an option has no value within its limits, or
+/// `--ordered` doesn't stand alone.
 fn options_of(matches: &ArgMatches<'_>) -> Result<Options, Missing>
     ensures asked { IfOk result (λ options. asked_of (subcommand_rows_of matches.now) ≡ Some options) }
     ensures within { IfOk result AreWithinLimits }
@@ -80,8 +83,8 @@ fn options_of(matches: &ArgMatches<'_>) -> Result<Options, Missing>
     }
 }
 
-/// What the command of this name asks for. Err where there is no such command, or an option has no value within its
-/// limits.
+/// What the command of this name asks for. Err where there is no such command, an option has no value within its limits,
+/// or `--ordered` doesn't stand alone.
 fn options_given(name: &str, given: &ArgMatches<'_>) -> Result<Options, Missing>
     ensures asked { IfOk result (λ options. command_asked (name.now, rows_of (found_of given.now)) ≡ Some options) }
     ensures within { IfOk result AreWithinLimits }
@@ -102,11 +105,25 @@ fn solve_of(given: &ArgMatches<'_>) -> Result<Options, Missing>
     ensures within { IfOk result AreWithinLimits }
     ensures none { OnErr result (solve_asked (rows_of (found_of given.now)) ≡ None) }
 {
+    if flag_in(given, "ordered") {
+        return ordered_of(GRAIN.is_given(given) || flag_in(given, "visited"));
+    }
     let grain = GRAIN.value_in(given)?;
     Ok(Options::Solve {
         grain: grain as u8,
         visited: flag_in(given, "visited"),
     })
+}
+
+/// What `solve --ordered` asks for. Err where another option stands beside it.
+fn ordered_of(has_another: bool) -> Result<Options, Missing>
+    ensures asked { IfOk result (λ options. (options ≡ SolveOrdered) × (has_another ≡ false)) }
+    ensures none { OnErr result (has_another ≡ true) }
+{
+    if has_another {
+        return Err(Missing::OrderedAlone);
+    }
+    Ok(Options::SolveOrdered)
 }
 
 /// The options of `serve`.
@@ -131,7 +148,7 @@ fn serve_of(given: &ArgMatches<'_>) -> Result<Options, Missing>
     })
 }
 
-/// The refusal of words that lack a command, or a number within its limits for an option.
+/// The refusal of words that lack something.
 fn outside(alloc: Global, missing: Missing, matches: &ArgMatches<'_>) -> WordsFault
     ensures { IsOutside result }
 {
@@ -159,6 +176,9 @@ fn text_of(alloc: Global, missing: Missing) -> Result<String, AllocError> {
     match missing {
         Missing::Value(setting) => format!(in alloc; "{setting}"),
         Missing::Command => format!(in alloc; "a command is needed"),
+        Missing::OrderedAlone => format!(in alloc;
+            "--ordered stands without --grain and --visited"
+        ),
     }
 }
 

@@ -2,7 +2,7 @@
 ghost use Rattle.std.specs.Prelude.{◌≡◌, [], ◌∷◌, true, false, codes, None, Some};
 ghost use Rattle.clap.specs.Words.{fault_of};
 ghost use Rattle.clap.specs.declared.error.kind.ErrorKind.TheVariants.{ArgumentConflict, DisplayHelp, DisplayVersion, MissingRequiredArgument, MissingSubcommand, TooManyValues, UnknownArgument};
-ghost use Rattle.command_line.specs.declared.options.Options.TheVariants.{Serve, Solve};
+ghost use Rattle.command_line.specs.declared.options.Options.TheVariants.{Serve, Solve, SolveOrdered};
 ghost use Rattle.command_line.specs.CommandLine.{options_asked, program};
 
 /// The options of `solve` are set where they are given, and else have their defaults.
@@ -13,6 +13,16 @@ pub fn solve_is_asked()
     ensures faultless { fault_of program (codes "othello" ∷ codes "solve" ∷ codes "--grain" ∷ codes "0" ∷ codes "--visited" ∷ []) ≡ [] }
     ensures too_great { options_asked (codes "othello" ∷ codes "solve" ∷ codes "--grain" ∷ codes "7" ∷ []) ≡ None }
     ensures no_number { options_asked (codes "othello" ∷ codes "solve" ∷ codes "--grain" ∷ codes "two" ∷ []) ≡ None }
+{}
+
+/// `--ordered` stands alone: beside another option, also one that says what holds without it, the words ask for nothing.
+pub fn ordered_is_asked()
+    ensures alone { options_asked (codes "othello" ∷ codes "solve" ∷ codes "--ordered" ∷ []) ≡ Some SolveOrdered }
+    ensures faultless { fault_of program (codes "othello" ∷ codes "solve" ∷ codes "--ordered" ∷ codes "--grain=2" ∷ []) ≡ [] }
+    ensures with_grain { options_asked (codes "othello" ∷ codes "solve" ∷ codes "--ordered" ∷ codes "--grain=2" ∷ []) ≡ None }
+    ensures with_no_number { options_asked (codes "othello" ∷ codes "solve" ∷ codes "--grain" ∷ codes "two" ∷ codes "--ordered" ∷ []) ≡ None }
+    ensures with_visited { options_asked (codes "othello" ∷ codes "solve" ∷ codes "--visited" ∷ codes "--ordered" ∷ []) ≡ None }
+    ensures twice { fault_of program (codes "othello" ∷ codes "solve" ∷ codes "--ordered" ∷ codes "--ordered" ∷ []) ≡ ArgumentConflict ∷ [] }
 {}
 
 /// The options of `serve` are set where they are given, and else have their defaults.

@@ -1,6 +1,6 @@
 //! The options of the commands that have a number for their value, and their limits.
-ghost use Rattle.std.specs.Prelude.{◌≡◌, ◌≤◌, IfErr, IfOk, OnErr};
-ghost use Rattle.clap.specs.Words.{found_of, rows_of};
+ghost use Rattle.std.specs.Prelude.{◌≡◌, ◌≤◌, IfErr, IfOk, OnErr, is_some};
+ghost use Rattle.clap.specs.Words.{first_of, found_of, rows_of};
 
 use clap::ArgMatches;
 use protocol::word_number;
@@ -46,6 +46,8 @@ pub(crate) enum Missing {
     Command,
     /// A number within its limits for this option.
     Value(Setting),
+    /// `--ordered` without another option beside it.
+    OrderedAlone,
 }
 
 impl Setting {
@@ -63,6 +65,16 @@ impl Setting {
         match self.number_in(given) {
             Some(number) if self.least <= number && number <= self.most => Ok(number),
             _ => Err(Missing::Value(*self)),
+        }
+    }
+
+    /// Whether the words of a command give this option, with a number or another value.
+    pub fn is_given(&self, given: &ArgMatches<'_>) -> bool
+        ensures { result ≡ is_some (first_of self.now.name.now (rows_of (found_of given.now))) }
+    {
+        match given.get_str(self.name) {
+            Some(_) => true,
+            None => false,
         }
     }
 

@@ -4,9 +4,9 @@ use Rattle.clap.specs.Words.{Text, fault_of}
 use Rattle.clap.specs.declared.error.kind.ErrorKind.{ErrorKind}
 use Rattle.line_io.specs.declared.faults.LineFault.{LineFault}
 use Rattle.line_io.specs.Streams.{ReadAnswer, WriteAnswer}
-use Rattle.solve_engine.specs.Solving.{SolvedRun, VisitedRun}
+use Rattle.solve_engine.specs.Solving.{OrderedRun, SolvedRun, VisitedRun}
 use Rattle.command_line.specs.declared.options.Options.{Options}
-use Rattle.command_line.specs.declared.options.Options.TheVariants.{Serve, Solve}
+use Rattle.command_line.specs.declared.options.Options.TheVariants.{Serve, Solve, SolveOrdered}
 use Rattle.command_line.specs.declared.faults.WordsFault.{WordsFault}
 use Rattle.command_line.specs.CommandLine.{options_asked, program}
 use Rattle.command_line.specs.Faults.{IsRefusalOf, exit_status}
@@ -37,5 +37,6 @@ module _ {S K : Type 0} (gives : S → ReadAnswer → S → Type 0) (takes : K �
   -- read where the words are refused (the fault's status)
   abbrev pub IsSolvedAsAsked : Result Options WordsFault → ℕ → Type 0
   IsSolvedAsAsked (Ok (Solve grain visited)) status = (r : Result (Unit {0}) LineFault) × IsAnsweredRun visited r × (status ≡ status_of_run r)
+  IsSolvedAsAsked (Ok SolveOrdered) status = (r : Result (Unit {0}) LineFault) × OrderedRun gives takes source sink source' sink' r × (status ≡ status_of_run r)
   IsSolvedAsAsked (Ok (Serve sessions port workers segments nodes grain)) status = ⊥
   IsSolvedAsAsked (Err fault) status = (source' ≡ source) × (status ≡ exit_status fault)

@@ -6,7 +6,7 @@ use Rattle.clap.specs.Words.{Text}
 use Rattle.line_io.specs.Streams.{ReadAnswer, WriteAnswer}
 use Rattle.line_io.specs.Writes.{IsWritten}
 use Rattle.command_line.specs.declared.options.Options.{Options}
-use Rattle.command_line.specs.declared.options.Options.TheVariants.{Serve, Solve}
+use Rattle.command_line.specs.declared.options.Options.TheVariants.{Serve, Solve, SolveOrdered}
 use Rattle.command_line.specs.declared.faults.WordsFault.{WordsFault}
 use Rattle.commands.specs.Answering.{IsSolvedAsAsked}
 use Rattle.commands.specs.declared.service.Service.{Service}
@@ -15,6 +15,8 @@ use Rattle.commands.specs.declared.service.Service.{Service}
 abbrev pub IsServiceOf : Options → Option Service → Type 0
 IsServiceOf (Solve grain visited) None = Unit {0}
 IsServiceOf (Solve grain visited) (Some asked) = ⊥
+IsServiceOf SolveOrdered None = Unit {0}
+IsServiceOf SolveOrdered (Some asked) = ⊥
 IsServiceOf (Serve sessions port workers segments nodes grain) None = ⊥
 IsServiceOf (Serve sessions port workers segments nodes grain) (Some asked) =
     (asked.sessions ≡ sessions) × (asked.port ≡ port) × (asked.workers ≡ workers) × (asked.config.segments ≡ segments) × (asked.config.nodes ≡ nodes) × (asked.grain ≡ grain)

@@ -2,12 +2,13 @@
 ghost use Rattle.std.specs.Prelude.{◌≡◌, ◌≤◌, Result};
 ghost use Rattle.line_io.specs.declared.faults.LineFault.{LineFault};
 ghost use Rattle.commands.specs.Answering.{IsAnsweredRun, status_of_run};
+ghost use Rattle.solve_engine.specs.Solving.{OrderedRun};
 
 use crate::saying::say;
 use crate::streams::{ProgramInput, ProgramOutput, Streams};
 use crate::{EXIT_FAILED, EXIT_OK};
 use line_io::{LineFault, Sink};
-use solve_engine::{solve, solve_visited};
+use solve_engine::{solve, solve_ordered, solve_visited};
 use std::alloc::{AllocError, Global};
 
 /// Bytes of the block that is allocated and freed before the first line of `solve`. Freeing it raises glibc's mmap
@@ -31,16 +32,48 @@ pub fn answer<S: ProgramInput, K: ProgramOutput, E: Sink>(
     ensures { (r : Result (Unit {0}) LineFault) × IsAnsweredRun S.gives K.takes streams.old.source streams.old.sink streams.new.source streams.new.sink visited r
         × (result ≡ status_of_run r) }
 {
-    if streams.source.is_typed() {
-        say(&mut streams.errors, HINT);
-    }
+    hint(streams);
     let result = if visited {
         solve_visited(&mut streams.source, &mut streams.sink)
     } else {
         keep_memory(alloc);
         solve(alloc, &mut streams.source, &mut streams.sink, grain)
     };
-    match result {
+    ended(result, streams)
+}
+
+/// As [`answer`], each line by one ordered search.
+pub fn answer_ordered<S: ProgramInput, K: ProgramOutput, E: Sink>(
+    streams: &mut Streams<S, K, E>,
+) -> u8
+    ensures { (r : Result (Unit {0}) LineFault) × OrderedRun S.gives K.takes streams.old.source streams.old.sink streams.new.source streams.new.sink r
+        × (result ≡ status_of_run r) }
+{
+    hint(streams);
+    let result = solve_ordered(&mut streams.source, &mut streams.sink);
+    ended(result, streams)
+}
+
+/// Says what is read, where the input is a terminal.
+fn hint<S: ProgramInput, K: ProgramOutput, E: Sink>(streams: &mut Streams<S, K, E>)
+    ensures source { streams.new.source ≡ streams.old.source }
+    ensures sink { streams.new.sink ≡ streams.old.sink }
+{
+    if streams.source.is_typed() {
+        say(&mut streams.errors, HINT);
+    }
+}
+
+/// The exit status of a run that ended so. Why it failed is said, but not where the reader of the output closed it.
+fn ended<S: ProgramInput, K: ProgramOutput, E: Sink>(
+    run: Result<(), LineFault>,
+    streams: &mut Streams<S, K, E>,
+) -> u8
+    ensures status { result ≡ status_of_run run }
+    ensures source { streams.new.source ≡ streams.old.source }
+    ensures sink { streams.new.sink ≡ streams.old.sink }
+{
+    match run {
         Ok(()) => EXIT_OK,
         Err(LineFault::Write) if streams.sink.is_closed() => EXIT_FAILED,
         Err(fault) => {

@@ -23,7 +23,7 @@ mod serving;
 mod streams;
 mod words;
 
-pub use answering::answer;
+pub use answering::{answer, answer_ordered};
 pub use explaining::Explained;
 pub use running::run;
 pub use saying::{refuse, say};

@@ -5,7 +5,7 @@ ghost use Rattle.command_line.specs.declared.faults.WordsFault.{WordsFault};
 ghost use Rattle.commands.specs.Answering.{IsReadOf};
 ghost use Rattle.commands.specs.Running.{IsFollowed};
 
-use crate::answering::answer;
+use crate::answering::{answer, answer_ordered};
 use crate::saying::refuse;
 use crate::service::Service;
 use crate::serving::{Unserved, failed, serve_as_asked};
@@ -39,6 +39,7 @@ where
 {
     match Options::read(alloc, words) {
         Ok(Options::Solve { grain, visited }) => answer(alloc, grain, visited, streams),
+        Ok(Options::SolveOrdered) => answer_ordered(streams),
         Ok(options) => {
             let asked = Service::of(options).unwrap();
             let Streams { sink, errors, .. } = streams;

@@ -76,7 +76,7 @@ impl Service {
         ensures { IsServiceOf options result }
     {
         match options {
-            Options::Solve { .. } => None,
+            Options::Solve { .. } | Options::SolveOrdered => None,
             Options::Serve {
                 sessions,
                 port,

@@ -23,7 +23,7 @@ pub use Rattle.jamboree_core.specs.jamboree_rules.Procedure.{jamboree}
 pub use Rattle.jamboree_core.specs.jamboree_rules.declared.leaf.Leaf.{Leaf}
 pub use Rattle.jamboree_core.specs.jamboree_rules.declared.leaf.LeafAnswer.{LeafAnswer}
 pub use Rattle.jamboree_core.specs.sched_laws.Fitted.{origins_after, submits}
-pub use Rattle.line_io.proofs.ByFunction.{Run-related, Run-written}
+pub use Rattle.line_io.proofs.ByFunction.{Run-function, Run-related, Run-written}
 pub use Rattle.line_io.specs.Leads.{Answers}
 pub use Rattle.line_io.specs.Lines.{LineText, lines_of}
 pub use Rattle.line_io.specs.Runs.{IsOutput, Run, answers_to, bytes_due, write_result}
@@ -57,5 +57,5 @@ pub use Rattle.sched_rules.specs.declared.step.StepOf.{StepOf}
 pub use Rattle.sched_rules.specs.declared.step.StepOf.TheVariants.{Admit, Steal, Submit, Take}
 pub use Rattle.tenant_quota.specs.Quota.{IsWithinLimits, Quota}
 pub use Rattle.solve_engine.specs.Asked.{HasAsked, HasReserved, HasRun, IsNewCore, IsWork, Keeps, Task, WorksOn}
-pub use Rattle.solve_engine.specs.Solving.{IsSolvedLine, IsVisitedLine, SolvedRun, answers_unless, question_answer, solve_line, solve_line_unless}
-pub use Rattle.solve_engine.specs.Solving.{solve_out_unless, solved_unless, solved_with_count}
+pub use Rattle.solve_engine.specs.Solving.{IsSolvedLine, IsVisitedLine, OrderedRun, SolvedRun, answers_unless, question_answer, solve_line, solve_line_unless}
+pub use Rattle.solve_engine.specs.Solving.{solve_out_unless, solved, solved_unless, solved_with_count}

@@ -1,6 +1,6 @@
 -- Where each line is answered by a text that `solve` may answer to it, what is written is the answers to the lines for some list of
 -- refused growths.
-use Rattle.solve_engine.proofs.Common.{◌≡◌, ℕ, suc, Bool, List, [], ◌∷◌, ◌++◌, length, refl, sym, ap, ◌∙◌, append_assoc, append-nil, arith, length-append, Result, Ok, Err, concat, LineFault, WriteFailed, LineText, lines_of, Answers, ReadAnswer, WriteAnswer, IsAnswered, written_texts, with_newline, Run, IsOutput, answers_to, bytes_due, write_result, Run-written, solve_line, solve_line_unless, IsSolvedLine, answers_unless, SolvedRun}
+use Rattle.solve_engine.proofs.Common.{◌≡◌, ℕ, suc, Bool, List, [], ◌∷◌, ◌++◌, length, refl, sym, ap, ◌∙◌, append_assoc, append-nil, arith, length-append, Result, Ok, Err, concat, LineFault, WriteFailed, LineText, lines_of, Answers, ReadAnswer, WriteAnswer, IsAnswered, written_texts, with_newline, Run, IsOutput, answers_to, bytes_due, write_result, Run-written, solve_line, solve_line_unless, IsSolvedLine, answers_unless, OrderedRun, SolvedRun, subst}
 
 -- which of these lines met a refused growth: a flag for each, and the answers are those texts
 pub record AreRefusals (lines : List LineText) (texts : List (List ℕ)) : Type 0 where
@@ -60,3 +60,20 @@ solved-run {A = A} gives takes {s} {k} {a} {s'} {k'} {a'} {r} x =
 pub none_refused : (lines : List LineText) → answers_unless [] lines ≡ answers_to solve_line lines
 none_refused [] = refl
 none_refused (line ∷ lines) = ap (λ rest. with_newline (solve_line line) ++ rest) (none_refused lines)
+
+-- a run that writes what `solve` writes where no growth was refused
+pub none-refused-run : {S K : Type 0} (gives : S → ReadAnswer → S → Type 0) (takes : K → WriteAnswer → K → Type 0) {s : S} {k : K} {s' : S} {k' : K}
+    {r : Result (Unit {0}) LineFault} → OrderedRun gives takes s k s' k' r → SolvedRun gives takes s k s' k' r
+none-refused-run gives takes {s} {k} {s'} {k'} {r} x =
+    let same = sym (none_refused (lines_of (bytes_due r (concat x.blocks)))) in (
+      [],
+      record {
+        blocks = x.blocks;
+        last = x.last;
+        pieces = x.pieces;
+        reads = x.reads;
+        ends = x.ends;
+        writes = x.writes;
+        written = subst (IsOutput (write_result r) (concat x.pieces)) same x.written;
+      },
+    )

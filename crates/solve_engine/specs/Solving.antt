@@ -81,6 +81,11 @@ solve_out_unless refused bytes = answers_unless refused (lines_of bytes)
 abbrev pub SolvedRun : {S K : Type 0} → (S → ReadAnswer → S → Type 0) → (K → WriteAnswer → K → Type 0) → S → K → S → K → Result (Unit {0}) LineFault → Type 0
 SolvedRun gives takes source sink source' sink' r = (refused : List Bool) × FunctionRun gives takes (solve_out_unless refused) source sink source' sink' r
 
+-- what `solve --ordered` does with an input: what is written is the answers to the lines that are due. No search takes
+-- memory, so no line meets a refused growth
+abbrev pub OrderedRun : {S K : Type 0} → (S → ReadAnswer → S → Type 0) → (K → WriteAnswer → K → Type 0) → S → K → S → K → Result (Unit {0}) LineFault → Type 0
+OrderedRun gives takes source sink source' sink' r = FunctionRun gives takes solve_out source sink source' sink' r
+
 -- a text is an answer of `solve --visited` to a line: value, move and some number of positions, or the line's
 -- fault
 abbrev pub IsVisitedLine : LineText → List ℕ → Type 0

@@ -6,8 +6,8 @@
 //! core that is made for its line and dropped after it, and only such a core takes memory: a line for
 //! which a growth was refused is answered `ERR 19`, and the next is tried. So the contract of [`solve`], over any
 //! source of bytes and any sink, is `solve_out` of what was read for some list of lines that met a refused growth
-//! (`SolvedRun`). Lines with a fault, and [`solve_visited`], ask for no memory: a line is held in an array of 128
-//! bytes, and an answer in one of 40; the invariant is that no answer is longer.
+//! (`SolvedRun`). Lines with a fault, [`solve_ordered`] and [`solve_visited`] ask for no memory: a line is held in an
+//! array of 128 bytes, and an answer in one of 40; the invariant is that no answer is longer.
 //!
 //! [`solve_by_core`] makes a core of 4,096 segments and 65,536 nodes, admits one tenant that reserves all of it, and
 //! submits one job: the search of a position to a depth. One worker then drives the core (`worker`): what it does next
@@ -58,4 +58,4 @@ mod worker;
 pub use found::{Searched, Way};
 pub use jamboree_core::leaf_search;
 pub use searching::{search_within, solve_by_core};
-pub use solving::{solve, solve_bytes, solve_visited};
+pub use solving::{solve, solve_bytes, solve_ordered, solve_visited};

@@ -2,10 +2,10 @@
 ghost use Rattle.std.specs.Prelude.{◌≡◌, ◌≤◌, ◌++◌, ℕ, Bool, List, length, Some, OnOk};
 ghost use Rattle.line_io.specs.Views.{text_of};
 ghost use Rattle.line_io.specs.Runs.{FunctionRun};
-ghost use Rattle.solve_engine.specs.Solving.{solve_out_unless, IsSolvedLine, IsVisitedLine, SolvedRun, VisitedRun};
+ghost use Rattle.solve_engine.specs.Solving.{solve_line, solve_out_unless, IsSolvedLine, IsVisitedLine, OrderedRun, SolvedRun, VisitedRun};
 
 use crate::answers::{SolveText, error_text, value_text, visited_text};
-use crate::leaf_search::search_full;
+use crate::leaf_search::{search_full, search_ordered_full};
 use crate::requests::read_line;
 use crate::solve_by_core;
 use line_io::{
@@ -42,6 +42,20 @@ fn visited_line(line: Line<'_>) -> SolveText
         Ok(asked) => {
             let found = search_full(asked.position.board, asked.depth);
             visited_text(found.score, found.choice, found.visited)
+        }
+        Err(fault) => error_text(fault.number()),
+    }
+}
+
+/// The answer to a line: value and move, by one ordered search; or the line's first fault.
+fn ordered_line(line: Line<'_>) -> SolveText
+    ensures text { result.items ≡ solve_line (text_of line.entry) }
+    ensures short { length result.items ≤ 37 }
+{
+    match read_line(line) {
+        Ok(asked) => {
+            let found = search_ordered_full(asked.position.board, asked.depth);
+            value_text(found.score, found.choice)
         }
         Err(fault) => error_text(fault.number()),
     }
@@ -85,6 +99,27 @@ impl LineAnswerer for VisitedSolver {
 
     fn answer(&mut self, line: Line<'_>) {
         self.text = visited_line(line);
+        self.text.push(LF);
+    }
+
+    fn text(&self) -> &[u8] {
+        self.text.as_slice()
+    }
+}
+
+/// Answers each line by value and move, each by one ordered search; `text` is the last answer, with LF.
+#[derive(Drop)]
+struct OrderedSolver {
+    text: SolveText,
+}
+
+impl LineAnswerer for OrderedSolver {
+    ghost answers = { λ _ line text _. text ≡ solve_line line };
+
+    ghost kept = { λ solver. solver.text.items };
+
+    fn answer(&mut self, line: Line<'_>) {
+        self.text = ordered_line(line);
         self.text.push(LF);
     }
 
@@ -148,4 +183,16 @@ pub fn solve_visited<S: Source, K: Sink>(source: &mut S, sink: &mut K) -> Result
         text: SolveText::new(),
     };
     answer_lines(source, sink, &mut counter)
+}
+
+/// [`solve`] with one ordered search for each line, outside any core: the fastest way. No search takes memory, so what is
+/// written is `solve_out` of what was read, and no line is answered `ERR 19`. The faults are those of [`solve`].
+pub fn solve_ordered<S: Source, K: Sink>(source: &mut S, sink: &mut K) -> Result<(), LineFault>
+    ensures solved { SolvedRun S.gives K.takes source.old sink.old source.new sink.new result }
+    ensures each { OrderedRun S.gives K.takes source.old sink.old source.new sink.new result }
+{
+    let mut solver = OrderedSolver {
+        text: SolveText::new(),
+    };
+    answer_lines(source, sink, &mut solver)
 }

@@ -4,13 +4,13 @@
 //! tried by a line that a person writes, and costs no proof: this program is proved once, safe and total as all else, for
 //! every text. A file's ending says what plays it:
 //!
-//! - `NAME.solve` (`solving`): the lines of `othello solve`, at each grain that the head names, or by `--visited`;
+//! - `NAME.solve` (`solving`): the lines of `othello solve`, at each grain that the head names, by `--ordered`, or by `--visited`;
 //! - `NAME.session` (`sessions`): sessions at a desk, whose jobs one worker runs (`desk_worker`) at each WAIT;
 //! - `NAME.steps` (`playing`): steps of a core, its answers, and looks at its state in between;
 //! - `NAME.rows` (`configs`): a file of `othello_site`: what it is read to, or refused for, and whose a connection is.
 //!
 //! A session or a solve is what a client would meet but for the sockets and the threads: lines go through `solve_bytes`,
-//! `solve_visited` and `serve_lines` with a `DeskOffice`. Printed are the first rows that disagree, and last how many rows of
+//! `solve_ordered`, `solve_visited` and `serve_lines` with a `DeskOffice`. Printed are the first rows that disagree, and last how many rows of
 //! how many files agree; the exit status is 1 where some don't, or where there is no text. Rows of a file whose name begins with
 //! `false_` are wrong, each in one place: how many of them disagree is printed beside, so that a player that is blind to some kind of
 //! row is seen.

@@ -1,7 +1,7 @@
 //! Scenes of `othello solve`.
 //!
-//! The head is `solve grain 0 2 6`, any grains from 0 to 6, or `solve visited`. The rows are `> LINE` and `< ANSWER`; all lines
-//! are one input.
+//! The head is `solve grain 0 2 6`, any grains from 0 to 6, and `ordered` may stand behind them, as alone; or it is
+//! `solve visited`. The rows are `> LINE` and `< ANSWER`; all lines are one input.
 ghost use Rattle.std.specs.Prelude.{◌≤◌, IfSome};
 
 use crate::agreement::{Agreement, Done};
@@ -10,16 +10,20 @@ use crate::scenes::{Row, Scene};
 use crate::talks::{TalkPart, gather};
 use crate::words::{behind, has_word};
 use line_io::{FromReader, FromWriter};
-use solve_engine::{solve_bytes, solve_visited};
+use solve_engine::{solve_bytes, solve_ordered, solve_visited};
 use std::alloc::Global;
 
-/// Plays a scene at each grain that its head names, and by `visited` where its head says so.
+/// Plays a scene at each grain that its head names, and by `ordered` or `visited` where its head says so.
 pub fn play_solve(alloc: Global, scene: &Scene<'_>, agreement: &mut Agreement) -> Done {
     let part = gather(alloc, b"", scene.rows.as_slice(), agreement)?;
     let head = scene.head;
     if has_word(head.text, "visited") {
         let came = visited(alloc, part.sent.as_slice());
         return compare_lines(agreement, head, part.dues.as_slice(), came.as_slice());
+    }
+    if has_word(head.text, "ordered") {
+        let came = ordered(alloc, part.sent.as_slice());
+        compare_lines(agreement, head, part.dues.as_slice(), came.as_slice())?;
     }
     let mut grains = behind(head.text, "grain");
     for _ in 0..7u8 {
@@ -63,6 +67,14 @@ fn solved(alloc: Global, sent: &[u8], grain: u8) -> Vec<u8>
     let mut source = FromReader { reader: sent };
     let mut sink = FromWriter::new(Vec::new(alloc));
     let _end = solve_bytes(alloc, &mut source, &mut sink, grain);
+    sink.writer
+}
+
+/// What `solve --ordered` writes.
+fn ordered(alloc: Global, sent: &[u8]) -> Vec<u8> {
+    let mut source = FromReader { reader: sent };
+    let mut sink = FromWriter::new(Vec::new(alloc));
+    let _end = solve_ordered(&mut source, &mut sink);
     sink.writer
 }
 

@@ -155,10 +155,11 @@ type Words = &'static [&'static str];
 /// Words, the exit status with the line of the opening as input, and how the output and the errors begin.
 type Text = (Words, u8, &'static str, &'static str);
 
-const TEXTS: [Text; 12] = [
+const TEXTS: [Text; 13] = [
     (&["othello", "solve", "--"], 0, "-4 d3\n", ""),
     (&["othello", "solve", "--grain", "0"], 0, "-4 d3\n", ""),
     (&["othello", "solve", "--visited"], 0, "-4 d3 15\n", ""),
+    (&["othello", "solve", "--ordered"], 0, "-4 d3\n", ""),
     (&["othello", "--version"], 0, "othello 1.0.0\n", ""),
     (
         &["othello", "--help"],
@@ -232,11 +233,12 @@ othello: the depth is over 12
 /// Whether the input is a terminal, the words, and what is said of the faults.
 type Explaining = (bool, Words, &'static str);
 
-const EXPLAINING: [Explaining; 4] = [
+const EXPLAINING: [Explaining; 5] = [
     (false, &["othello", "solve"], ""),
     (false, &["othello", "solve", "--visited"], ""),
     (true, &["othello", "solve"], IN_WORDS),
     (true, &["othello", "solve", "--visited"], IN_WORDS),
+    (true, &["othello", "solve", "--ordered"], IN_WORDS),
 ];
 
 /// Whether faults are said in words at a terminal, behind the line of hints, and nowhere else.

@@ -25,6 +25,11 @@ fn words_are_read(rt: HostRuntime) {
     };
     let words = ["othello", "solve", "--visited"];
     holds(&rt, ask_for(rt.alloc(), words.as_slice(), solve));
+    let words = ["othello", "solve", "--ordered"];
+    holds(
+        &rt,
+        ask_for(rt.alloc(), words.as_slice(), Options::SolveOrdered),
+    );
     let serve = Options::Serve {
         sessions: 2,
         port: 80,
@@ -40,11 +45,23 @@ fn words_are_read(rt: HostRuntime) {
 /// Words that are refused, the exit status, how the text begins, and what stands in it.
 type Refused = (Words, u8, &'static str, &'static str);
 
-const REFUSED: [Refused; 4] = [
+const REFUSED: [Refused; 6] = [
     (
         &["othello", "solve", "--grain", "7"],
         2,
         "error: --grain takes a number from 0 to 6\n",
+        "Usage: othello solve [OPTIONS]",
+    ),
+    (
+        &["othello", "solve", "--ordered", "--grain", "2"],
+        2,
+        "error: --ordered stands without --grain and --visited\n",
+        "Usage: othello solve [OPTIONS]",
+    ),
+    (
+        &["othello", "solve", "--visited", "--ordered"],
+        2,
+        "error: --ordered stands without --grain and --visited\n",
         "Usage: othello solve [OPTIONS]",
     ),
     (
