@@ -31,6 +31,7 @@ if sys.argv[1] == "serve":
     from told import Told, sound
     print(f"listening 127.0.0.1:{{Told(sound(int(sys.argv[-1]), lambda depth, nodes: 'SPENT' if depth > 10 else 'PENDING' if depth == 9 else 'DONE')).port}}", flush=True)
     time.sleep(600)
+assert sys.argv[1:] == ["solve", "--ordered"]
 for line in sys.stdin:
     depth, side = int(line.split()[0]), line.split()[2]
     if side == "O":
@@ -43,7 +44,7 @@ for line in sys.stdin:
         if depth == 9:
             print("what?", flush=True)
             continue
-    print(10 * depth, "d3" if depth else "-", 1, flush=True)
+    print(10 * depth, "d3" if depth else "-", flush=True)
 """
 WHITE = OPENING.flip()
 

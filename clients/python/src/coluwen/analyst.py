@@ -25,7 +25,7 @@ END: Any = object()  # of a source
 class Result:
     """What a search found: the score of the position, its first best move (None at depth 0 and in a finished game), and what is known of
     each move in the order in which they were tried: the best one's value exactly, of most others a bound (`Entry`). `seconds`: from when it
-    was asked to when it was known; `nodes`: what it took of the reservation, where that is counted, or how many positions an engine entered."""
+    was asked to when it was known; `nodes`: what it took of a server's reservation, where that is counted."""
 
     position: Position
     depth: int

@@ -29,13 +29,13 @@ from .errors import Broken, Closed, ColuwenError, Late, Refused, TooDeep, Unreac
 from .score import AT_MOST, EXACT
 
 PROGRAM = "COLUWEN_OTHELLO"  # the variable that names the program
-SEARCH = ("solve", "--visited")  # one search for each line: the fastest of what `solve` has
+SEARCH = ("solve", "--ordered")  # one ordered search for each line: the fastest of what `solve` has
 SERVE = ("serve", "--sessions", "1000", "--segments", "65536", "--nodes", "4194304")
 WATCH = '"$@" < /dev/null & cat > /dev/null; kill $!'  # of sh: a server ends with the input that whoever began it holds, however that ends
 GRAINS = range(4, 7)  # of an engine's own servers: as deep as is fastest, and as deep as they go
 TRIES = 3  # of a question whose processes end
 LONGEST = 64  # bytes of an answer
-ANSWER = re.compile(rb"(0|-?[1-9][0-9]{0,5}) ([a-h][1-8]|pass|-) ([1-9][0-9]*)\n")
+ANSWER = re.compile(rb"(0|-?[1-9][0-9]{0,5}) ([a-h][1-8]|pass|-)\n")
 REFUSAL = re.compile(rb"ERR ([1-9][0-9])\n")
 CORNERS = ("a1", "h1", "a8", "h8")
 HERE = pathlib.Path(__file__).resolve()
@@ -139,7 +139,7 @@ class Pool:
                 value, move = int(found[1]), found[2].decode()
                 moves = [] if move == "-" else sorted(question.position.legal_moves(), key=lambda one: one not in CORNERS)
                 entries = tuple((one, EXACT if one == move else AT_MOST, value) for one in moves)
-                return result_of(question.position, question.depth, Found(value, move, entries, time.monotonic() - question.asked, int(found[3])))
+                return result_of(question.position, question.depth, Found(value, move, entries, time.monotonic() - question.asked))
             if refused := REFUSAL.fullmatch(answer):
                 raise Refused(int(refused[1]))
             self.end(question)

@@ -23,7 +23,7 @@ import java.util.stream.Stream;
 public final class Engine implements Analyst {
   private static final List<String> CORNERS = List.of("a1", "h1", "a8", "h8");
   private static final int TRIES = 3; // of a question whose processes end
-  private static final Pattern ANSWER = Pattern.compile("(0|-?[1-9][0-9]{0,5}) ([a-h][1-8]|pass|-) [1-9][0-9]*");
+  private static final Pattern ANSWER = Pattern.compile("(0|-?[1-9][0-9]{0,5}) ([a-h][1-8]|pass|-)");
   private static final Pattern REFUSAL = Pattern.compile("ERR ([1-9][0-9])");
   private static final Pattern VERSION = Pattern.compile("othello [0-9][!-~]*\\R?");
   private static Optional<String> copy; // of the packed program
@@ -161,7 +161,7 @@ public final class Engine implements Analyst {
         if (isClosed) throw new Closed("engine");
         if (future.isDone()) throw new ColuwenException.Stopped();
         if (tries == TRIES) throw new Broken(program + " ended without an answer " + TRIES + " times");
-        process = spare.isEmpty() ? new ProcessBuilder(program, "solve", "--visited").redirectError(ProcessBuilder.Redirect.DISCARD).start() : spare.pop();
+        process = spare.isEmpty() ? new ProcessBuilder(program, "solve", "--ordered").redirectError(ProcessBuilder.Redirect.DISCARD).start() : spare.pop();
         searching.put(future, process);
       }
       var answer = said(process, depth + " " + position.text() + "\n");

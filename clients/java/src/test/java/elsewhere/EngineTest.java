@@ -41,6 +41,7 @@ class EngineTest {
       #!/bin/bash
       [[ $1 == --version ]] && { echo "othello 9.9.9"; exit; }
       [[ $1 == serve ]] && { cat "${0%/*}/port"; exec sleep 600; }
+      [[ $* == "solve --ordered" ]] || exit 4
       while read -r depth cells side; do
         if [[ $side == O ]]; then
           [[ $depth == 12 ]] && exec sleep 600
@@ -48,7 +49,7 @@ class EngineTest {
           [[ $depth == 10 && ! -e ${0%/*}/once ]] && { touch "${0%/*}/once"; exit 3; }
           [[ $depth == 9 ]] && { echo "what?"; continue; }
         fi
-        echo "$((10 * depth)) $([[ $depth == 0 ]] && echo - || echo d3) 1"
+        echo "$((10 * depth)) $([[ $depth == 0 ]] && echo - || echo d3)"
       done
       """;
 
