@@ -1,63 +1,47 @@
-//! The ordered search of `leaf_search` for x86-64-v2 and x86-64-v3, beside its search in the rules' order for x86-64-v3 and an ordered
-//! peer for AVX2 (`ordered_peer.rs`). Values and moves must agree. The engines take turns at each position, by the thread's processor
-//! time; the best round of each counts.
+//! The peer of `othello solve --ordered`, in plain Rust for AVX2: the search of `ordered_peer.rs`.
 //!
-//! usage: ordered DEPTH POSITIONS ROUNDS
+//! usage: ordered < LINES                     answers lines `depth position` by `value move entered`
+//!        ordered positions COUNT DEPTH       writes so many lines, of positions by `positions.rs`
 #[macro_use]
 mod searches;
 
 mod avx2;
-mod clock;
 mod kernels;
 mod ordered_peer;
 mod positions;
 mod vectors;
 
-use clock::processor_seconds;
-use kernels::{Found, INF, has_v3, kernel_search_v3, through};
-
-unsafe extern "C" {
-    fn kernel_ordered(own: u64, opp: u64, depth: u8, alpha: i32, beta: i32, found: *mut Found);
-    fn kernel_ordered_v3(own: u64, opp: u64, depth: u8, alpha: i32, beta: i32, found: *mut Found);
+fn main() {
+    assert!(kernels::has_v3(), "the processor doesn't run x86-64-v3");
+    let words: Vec<String> = std::env::args().skip(1).collect();
+    if let [_, count, depth] = words.as_slice() {
+        for (own, opp) in positions::positions(count.parse().expect("a number")) {
+            println!("{depth} {} X", (0..64).map(|at| cell(own, opp, at)).collect::<String>());
+        }
+        return;
+    }
+    for line in std::io::stdin().lines() {
+        let line = line.expect("a line");
+        let (depth, text) = line.split_once(' ').expect("a depth and a position");
+        let discs = |letter| (0..64).filter(|&at| text.as_bytes()[at] == letter).map(|at| 1 << at).sum::<u64>();
+        let (own, opp) = if text.ends_with('X') { (discs(b'X'), discs(b'O')) } else { (discs(b'O'), discs(b'X')) };
+        let found = ordered_peer::found(own, opp, depth.parse().expect("a depth"));
+        println!("{} {} {}", found.score, name(found.choice), found.visited);
+    }
 }
 
-type Engine = fn(u64, u64, u8) -> Found;
-
-const ENGINES: [(&str, Engine); 4] = [
-    ("visited_v3", |own, opp, depth| through(kernel_search_v3, own, opp, depth, -INF, INF)),
-    ("peer", ordered_peer::found),
-    ("ordered_v3", |own, opp, depth| through(kernel_ordered_v3, own, opp, depth, -INF, INF)),
-    ("ordered_v2", |own, opp, depth| through(kernel_ordered, own, opp, depth, -INF, INF)),
-];
-
-fn main() {
-    assert!(has_v3(), "the processor doesn't run x86-64-v3");
-    let words: Vec<usize> = std::env::args().skip(1).map(|word| word.parse().expect("a number")).collect();
-    let (depth, positions) = (words[0] as u8, positions::positions(words[1]));
-    let mut best = [f64::MAX; 4];
-    let mut entered = [0; 4];
-    for _ in 0..words[2] {
-        let mut seconds = [0.0; 4];
-        entered = [0; 4];
-        for &(own, opp) in &positions {
-            let mut answers = Vec::new();
-            for (at, (_, engine)) in ENGINES.iter().enumerate() {
-                let start = processor_seconds();
-                let found = engine(own, opp, depth);
-                seconds[at] += processor_seconds() - start;
-                entered[at] += found.visited;
-                answers.push((found.score, found.choice));
-            }
-            assert!(answers.iter().all(|answer| *answer == answers[0]), "value or move differs: {own:x} {opp:x}");
-        }
-        for (least, now) in best.iter_mut().zip(seconds) {
-            *least = least.min(now);
-        }
+fn cell(own: u64, opp: u64, at: usize) -> char {
+    match (own >> at & 1, opp >> at & 1) {
+        (0, 0) => '-',
+        (1, _) => 'X',
+        _ => 'O',
     }
-    for (at, (name, _)) in ENGINES.iter().enumerate() {
-        println!(
-            "depth {depth}, {} positions: {name} entered {}, {:.4} s, {:.3} of visited_v3, {:.3} of peer",
-            positions.len(), entered[at], best[at], best[at] / best[0], best[at] / best[1]
-        );
+}
+
+fn name(choice: u8) -> String {
+    match choice {
+        64 => "pass".to_string(),
+        65 => "-".to_string(),
+        square => format!("{}{}", char::from(b'a' + square % 8), square / 8 + 1),
     }
 }

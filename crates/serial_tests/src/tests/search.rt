@@ -1,5 +1,6 @@
 mod alone;
 mod cores;
+mod entered;
 mod examples;
 mod lines;
 mod sessions;
