@@ -31,6 +31,12 @@ READER = [
 SIZES = [4, 4, 4, 4, 4, 20, 1, 2, 3, 0, 128, 129]
 
 
+# searches whose reservations are tried: grain, depth, and the turns before the position
+RESERVED = [(0, 1, 0), (0, 1, 30), (3, 2, 20), (0, 1, 40), (2, 3, 44), (0, 2, 52), (2, 4, 54), (0, 3, 56), (1, 4, 57), (0, 5, 58)]
+
+WANTS = [("Err", scheduling.NUMBERS[name]) for name in ("NoNodes", "NoSegments", "NoSteps")]
+
+
 class List:
     """A list of steps by one procedure, and its text."""
 
@@ -41,13 +47,15 @@ class List:
         self.lines = [f"= core {procedure.name} segments {segments} nodes {nodes}"]
         if getattr(procedure, "grain", 0):
             self.lines[0] += f" grain {procedure.grain}"
-        self.count, self.heard = 0, []
+        self.count, self.heard, self.steps, self.answers = 0, [], [], []
 
     def take(self, *step):
         """Takes a step, and writes it with its answer."""
         answer = self.core.step(step)
         self.lines.append(f"{scheduling.step_text(step)} -> {scheduling.answer_text(answer)}")
         self.count += 1
+        self.steps.append(step)
+        self.answers.append(answer)
         self.met[step[0], answer[1] if answer[0] == "Err" else answer[0]] += 1
         for word in answer[1:]:
             if isinstance(word, tuple) and len(word) == 2:
@@ -365,6 +373,71 @@ def turn(drawn, worker, at):
     return (("Advance", name) if answer[0] in ("Grew", "Spawned", "Answered") else None), kind == "Answer" and answer[0] == "Err"
 
 
+def enough(empty, most, plies):
+    """The segments and nodes that suffice for a search in any order, by its position's empty squares, and choices at most."""
+    if plies == 0:
+        return 1, 1
+    left = max(empty - 1, 0)
+    segments, nodes = enough(left, min(left, 56), plies - 1)
+    return 1 + scheduling.charge(12 + most) + most * segments, 2 + max(2 * most - 1, 0) * nodes
+
+
+def takes(grain, least, depth, board, player):
+    """What a search takes at most by its own choices: the segments that it has at once; and the nodes, in a window of width one, and in another."""
+    found = othello.choices(board, player) if depth > least else []
+    below = [takes(grain, grain, depth - othello.plies(choice), othello.after(board, player, choice), othello.other(player)) for choice in found]
+    tests = sum(each[1] for each in below)
+    return (scheduling.charge(12 + len(found)) + sum(each[0] for each in below), 1 + tests,
+            1 + sum(each[2] for each in below) + sum(each[1] for each in below[1:]))
+
+
+def search(seed, met, grain, depth, asked, segments, nodes):
+    """A search with so much reserved, by eight workers in an order that is drawn, to its end; and the most segments that it had."""
+    drawn, workers, most = List(seed, Jamboree(grain), segments, nodes, met), [None] * 9, 0
+    drawn.take("Admit", 1, segments, nodes)
+    drawn.take("Submit", 1, *Jamboree.root(*asked, depth))
+    while drawn.core.tenants[1].frames:
+        worker = drawn.random.randint(1, 8)
+        workers[worker], _ = turn(drawn, worker, workers[worker])
+        assert drawn.answers[-1] not in WANTS, "refused for want of what suffices"
+        most = max(most, segments - drawn.core.tenants[1].left()[0])
+    drawn.lines.append("{} = {}".format(*scheduling.look_at_job(drawn.core, 1, 1)))
+    return drawn, most
+
+
+def again(drawn, name, segments, nodes, met):
+    """The same steps with another reservation, until one is refused for want of it: there the job is spent."""
+    same, number = List(name, drawn.procedure, segments, nodes, met), scheduling.NUMBERS[name]
+    for step in drawn.steps:
+        step = ("Admit", 1, segments, nodes) if step[0] == "Admit" else step
+        if same.take(*step) == ("Err", number):
+            assert same.take("Spend", step[2]) == ("Spent", 1)
+            break
+    else:
+        assert False, f"never refused: {name}"
+    return same
+
+
+def reserved(seed, met):
+    """Searches with just what they take at most reserved, by their own choices: in no order that is drawn is a step refused for want of a node,
+    a segment or a step, and each job is done. With a node fewer than it used, and with a segment fewer than it had at once, the same order is
+    spent. What suffices by empty squares and discs is never less."""
+    lists, drawing = [], random.Random(seed)
+    for grain, depth, turns in RESERVED:
+        board, player = othello.game(drawing, turns)
+        segments, _, nodes = takes(grain, 0, depth, board, player)
+        empty = board.count("-")
+        sufficing = enough(empty, min(empty, 56, 8 * max(board.count("X"), board.count("O"))), max(1, depth - grain))
+        assert segments <= sufficing[0] and nodes <= sufficing[1]
+        drawn, most = search(f"{seed} {grain} {depth} {turns}", met, grain, depth, (board, player), segments, nodes)
+        job, used = drawn.core.tenants[1].jobs[0], drawn.core.tenants[1].serials
+        assert job[0] == "done" and job[1][BEST] == othello.minimax(board, player, depth)[0] + ZERO
+        lists.append(drawn)
+        if used > 1:
+            lists += [again(drawn, "NoNodes", segments, used - 1, met), again(drawn, "NoSegments", most - 1, nodes, met)]
+    return lists
+
+
 def crowd(met):
     """64 tenants at once, one with a segment and the next with two: there is no place for a 65th, and some numbers can't be taken at
     all; one of the 64 reserves more. Once all have left, 64 more come under numbers of their own."""
@@ -456,7 +529,7 @@ def main():
         if first:
             lists = first(met) + lists
         if name == "jamboree":
-            lists += orders(f"{seed} orders", met)
+            lists += orders(f"{seed} orders", met) + reserved(f"{seed} reserved", met)
         if name == "reader":
             lists += [jobs(f"{seed} jobs", met), out_of_steps(f"{seed} out of steps", met)]
         total += write(folder, name, lists, text)

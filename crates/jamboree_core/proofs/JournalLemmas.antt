@@ -20,35 +20,54 @@ module _ (grain : ℕ) (outcome : Outcome Leaf) where
       step-fits (jamboree grain) AreFitting IsRoot origins tenant step outcome (lawful grain) shaped fits (search-fits step search) is
   lone-fits origins None step search is none shaped fits = rw (none refl) (begun-fits step is)
 
--- a tenant of searches after a list of its own steps, each of which was taken
-abbrev KeepsFitting : ℕ → List (StepOf LeafAnswer) → Type 0
-KeepsFitting grain steps =
-    (origins : List (List ℕ)) (before : Option Tenant) → AreTakenFrom (jamboree grain) before steps → (before ≡ None → origins ≡ []) → LeftShaped before → LeftFits AreFitting IsRoot origins before →
-    LeftFits AreFitting IsRoot (origins ++ origins_of steps) (alone_from (jamboree grain) before steps)
+-- What each step keeps lasts over a journal, each step of which meets a condition, which may speak of the tenant before it.
+module _ (grain : ℕ) (Each : Option Tenant → List (StepOf LeafAnswer) → Type 0) (Meets : Option Tenant → StepOf LeafAnswer → Type 0)
+    (parts : (before : Option Tenant) (step : StepOf LeafAnswer) (steps : List (StepOf LeafAnswer)) → Each before (step ∷ steps) →
+    Meets before step × Each (state_after before (lone (jamboree grain) before step)) steps)
+    (P : List (List ℕ) → Option Tenant → Type 0)
+    (keeps : (origins : List (List ℕ)) (before : Option Tenant) (step : StepOf LeafAnswer) (outcome : Outcome Leaf) → Meets before step → lone (jamboree grain) before step ≡ Ok outcome →
+    (before ≡ None → origins ≡ []) → P origins before → P (origins ++ submits step) outcome.0) where
+  abbrev Lasts : List (StepOf LeafAnswer) → Type 0
+  Lasts steps =
+      (origins : List (List ℕ)) (before : Option Tenant) → Each before steps → AreTakenFrom (jamboree grain) before steps → (before ≡ None → origins ≡ []) → P origins before →
+      P (origins ++ origins_of steps) (alone_from (jamboree grain) before steps)
 
-fits-on : (grain : ℕ) (step : StepOf LeafAnswer) (steps : List (StepOf LeafAnswer)) → IsSearch step → KeepsFitting grain steps → KeepsFitting grain (step ∷ steps)
-fits-on grain step steps search rest origins before taken none shaped fits = by (lone (jamboree grain) before step) refl taken
-  where
-    by : (came : Came) → lone (jamboree grain) before step ≡ came → StaysTaken came × AreTakenFrom (jamboree grain) (state_after before came) steps →
-        LeftFits AreFitting IsRoot (origins ++ (submits step ++ origins_of steps)) (alone_from (jamboree grain) (state_after before came) steps)
-    by (Err refusal) e t = absurd t.0
-    by (Ok (None, did)) e t = absurd t.0
-    by (Ok (Some tenant, did)) e t =
-        let P : List (List ℕ) → Type 0 = λ os. LeftFits AreFitting IsRoot os (alone_from (jamboree grain) (Some tenant) steps) in
-        subst P (append_assoc origins (submits step) (origins_of steps)) (rest (origins ++ submits step) (Some tenant) t.1 (λ is. absurd cc)
-        (lone-shaped (jamboree grain) before step (Some tenant, did) e shaped) (lone-fits grain _ origins before step search e none shaped fits))
+  lasts-on : (step : StepOf LeafAnswer) (steps : List (StepOf LeafAnswer)) → Lasts steps → Lasts (step ∷ steps)
+  lasts-on step steps rest origins before each taken none has = by (lone (jamboree grain) before step) refl (parts before step steps each).1 taken
+    where
+      by : (came : Came) → lone (jamboree grain) before step ≡ came → Each (state_after before came) steps → StaysTaken came × AreTakenFrom (jamboree grain) (state_after before came) steps →
+          P (origins ++ (submits step ++ origins_of steps)) (alone_from (jamboree grain) (state_after before came) steps)
+      by (Err refusal) e later t = absurd t.0
+      by (Ok (None, did)) e later t = absurd t.0
+      by (Ok (Some tenant, did)) e later t =
+          subst (λ (os : List (List ℕ)). P os (alone_from (jamboree grain) (Some tenant) steps)) (append_assoc origins (submits step) (origins_of steps))
+          (rest (origins ++ submits step) (Some tenant) later t.1 (λ is. absurd cc) (keeps origins before step (Some tenant, did) (parts before step steps each).0 e none has))
 
-alone-fits : (grain : ℕ) (steps : List (StepOf LeafAnswer)) → AreSearches steps → KeepsFitting grain steps
-alone-fits grain [] searches = λ origins before taken none shaped fits. let P : List (List ℕ) → Type 0 = λ os. LeftFits AreFitting IsRoot os before in subst P (sym (append-nil origins)) fits
-alone-fits grain (step ∷ steps) searches = fits-on grain step steps searches.0 (alone-fits grain steps searches.1)
+  lasts : (steps : List (StepOf LeafAnswer)) → Lasts steps
+  lasts [] = λ origins before each taken none has. subst (λ (os : List (List ℕ)). P os before) (sym (append-nil origins)) has
+  lasts (step ∷ steps) = lasts-on step steps (lasts steps)
+
+  pub all-lasts : P [] None → (journal : List (StepOf LeafAnswer)) (tenant : Tenant) → IsJournalOf (jamboree grain) journal tenant → Each None journal → P (origins_of journal) (Some tenant)
+  all-lasts start journal tenant is each = subst (P (origins_of journal)) is.comes (lasts journal [] None each is.taken (λ none. refl) start)
+
+-- where each Submit asks for a search
+pub journal-lasts : (grain : ℕ) (P : List (List ℕ) → Option Tenant → Type 0) →
+    ((origins : List (List ℕ)) (before : Option Tenant) (step : StepOf LeafAnswer) (outcome : Outcome Leaf) → IsSearch step → lone (jamboree grain) before step ≡ Ok outcome →
+    (before ≡ None → origins ≡ []) → P origins before → P (origins ++ submits step) outcome.0) →
+    P [] None → (journal : List (StepOf LeafAnswer)) (tenant : Tenant) → IsJournalOf (jamboree grain) journal tenant → AreSearches journal → P (origins_of journal) (Some tenant)
+journal-lasts grain P keeps = all-lasts grain (λ before steps. AreSearches steps) (λ before step. IsSearch step) (λ before step steps each. each) P keeps
+
+-- a tenant of searches: its shape, and that its frames fit
+abbrev pub FitsOn : List (List ℕ) → Option Tenant → Type 0
+FitsOn origins tenant = LeftShaped tenant × LeftFits AreFitting IsRoot origins tenant
+
+pub fits-on : (grain : ℕ) (origins : List (List ℕ)) (before : Option Tenant) (step : StepOf LeafAnswer) (outcome : Outcome Leaf) → IsSearch step → lone (jamboree grain) before step ≡ Ok outcome →
+    (before ≡ None → origins ≡ []) → FitsOn origins before → FitsOn (origins ++ submits step) outcome.0
+fits-on grain origins before step outcome search is none has = (lone-shaped (jamboree grain) before step outcome is has.0, lone-fits grain outcome origins before step search is none has.0 has.1)
 
 pub journal-searches : (grain : ℕ) (journal : List (StepOf LeafAnswer)) (tenant : Tenant) → IsJournalOf (jamboree grain) journal tenant → AreSearches journal → TenantSearches (origins_of journal) tenant
 journal-searches grain journal tenant is searches =
-    let P : Option Tenant → Type 0 = λ own. LeftFits AreFitting IsRoot (origins_of journal) own in
-    record {
-      fits = subst P is.comes (alone-fits grain journal searches [] None is.taken (λ none. refl) tt tt);
-      asked = searches-asked journal searches;
-    }
+    record { fits = (journal-lasts grain FitsOn (fits-on grain) (tt, tt) journal tenant is searches).1; asked = searches-asked journal searches }
 
 -- a journal that goes on with a taken step, after which its tenant is still there
 stays : {I : Type 0} (came : Result (Outcome I) Refusal) (outcome : Outcome I) (next : Tenant) → came ≡ Ok outcome → outcome.0 ≡ Some next → StaysTaken came

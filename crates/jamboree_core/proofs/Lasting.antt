@@ -1,6 +1,7 @@
 -- What lasts over lists of steps: sixteen steps a node, and the nodes that were reserved.
-use Rattle.jamboree_core.proofs.Common.{◌≡◌, ◌≢◌, ℕ, false, List, [], ◌∷◌, ◌++◌, Option, Some, None, Result, Ok, Err, refl, ap, sym, ◌∙◌, subst, append_assoc, append-nil, arith, eqb, Refusal, NoTenant, StepOf, Submit, Admit, Tenant, Outcome, lone, state_after, alone_from, submits, origins_of, LeftShaped, lone-shaped, LeftFits, step-fits, IsShaped, frame_at, F, Leaf, LeafAnswer, IsRoot, jamboree, IsSearch, AreSearches, StaysTaken, AreTakenFrom, IsJournalOf, RootFits, root_words, padded}
+use Rattle.jamboree_core.proofs.Common.{◌≡◌, ◌≢◌, ℕ, false, List, [], ◌++◌, Option, Some, None, Result, Ok, Err, refl, ap, sym, ◌∙◌, arith, eqb, Refusal, NoTenant, StepOf, Submit, Admit, Tenant, Outcome, lone, submits, origins_of, LeftShaped, lone-shaped, LeftFits, step-fits, IsShaped, frame_at, F, Leaf, LeafAnswer, IsRoot, jamboree, IsSearch, AreSearches, IsJournalOf, RootFits, root_words, padded}
 use Rattle.jamboree_core.proofs.Replying.{search-fits}
+use Rattle.jamboree_core.proofs.JournalLemmas.{journal-lasts}
 use Rattle.sched_rules.specs.Trees.{left}
 use Rattle.jamboree_rules.specs.Places.{frame_of}
 use Rattle.jamboree_core.specs.Paces.{HasSteps}
@@ -45,33 +46,6 @@ module _ (grain : ℕ) (outcome : Outcome Leaf) where
     step-turns (search-turns grain) shaped fits has step outcome (root-turns step) is,
   )
   lone-runs origins None step search is none shaped fits has = rw (none refl) (begun-runs step is)
-
--- What each step keeps lasts over a journal.
-module _ (grain : ℕ) (P : List (List ℕ) → Option Tenant → Type 0)
-    (keeps : (origins : List (List ℕ)) (before : Option Tenant) (step : StepOf LeafAnswer) (outcome : Outcome Leaf) → IsSearch step → lone (jamboree grain) before step ≡ Ok outcome →
-    (before ≡ None → origins ≡ []) → P origins before → P (origins ++ submits step) outcome.0) where
-  abbrev Lasts : List (StepOf LeafAnswer) → Type 0
-  Lasts steps =
-      (origins : List (List ℕ)) (before : Option Tenant) → AreTakenFrom (jamboree grain) before steps → (before ≡ None → origins ≡ []) → P origins before →
-      P (origins ++ origins_of steps) (alone_from (jamboree grain) before steps)
-
-  lasts-on : (step : StepOf LeafAnswer) (steps : List (StepOf LeafAnswer)) → IsSearch step → Lasts steps → Lasts (step ∷ steps)
-  lasts-on step steps search rest origins before taken none has = by (lone (jamboree grain) before step) refl taken
-    where
-      by : (came : Came) → lone (jamboree grain) before step ≡ came → StaysTaken came × AreTakenFrom (jamboree grain) (state_after before came) steps →
-          P (origins ++ (submits step ++ origins_of steps)) (alone_from (jamboree grain) (state_after before came) steps)
-      by (Err refusal) e t = absurd t.0
-      by (Ok (None, did)) e t = absurd t.0
-      by (Ok (Some tenant, did)) e t =
-          subst (λ (os : List (List ℕ)). P os (alone_from (jamboree grain) (Some tenant) steps)) (append_assoc origins (submits step) (origins_of steps))
-          (rest (origins ++ submits step) (Some tenant) t.1 (λ is. absurd cc) (keeps origins before step (Some tenant, did) search e none has))
-
-  lasts : (steps : List (StepOf LeafAnswer)) → AreSearches steps → Lasts steps
-  lasts [] searches = λ origins before taken none has. subst (λ (os : List (List ℕ)). P os before) (sym (append-nil origins)) has
-  lasts (step ∷ steps) searches = lasts-on step steps searches.0 (lasts steps searches.1)
-
-  pub journal-lasts : P [] None → (journal : List (StepOf LeafAnswer)) (tenant : Tenant) → IsJournalOf (jamboree grain) journal tenant → AreSearches journal → P (origins_of journal) (Some tenant)
-  journal-lasts start journal tenant is searches = subst (P (origins_of journal)) is.comes (lasts journal searches [] None is.taken (λ none. refl) start)
 
 -- a tenant of searches: its shape, that its frames fit and run, and its steps
 abbrev RunsOn : List (List ℕ) → Option Tenant → Type 0

@@ -14,7 +14,6 @@ pub mod Weights
 pub mod Paces
 pub mod Charges
 pub mod Needs
-pub mod NeedsBounds
 pub mod Sufficing
 pub mod Runs
 pub mod SearchTurns
@@ -23,4 +22,5 @@ pub mod Counts
 pub mod Rooms
 pub mod Segments
 pub mod NeverSpent
-pub mod SizesBounds
+pub mod EnoughBounds
+pub mod CutOff

@@ -25,7 +25,7 @@ not-by r (test ∷ tests) effect none = λ e. elim (cases_Bool test.0) [
 ]
 
 -- a raise lowers no number of nodes
-more-nodes : (now quota : Quota) → is_lower now quota ≡ false → now.nodes ≤ quota.nodes
+pub more-nodes : (now quota : Quota) → is_lower now quota ≡ false → now.nodes ≤ quota.nodes
 more-nodes now quota enough = ltb-false quota.nodes now.nodes (or_parts _ _ (or_parts _ _ enough).0).1
 
 module _ {grain : ℕ} {cost : Cost} {origins : List (List ℕ)} {tenant : Tenant} (enough : IsEnough grain cost) (shape : IsShaped tenant)

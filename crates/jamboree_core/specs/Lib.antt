@@ -12,3 +12,4 @@ pub mod Paces
 pub mod Needs
 pub mod Turns
 pub mod Sizes
+pub mod Enough

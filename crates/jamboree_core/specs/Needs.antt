@@ -1,12 +1,11 @@
 -- Meaning: how many frames a search may open, and may still open, whatever the order of its steps.
 -- (Kuszmaul 1994: the first choice is searched once; each other choice is tested, and searched again where its test fails.)
-use Rattle.std.specs.Prelude.{ℕ, zero, suc, ◌+◌, ◌*◌, ◌-◌, ◌<◌, ◌≤◌, ◌==◌, Bool, true, false, pos, ◌+ℤ◌, List, [], ◌∷◌, Option, Some, None, length, replicate, slice_index_or, if◌then◌else◌}
+use Rattle.std.specs.Prelude.{ℕ, suc, ◌+◌, ◌-◌, ◌<◌, ◌≤◌, ◌==◌, Bool, true, false, pos, ◌+ℤ◌, List, [], ◌∷◌, Option, Some, None, length, replicate, slice_index_or, if◌then◌else◌}
 use Rattle.std.specs.Ordering.{int_eq}
 use Rattle.othello_board.specs.declared.cells.Cell.{Cell}
 use Rattle.othello_moves.specs.declared.choices.Choice.{Choice}
 use Rattle.othello_moves.specs.declared.choices.Choice.TheVariants.{Pass}
-use Rattle.othello_board.specs.Rules.{is_nil}
-use Rattle.othello_moves.specs.Choices.{choices, legal_squares, after, plies}
+use Rattle.othello_moves.specs.Choices.{choices, after, plies}
 use Rattle.sched_rules.specs.declared.step.StepOf.{StepOf}
 use Rattle.sched_rules.specs.Trees.{Tenant}
 use Rattle.jamboree_core.specs.Weights.{IsPaid, IsStillPaid, IsPaidToo}
@@ -99,27 +98,3 @@ StillHasNodes cost tenant = IsStillPaid 1 (still_opens cost) (λ quota. quota.no
 -- where a step submits a job, there is a node for its root too, and for those that this may open
 abbrev pub HasNodesToo : {A : Type 0} → Cost → Tenant → StepOf A → Type 0
 HasNodesToo cost tenant step = IsPaidToo 1 (still_opens cost) (λ quota. quota.nodes) tenant step
-
--- The frames of a search where no board has more than c choices, by the plies above the grain: an own frame, and one more where the
--- search passes. In a window of width one each choice is searched once
-abbrev pub test_nodes : ℕ → ℕ → ℕ
-test_nodes c zero = 1
-test_nodes c (suc plies) = 2 + c * test_nodes c plies
-
--- in a wider window the first choice is searched once, and each other tested and searched again
-abbrev pub full_nodes : ℕ → ℕ → ℕ
-full_nodes c zero = 1
-full_nodes c (suc plies) = 2 + full_nodes c plies + (c - 1) * (test_nodes c plies + full_nodes c plies)
-
--- the frames of a search by the width of its window
-abbrev pub nodes_by : ℕ → Bool → ℕ → ℕ
-nodes_by c narrow plies = if narrow then test_nodes c plies else full_nodes c plies
-
--- the frames that a frame above the grain opens under it: all of its search but itself, and but the pass where it has a legal square
-abbrev pub under_by : ℕ → Bool → Bool → ℕ → ℕ
-under_by c narrow passes zero = 0
-under_by c narrow passes (suc plies) = nodes_by c narrow (suc plies) - (if passes then 1 else 2)
-
--- a cost by the plies above the grain, where no board has more than c choices
-abbrev pub plain_cost : ℕ → ℕ → Cost
-plain_cost c grain depth narrow b = under_by c narrow (is_nil (legal_squares b)) (depth - grain)

@@ -1,10 +1,9 @@
 -- Meaning: how many segments a search takes at the same time at most, whatever the order of its steps.
-use Rattle.std.specs.Prelude.{ℕ, zero, suc, ◌+◌, ◌*◌, ◌-◌, ◌<◌, ◌≤◌, ◌==◌, Bool, List, Option, Some, None, length, sum_by, if◌then◌else◌}
+use Rattle.std.specs.Prelude.{ℕ, ◌+◌, ◌-◌, ◌<◌, ◌≤◌, ◌==◌, List, Option, Some, None, length, sum_by, if◌then◌else◌}
 use Rattle.sched_rules.specs.cactus_stack.Nodes.{charge}
 use Rattle.othello_board.specs.declared.cells.Cell.{Cell}
 use Rattle.othello_moves.specs.declared.choices.Choice.{Choice}
-use Rattle.othello_board.specs.Rules.{is_nil}
-use Rattle.othello_moves.specs.Choices.{choices, legal_squares, after, plies}
+use Rattle.othello_moves.specs.Choices.{choices, after, plies}
 use Rattle.sched_rules.specs.Trees.{Tenant}
 use Rattle.sched_rules.specs.declared.step.StepOf.{StepOf}
 use Rattle.jamboree_core.specs.Weights.{IsPaid, IsStillPaid, IsPaidToo}
@@ -54,18 +53,3 @@ StillHasSegments size tenant = IsStillPaid 0 (root_weight size) (λ quota. quota
 -- where a step submits a job, its size is within them too
 abbrev pub HasSegmentsToo : {A : Type 0} → Size → Tenant → StepOf A → Type 0
 HasSegmentsToo size tenant step = IsPaidToo 0 (root_weight size) (λ quota. quota.segments) tenant step
-
--- The segments of a search where no board has more than c choices, by the plies above the grain: the frame's own words, one more for a
--- frame that passes, and the searches of all choices at the same time
-abbrev pub plain_segments : ℕ → ℕ → ℕ
-plain_segments c zero = 1
-plain_segments c (suc plies) = 1 + (charge (12 + c) + c * plain_segments c plies)
-
--- the size of a frame by whether it passes, and by the plies above the grain
-abbrev pub size_with : ℕ → Bool → ℕ → ℕ
-size_with c passes zero = 1
-size_with c passes (suc plies) = if passes then plain_segments c (suc plies) else charge (12 + c) + c * plain_segments c plies
-
--- a size by the plies above the grain, where no board has more than c choices
-abbrev pub plain_size : ℕ → ℕ → Size
-plain_size c grain depth b = size_with c (is_nil (legal_squares b)) (depth - grain)

@@ -29,8 +29,9 @@
 //! [`reserves`] says what a tenant has to reserve so that none of its jobs is ever spent, whatever the
 //! order of steps. What a frame may still open is a weight that its steps use up (`specs/Weights.antt`,
 //! `specs/Needs.antt`); the segments of a frame and of all under it are within its size
-//! (`specs/Charges.antt`, `specs/Sizes.antt`); and sixteen steps a node suffice, as a frame waits only
-//! for a child (`specs/Paces.antt`, `specs/Turns.antt`).
+//! (`specs/Sizes.antt`); and sixteen steps a node suffice, as a frame waits only for a child
+//! (`specs/Paces.antt`, `specs/Turns.antt`). [`enough`] says how much that is for a position
+//! (`specs/Enough.antt`).
 //!
 //! Why it is so:
 //!
@@ -57,6 +58,7 @@ pub use jamboree;
 pub use jamboree_rules::leaf_search;
 pub use sched_core;
 
+mod amounts;
 mod asking;
 pub mod laws;
 mod outcomes;
@@ -64,6 +66,7 @@ pub mod reserves;
 pub mod rows;
 mod running;
 
+pub use amounts::enough;
 pub use asking::submit;
 pub use outcomes::{Outcome, outcome_of};
 pub use running::{run_from_new, run_searches, step_search};

@@ -1,5 +1,6 @@
 //! What is reserved suffices, whatever the order of steps.
-ghost use Rattle.std.specs.Prelude.{◌≡◌, ◌≢◌, ℕ, ◌≤◌, List, [], Some, Ok};
+ghost use Rattle.std.specs.Prelude.{◌≡◌, ◌≢◌, ℕ, ◌≤◌, List, [], None, Some, Ok};
+ghost use Rattle.othello_board.specs.declared.cells.Cell.{Cell};
 ghost use Rattle.othello_board.specs.Words.{cells_of};
 ghost use Rattle.frame_table.specs.declared.names.FrameId.{FrameId};
 ghost use Rattle.frame_table.specs.Frames.{Frame, frame_at};
@@ -17,9 +18,10 @@ ghost use Rattle.jamboree_rules.specs.Procedure.{jamboree};
 ghost use Rattle.jamboree_core.specs.Journals.{IsJournalOf};
 ghost use Rattle.jamboree_core.specs.Replies.{AreSearches};
 ghost use Rattle.jamboree_core.specs.Searching.{TenantSearches};
-ghost use Rattle.jamboree_core.specs.Sizes.{HasSegments, HasSegmentsToo, IsRoomy, Size, StillHasSegments, enough_segments, plain_segments, plain_size};
+ghost use Rattle.jamboree_core.specs.Sizes.{HasSegments, HasSegmentsToo, IsRoomy, Size, StillHasSegments, enough_segments};
+ghost use Rattle.jamboree_core.specs.Enough.{EachFindsEnough, board_nodes, board_segments, sufficing_nodes, search_nodes, search_segments, sufficing_segments, spawning_plies};
 ghost use Rattle.jamboree_core.specs.Turns.{extra_turns};
-ghost use Rattle.jamboree_core.specs.Needs.{Cost, HasNodes, HasNodesToo, IsEnough, StillHasNodes, enough_nodes, full_nodes, plain_cost, test_nodes};
+ghost use Rattle.jamboree_core.specs.Needs.{Cost, HasNodes, HasNodesToo, IsEnough, StillHasNodes, enough_nodes};
 
 /// A job of a tenant that has no other job alive is asked for with at least `enough_nodes` nodes left (`begins`).
 /// Then what was opened, and what the frames may still open, is within the reservation (`HasNodes`), and stays so
@@ -67,19 +69,33 @@ pub fn a_job_with_enough_is_never_spent()
         lone_refusal {A = LeafAnswer} (jamboree grain) (Some tenant) (Spend (record { tenant = number; serial = serial })) ≡ Some NotSpent }
 {}
 
-/// No board has more than 64 choices, so the bounds by plies and choices suffice where c is at least that.
-pub fn plain_bounds_suffice()
-    ensures nodes { (c grain : ℕ) → 64 ≤ c → IsEnough grain (plain_cost c grain) }
-    ensures segments { (c grain : ℕ) → 64 ≤ c → IsRoomy grain (plain_size c grain) }
+/// What suffices by the empty squares and the opposing discs of a position meets the inequality of each frame, and is at
+/// least what the general bounds say of a root.
+pub fn positions_suffice()
+    ensures nodes { (grain : ℕ) → (cost : Cost) × IsEnough grain cost × ((depth : ℕ) (b : List Cell) → enough_nodes cost depth b ≤ board_nodes depth grain b) }
+    ensures segments { (grain : ℕ) → (size : Size) × IsRoomy grain size × ((depth : ℕ) (b : List Cell) → enough_segments size depth b ≤ board_segments depth grain b) }
 {}
 
-/// What the bounds by plies and choices come to. With 56 choices and two plies above the grain: frames in a window of
-/// width one, in a wider one, and segments at the same time. With one choice and one ply: the frame, one more as it
-/// may pass, and a child. With five choices, whose frame has 17 words, two segments for it.
-pub fn plain_bounds_in_small()
-    ensures tests { test_nodes 56 2 ≡ 3250 }
-    ensures nodes { full_nodes 56 2 ≡ 9520 }
-    ensures segments { plain_segments 56 2 ≡ 3478 }
-    ensures passes { full_nodes 1 1 ≡ 3 }
-    ensures words { plain_segments 5 1 ≡ 8 }
+/// A tenant asks for each search where it has no other that lives, and as many segments and nodes left as suffice for
+/// its position, depth and grain. Then in whatever order its steps come none of its jobs can be spent: `Spend` of any of
+/// its frames is refused (`never`). For no position it is more than for 64 empty squares and 56 choices (`any`), and so
+/// two plies above the grain no more than 12,545 nodes and 3,478 segments (`two_plies`). Who has several that live needs
+/// their sums (`nodes_reserved_suffice`, `segments_reserved_suffice`).
+pub fn who_asks_with_enough_is_never_spent()
+    ensures never { (grain : ℕ) (journal : List (StepOf LeafAnswer)) (tenant : Tenant) (number serial : ℕ) (frame : Frame (List ℕ)) →
+        IsJournalOf (jamboree grain) journal tenant → AreSearches journal → EachFindsEnough grain None journal → frame_at tenant.frames serial ≡ Some frame →
+        lone_refusal {A = LeafAnswer} (jamboree grain) (Some tenant) (Spend (record { tenant = number; serial = serial })) ≡ Some NotSpent }
+    ensures any { (depth grain : ℕ) (b : List Cell) →
+        (board_nodes depth grain b ≤ search_nodes 56 64 (spawning_plies depth grain)) × (board_segments depth grain b ≤ search_segments 56 64 (spawning_plies depth grain)) }
+    ensures two_plies { (search_nodes 56 64 2 ≡ 12545) × (search_segments 56 64 2 ≡ 3478) }
+{}
+
+/// What suffices, computed. With 56 choices and one ply that opens frames; with one choice: the frame, one more as it may
+/// pass, and a child; with five, whose frame has 17 words, two segments for it; for the opening, where each player has two
+/// discs, 16 choices at first.
+pub fn what_suffices_in_small()
+    ensures one_ply { (search_nodes 56 64 1 ≡ 113) × (search_segments 56 64 1 ≡ 62) }
+    ensures passes { search_nodes 1 1 1 ≡ 3 }
+    ensures words { search_segments 5 5 1 ≡ 8 }
+    ensures opening { (sufficing_nodes 6 4 60 2 ≡ 3505) × (sufficing_segments 6 4 60 2 ≡ 995) }
 {}

@@ -4,3 +4,4 @@ mod Served
 mod Turned
 mod Replied
 mod Solved
+mod Reserving

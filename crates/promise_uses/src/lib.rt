@@ -15,6 +15,7 @@ mod desks;
 mod directories;
 mod halls;
 mod isolation;
+mod reserved;
 mod runs;
 mod seen;
 mod sessions;
@@ -34,6 +35,7 @@ pub use desks::{
 pub use directories::{lines_at_a_rate, what_is_accepted};
 pub use halls::{entry_of_nine, seven_and_nine, seven_cancels, value_of_nine, value_of_seven};
 pub use isolation::seven_in_a_running_core;
+pub use reserved::{nine_asks_to_depth_eight, seven_asks_again};
 pub use runs::{
     nine_by_its_own_steps, nine_is_undisturbed, refusals, seven_alone, seven_in_both,
     table_of_nine, three_answers, words_of_seven,

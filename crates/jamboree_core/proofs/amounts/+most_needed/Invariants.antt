@@ -1,0 +1,4 @@
+use Rattle.jamboree_core.proofs.amounts.+most_needed.Given as goal
+
+abbrev pub decreases-most_needed : goal.decreases-most_needed
+decreases-most_needed l = l.plies
