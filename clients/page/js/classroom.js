@@ -125,8 +125,7 @@ export class Classroom {
   /** The link by which others come: by an address of this host that they reach, where there is one. */
   link() {
     const here = location.origin + location.pathname, others = this.lesson.about?.addresses ?? [], wished = $("class-address").value;
-    const base = !isLocal(here) && !others.includes(wished) ? here : others.includes(wished) ? wished : (others[0] ?? here);
-    return `${base}#follow=${this.teacher.room?.room ?? ""}`;
+    return `${others.includes(wished) ? wished : here}#follow=${this.teacher.room?.room ?? ""}`;
   }
 
   // --- A pupil ---
