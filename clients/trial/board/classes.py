@@ -187,9 +187,10 @@ def try_host(port):
         link = teacher.text("#class-link a")
         offered = teacher.evaluate("[...document.getElementById('class-address').options].map((one) => one.value)")
         check(len(offered) > 1 and offered[0].startswith("http://board.example:") and not any("0.0.0.0" in one for one in offered), f"not all addresses of this host: {offered}")
+        code = "document.querySelector('#class-code svg')?.getAttribute('aria-label') ?? ''"
+        check(link.startswith("http://board.example:") and "board.example" in teacher.evaluate(code), f"the link {link}, the code {teacher.evaluate(code)}")
         teacher.fill("#class-address", offered[1])
-        check(teacher.text("#class-link a").startswith(offered[1]), f"another address is {teacher.text('#class-link a')}")
-        check(link.startswith("http://board.example:") and teacher.evaluate("document.querySelector('#class-code svg')?.getAttribute('aria-label').includes('board.example')"), f"the link {link}")
+        check(teacher.text("#class-link a").startswith(offered[1]) and offered[1] in teacher.evaluate(code), f"another address is {teacher.text('#class-link a')}, with the code {teacher.evaluate(code)}")
 
 
 def try_behind(port, folder):
