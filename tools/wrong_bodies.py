@@ -194,8 +194,9 @@ class Found:
     def sum_of(self, edit):
         tested = TESTED.search(edit.read_text())
         data = TOP / f"crates/{tested[1]}/data/{tested[2]}" if tested else None
-        text = data.read_bytes() if data and data.exists() else b""
-        return hashlib.sha256(self.crates[tested[1] if tested else self.name].stamp().encode() + edit.read_bytes() + text).hexdigest()[:16]
+        text = data.read_text() if data and data.exists() else ""
+        stamp = self.crates[tested[1] if tested else self.name].stamp()
+        return hashlib.sha256(repr((stamp, pairs_of(edit), tested and tested[0], text)).encode()).hexdigest()[:16]
 
     def of(self, edit):
         """What tells a body, by an earlier run over the same text; else None."""
