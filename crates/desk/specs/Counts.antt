@@ -1,12 +1,13 @@
 -- Meaning: what contracts see of what lies under the lock, what one call does to the hall there, and for what is waited.
-use Rattle.std.specs.Prelude.{◌≡◌, ℕ, ◌+◌, ◌==◌, Bool, false, not, ◌&&◌, ◌||◌, List, Option, Some, None, Result, Ok, Err}
-use Rattle.frame_table.specs.declared.names.FrameId.{FrameId}
+use Rattle.std.specs.Prelude.{◌≡◌, ℕ, ◌+◌, ◌==◌, Bool, false, not, List, Option, Some, None, Result, Ok, Err}
 use Rattle.frame_table.specs.Frames.{IsReadyAt}
+use Rattle.pool_rules.specs.declared.task.Task.{Task}
 use Rattle.sched_rules.specs.declared.refusal.Refusal.{Refusal}
 use Rattle.sched_rules.specs.declared.step.StepOf.{StepOf}
 use Rattle.sched_rules.specs.declared.step.StepOf.TheVariants.{Leave}
 use Rattle.sched_rules.specs.declared.step.DidOf.{DidOf}
 use Rattle.sched_rules.specs.declared.step.DidOf.TheVariants.{Left}
+use Rattle.sched_rules.specs.Cores.{CoreState}
 use Rattle.sched_rules.specs.Headline.{IsOneStep}
 use Rattle.sched_rules.specs.Views.{job_of, named, ready_count}
 use Rattle.hall.specs.jamboree_rules.declared.leaf.Leaf.{Leaf}
@@ -16,19 +17,12 @@ use Rattle.hall.specs.Halls.{HallOf, hall_after}
 use Rattle.desk.specs.Seats.{SeatOf}
 use Rattle.desk_rules.specs.Changes.{is_some_live}
 
--- what contracts see of what lies under the lock: the hall, whether the desk is closed, how many workers sleep until a
--- frame is ready, modulo 2^32, how many badges were given, and the steps taken since the desk was made, each with the number
--- of its maker
+-- what contracts see of what lies under the lock: the hall, how many badges were given, and the steps taken since the desk was
+-- made, each with the number of its maker
 pub record LockedHallOf : Type 0 where
   pub hall : HallOf
-  pub closed : Bool
-  pub sleepers : ℕ
   pub badges : ℕ
   pub history : List (ℕ × StepOf LeafAnswer)
-
--- a call changes neither whether the desk is closed, nor how many workers sleep, nor how many badges were given
-abbrev pub IsAsOpen : LockedHallOf → LockedHallOf → Type 0
-IsAsOpen before after = (after.closed ≡ before.closed) × (after.sleepers ≡ before.sleepers) × (after.badges ≡ before.badges)
 
 -- the hall after this answer to a step: where it was taken it is written into the journals, and what the tenants share
 -- is that of `after`; where it was refused nothing has changed
@@ -50,16 +44,20 @@ pub record IsLeft (before : HallOf) (seat : SeatOf) (after : HallOf) : Type 0 wh
 abbrev pub with_kept : ℕ → LockedHallOf → LockedHallOf
 with_kept steps kept = record kept { hall = record kept.hall { kept = kept.hall.kept + steps } }
 
--- whether a seat that waits for a job waits on: the desk isn't closed, and the job hasn't ended
-abbrev pub waits_on : LockedHallOf → ℕ → ℕ → Bool
-waits_on kept tenant job = not kept.closed && is_some_live (job_of kept.hall.shared tenant job)
+-- a badge's share after an answer: one more where the step was taken
+abbrev pub share_after : ℕ → Result (DidOf Leaf) Refusal → ℕ
+share_after share (Ok did) = share + 1
+share_after share (Err refusal) = share
 
--- whether a worker that waits may go on: the desk is closed, or some frame is ready
-abbrev pub has_news : LockedHallOf → Bool
-has_news kept = kept.closed || not (ready_count kept.hall.shared.tenants == 0)
+-- whether there is a job of this tenant that hasn't ended
+abbrev pub is_awaited : CoreState → ℕ → ℕ → Bool
+is_awaited shared tenant job = is_some_live (job_of shared tenant job)
 
--- the frame that a worker is given after it has waited, with its home: None exactly where the desk is closed or no
--- frame is ready, else one that is ready
-abbrev pub IsNextReady : LockedHallOf → Option (FrameId × ℕ) → Type 0
-IsNextReady kept None = (not kept.closed && not (ready_count kept.hall.shared.tenants == 0)) ≡ false
-IsNextReady kept (Some ready) = (kept.closed ≡ false) × IsReadyAt (named kept.hall.shared ready.0) ready.1
+-- whether some frame is ready
+abbrev pub has_ready : CoreState → Bool
+has_ready shared = not (ready_count shared.tenants == 0)
+
+-- a frame of any tenant that is ready, as a task; None exactly where none is ready
+abbrev pub IsNextReady : CoreState → Option Task → Type 0
+IsNextReady shared None = has_ready shared ≡ false
+IsNextReady shared (Some task) = IsReadyAt (named shared task.frame) task.home

@@ -15,39 +15,27 @@ ghost use Rattle.desk.specs.Histories.{core_at, steps_of, AreTaken, IsSeated, Is
 
 use crate::desk_guard::DeskGuard;
 use crate::history::{Opened, Trace};
+use crate::lock::DeskLock;
 use crate::locked_hall::LockedHall;
 use crate::seat::Seat;
 use crate::shares::{Badge, DeskLedger, PARTS};
-use desk_rules::Backoff;
 use frame_table::FrameId;
 use hall::{Hall, Jamboree, Outcome, Refusal, Step, StepAnswer};
 use position_text::Position;
 use std::alloc::{Allocator, Global};
-use std::hint::spin_loop;
-use std::sync::atomic::AtomicU64;
+use std::sync::Wait;
 use std::sync::ledger::{Blank, Share};
-use std::sync::{Condvar, Mutex, MutexGuard, Wait};
-use std::thread::yield_now;
-use std::time::Duration;
 use tenant_quota::{Left, Reserve};
 
-/// The hall under a lock, and the conditions that workers and seats wait for. `A` is the hall's allocator.
+/// The hall under a lock at which workers and seats wait. `A` is the hall's allocator.
 pub struct Desk<L: DeskLedger, A: Allocator = Global> {
-    lock: Mutex<LockedHall<L, A>>,
-    /// Where workers wait until a frame is ready or the desk is closed.
-    ready: Condvar,
-    /// Where seats wait until their job has ended or the desk is closed.
-    ended: Condvar,
+    lock: DeskLock<LockedHall<L, A>>,
 }
 
 // By hand: were it derived, each crate that holds a desk would have to prove again that all its parts are dropped.
 impl<L: DeskLedger, A: Allocator> Drop for Desk<L, A> {
     fn drop(self) {
-        let Desk {
-            lock: _lock,
-            ready: _ready,
-            ended: _ended,
-        } = self;
+        let Desk { lock: _lock } = self;
     }
 }
 
@@ -61,32 +49,8 @@ impl<L: DeskLedger, A: Allocator + Clone> Desk<L, A> {
         requires begun { hall ≡ L.begun }
     {
         Desk {
-            lock: Mutex::new(LockedHall::new(hall, blank, opened)),
-            ready: Condvar::new(),
-            ended: Condvar::new(),
+            lock: DeskLock::new(LockedHall::new(hall, blank, opened)),
         }
-    }
-
-    /// Locks the hall: tries once, and then goes on as `enter_late` does.
-    fn enter<R: Wait>(&self, rt: &R) -> MutexGuard<'_, LockedHall<L, A>> {
-        match self.lock.try_lock() {
-            Some(kept) => kept,
-            None => self.enter_late(rt, Backoff::new()),
-        }
-    }
-
-    /// Locks the hall after a first try found the lock taken: tries again until it is free. Before each try it waits as
-    /// long as `backoff` says, and after a failed one it lets other threads have the processor. It never sleeps on the
-    /// lock: a thread that does is handed it, and until that thread is awake nobody else can take it.
-    fn enter_late<R: Wait>(&self, rt: &R, backoff: Backoff) -> MutexGuard<'_, LockedHall<L, A>> {
-        for _ in rt.forever() {
-            pause(rt, backoff);
-            if let Some(kept) = self.lock.try_lock() {
-                return kept;
-            }
-            yield_now();
-        }
-        unreachable!()
     }
 
     /// Admits a tenant under the number after the greatest so far, and returns its seat. The seat's share is 1, as its
@@ -97,7 +61,7 @@ impl<L: DeskLedger, A: Allocator + Clone> Desk<L, A> {
         ensures new { IfOk result (λ seat. tenant_in L.begun.shared.tenants seat.tenant ≡ None) }
         ensures refused { IfErr result (Contains admit_refusals) }
     {
-        self.enter(rt).admit(reserve)
+        self.lock.enter(rt).value.admit(reserve)
     }
 
     /// Raises the reservation of the seat's tenant to `reserve`, which has at least as many segments and nodes as it
@@ -113,7 +77,7 @@ impl<L: DeskLedger, A: Allocator + Clone> Desk<L, A> {
         ensures told { IsToldOf L.begun seat.old.known (AdmitMore seat.old.tenant reserve) result seat.new.known }
         ensures refused { IfErr result (Contains reserve_refusals) }
     {
-        self.enter(rt).reserve(seat, reserve)
+        self.lock.enter(rt).value.reserve(seat, reserve)
     }
 
     /// Submits a search of this position to a depth of 0 to 12 plies, and returns the job's number without waiting for
@@ -133,8 +97,8 @@ impl<L: DeskLedger, A: Allocator + Clone> Desk<L, A> {
         ensures told { length seat.old.asked ≢ 256 → IsToldOf L.begun seat.old.known (Submit seat.old.tenant (root_words position.now.board.own position.now.board.opp depth) frame_size) result seat.new.known }
         ensures refused { IfErr result (Contains ask_refusals) }
     {
-        let job = self.enter(rt).ask(seat, position, depth)?;
-        self.ready.notify_one();
+        let job = self.lock.enter(rt).value.ask(seat, position, depth)?;
+        self.lock.wake_worker();
         Ok(job)
     }
 
@@ -144,7 +108,7 @@ impl<L: DeskLedger, A: Allocator + Clone> Desk<L, A> {
     pub fn get<R: Wait>(&self, rt: &R, seat: &Seat<L>, job: u64) -> Result<Outcome, Refusal>
         ensures { IsShown (seat_asked_at seat.now.asked job) result }
     {
-        self.enter(rt).get(seat, job)
+        self.lock.enter(rt).value.get(seat, job)
     }
 
     /// As [`Desk::get`], and the seat has then seen the history so far: the answer is what its end tells of the job.
@@ -158,7 +122,7 @@ impl<L: DeskLedger, A: Allocator + Clone> Desk<L, A> {
         ensures shown { IsShown (seat_asked_at seat.new.asked job) result }
         ensures told { IsShownAt L.begun seat.new job result }
     {
-        self.enter(rt).get_seen(seat, job)
+        self.lock.enter(rt).value.get_seen(seat, job)
     }
 
     /// Waits until a job has ended or the desk is closed, and answers as `get` does then: `Pending` where the desk was
@@ -166,11 +130,10 @@ impl<L: DeskLedger, A: Allocator + Clone> Desk<L, A> {
     pub fn wait<R: Wait>(&self, rt: &R, seat: &Seat<L>, job: u64) -> Result<Outcome, Refusal>
         ensures { IsShown (seat_asked_at seat.now.asked job) result }
     {
-        let tenant = seat.tenant();
         let kept = self
-            .ended
-            .wait_while(rt, self.enter(rt), |kept| kept.keeps_waiting(tenant, job));
-        kept.get(seat, job)
+            .lock
+            .await_job(rt, self.lock.enter(rt), seat.tenant(), job);
+        kept.value.get(seat, job)
     }
 
     /// As [`Desk::wait`], and the seat has then seen the history so far: the answer is what its end tells of the job.
@@ -184,24 +147,22 @@ impl<L: DeskLedger, A: Allocator + Clone> Desk<L, A> {
         ensures shown { IsShown (seat_asked_at seat.new.asked job) result }
         ensures told { IsShownAt L.begun seat.new job result }
     {
-        let tenant = seat.tenant();
         let mut kept = self
-            .ended
-            .wait_while(rt, self.enter(rt), |kept| kept.keeps_waiting(tenant, job));
-        kept.get_seen(seat, job)
+            .lock
+            .await_job(rt, self.lock.enter(rt), seat.tenant(), job);
+        kept.value.get_seen(seat, job)
     }
 
-    /// Cancels a job that hasn't ended: its frames are removed, and all seats that wait are woken, to look at their
-    /// jobs again. `NoJob` where its number is 0 or above the length of the seat's list, or it has ended; the only
-    /// other refusal is `NoTenant`.
+    /// Cancels a job that hasn't ended: its frames are removed, and who waits for it is woken. `NoJob` where its number
+    /// is 0 or above the length of the seat's list, or it has ended; the only other refusal is `NoTenant`.
     pub fn cancel<R: Wait>(&self, rt: &R, seat: &mut Seat<L>, job: u64) -> Result<(), Refusal>
         ensures share { MatchResult result (λ _. seat.new ≡ stepped seat.new.known seat.old) (λ _. seat.new ≡ seeing seat.new.known seat.old) }
         ensures none { seat_asked_at seat.old.asked job ≡ None → (result ≡ Err NoJob) × (seat.new ≡ seat.old) }
         ensures told { seat_asked_at seat.old.asked job ≢ None → IsToldOf L.begun seat.old.known (Cancel seat.old.tenant job) result seat.new.known }
         ensures refused { IfErr result (Contains cancel_refusals) }
     {
-        self.enter(rt).cancel(seat, job)?;
-        self.ended.notify_all();
+        self.lock.enter(rt).value.cancel(seat, job)?;
+        self.lock.ring(seat.tenant());
         Ok(())
     }
 
@@ -210,7 +171,7 @@ impl<L: DeskLedger, A: Allocator + Clone> Desk<L, A> {
     pub fn quota<R: Wait>(&self, rt: &R, seat: &Seat<L>) -> Result<Left, Refusal>
         ensures { IfErr result (λ refusal. refusal ≡ NoTenant) }
     {
-        self.enter(rt).quota(seat.tenant())
+        self.lock.enter(rt).value.quota(seat.tenant())
     }
 
     /// As [`Desk::quota`], and the seat has then seen the history so far: the numbers are the tenant's at its end.
@@ -218,7 +179,7 @@ impl<L: DeskLedger, A: Allocator + Clone> Desk<L, A> {
         ensures look { IsLook L.begun seat.old seat.new }
         ensures left { result ≡ found_or_no_tenant (left_in_core (core_at L.begun seat.new.known.seen) seat.new.tenant) }
     {
-        self.enter(rt).quota_seen(seat)
+        self.lock.enter(rt).value.quota_seen(seat)
     }
 
     /// How many frames the seat's tenant has, and how many words these have together. The only refusal is `NoTenant`.
@@ -226,7 +187,7 @@ impl<L: DeskLedger, A: Allocator + Clone> Desk<L, A> {
     pub fn live<R: Wait>(&self, rt: &R, seat: &Seat<L>) -> Result<(usize, usize), Refusal>
         ensures { IfErr result (λ refusal. refusal ≡ NoTenant) }
     {
-        self.enter(rt).live(seat.tenant())
+        self.lock.enter(rt).value.live(seat.tenant())
     }
 
     /// As [`Desk::live`], and the seat has then seen the history so far: the numbers are the tenant's at its end.
@@ -234,12 +195,11 @@ impl<L: DeskLedger, A: Allocator + Clone> Desk<L, A> {
         ensures look { IsLook L.begun seat.old seat.new }
         ensures live { result ≡ found_or_no_tenant (live_of (core_at L.begun seat.new.known.seen) seat.new.tenant) }
     {
-        self.enter(rt).live_seen(seat)
+        self.lock.enter(rt).value.live_seen(seat)
     }
 
     /// The seat's tenant leaves: its jobs, ended or not, its frames and its reservation are gone, and the seat is used
-    /// up. The seat's share is added to the spare one, so its steps stay counted. All seats that wait are woken, to
-    /// look at their jobs again.
+    /// up. The seat's share is added to the spare one, so its steps stay counted.
     pub fn leave<R: Wait>(&self, rt: &R, seat: Seat<L>)
         requires { L.all ≡ L.parts }
     {
@@ -253,9 +213,7 @@ impl<L: DeskLedger, A: Allocator + Clone> Desk<L, A> {
         ensures told { Took seat.known (Leave seat.tenant) result }
         ensures true_to { IsTrueTo L.begun seat.tenant result }
     {
-        let trace = self.enter(rt).leave(seat);
-        self.ended.notify_all();
-        trace
+        self.lock.enter(rt).value.leave(seat)
     }
 
     /// Lets two makers see the history so far, as what two seats knew when they left: both speak of one history. What each
@@ -271,19 +229,19 @@ impl<L: DeskLedger, A: Allocator + Clone> Desk<L, A> {
         ensures history { one.new.seen ≡ other.new.seen }
         ensures legal { AreTaken (jamboree L.begun.grain) L.begun.shared (steps_of one.new.seen) }
     {
-        self.enter(rt).compare(one, other)
+        self.lock.enter(rt).value.compare(one, other)
     }
 
     /// A new badge, with which a worker offers steps. Its share is 0. `None` only after 2^62 badges.
     pub fn badge<R: Wait>(&self, rt: &R) -> Option<Badge<L>>
         ensures { IfSome result (λ badge. badge ≡ 0) }
     {
-        self.enter(rt).badge()
+        self.lock.enter(rt).value.badge()
     }
 
     /// Locks the desk and offers a worker's step to the hall. Returns what the step did or why it is refused, which is
     /// never `OutOfMemory`. The badge's share is raised by 1 exactly where the step was taken. A frame that became
-    /// ready wakes a worker that sleeps, if one does, and the end of a job all seats that wait.
+    /// ready wakes a worker that sleeps, if one does, and the end of a job the seat that waits for it.
     pub fn offer<R: Wait>(&self, rt: &R, badge: &mut Badge<L>, step: &Step<Jamboree>) -> StepAnswer
         requires { is_worker_step step.now ≡ true }
         ensures share { MatchResult result (λ _. badge.new ≡ badge.old + 1) (λ _. badge.new ≡ badge.old) }
@@ -298,55 +256,29 @@ impl<L: DeskLedger, A: Allocator + Clone> Desk<L, A> {
     /// Locks the desk for several steps of the worker with this badge: until [`DeskGuard::release`] all other threads
     /// wait. If the lock is free at the first try, the badge's backoff gets a little shorter; else it is doubled, up to
     /// what the last leaf's depth makes worth it, and the worker waits that long before each further try.
-    pub fn hold<R: Wait>(&self, rt: &R, badge: &mut Badge<L>) -> DeskGuard<'_, L, A>
+    pub fn hold<R: Wait>(&self, rt: &R, badge: &mut Badge<L>) -> DeskGuard<'_, LockedHall<L, A>>
         ensures share { badge.new ≡ badge.old }
     {
-        let kept = match self.lock.try_lock() {
-            Some(kept) => {
-                badge.backoff.ease();
-                kept
-            }
-            None => {
-                badge.backoff.double();
-                self.enter_late(rt, badge.backoff)
-            }
-        };
-        DeskGuard {
-            kept,
-            ready: &self.ready,
-            ended: &self.ended,
-            wakes: 0,
-            has_ended: false,
-        }
+        self.lock.hold(rt, badge)
     }
 
     /// Waits until a frame is ready or the desk is closed, and returns a ready frame with its home (a worker's number,
     /// or 0 for the hall); `None` only where the desk is closed. The frame isn't taken: by the time that this worker
     /// offers to take it, another may have it.
     pub fn next_ready<R: Wait>(&self, rt: &R) -> Option<(FrameId, u8)> {
-        let mut kept = match self.lock.try_lock() {
-            Some(kept) => kept,
-            None => self.enter_late(rt, Backoff::idle()),
-        };
-        if !kept.has_news() {
-            kept.begin_sleep();
-            kept = self.ready.wait_while(rt, kept, |kept| !kept.has_news());
-            kept.end_sleep();
-        }
-        kept.next_ready()
+        let task = self.lock.next_task(rt)?;
+        Some((task.frame, task.home))
     }
 
     /// Closes the desk for good, and wakes all who wait. From then on nobody waits: `next_ready` returns `None`, and
     /// `wait` what `get` does. All other calls work as before, and no job or tenant is ended by this.
     pub fn close<R: Wait>(&self, rt: &R) {
-        self.enter(rt).close();
-        self.ready.notify_all();
-        self.ended.notify_all();
+        self.lock.close(rt);
     }
 
     /// How many steps the hall has taken since it was made, those before the desk included.
     pub fn count<R: Wait>(&self, rt: &R) -> u128 {
-        self.enter(rt).count()
+        self.lock.enter(rt).value.count()
     }
 
     /// Takes the hall out of the desk. Where this badge has all parts of the ledger that are out, since every seat has
@@ -358,23 +290,7 @@ impl<L: DeskLedger, A: Allocator + Clone> Desk<L, A> {
         ensures parts { IfSome result.1 (λ whole. whole.parts ≡ L.parts) }
         ensures count { OnSome result.1 (count_of result.0 ≡ result.0.kept + badge) }
     {
-        let Desk {
-            lock,
-            ready: _ready,
-            ended: _ended,
-        } = self;
-        lock.into_inner().closed(badge)
-    }
-}
-
-/// Waits as long as this backoff says: spins, or naps on a word of its own, which nobody else sees.
-fn pause<R: Wait>(rt: &R, backoff: Backoff) {
-    if backoff.is_nap() {
-        let word = AtomicU64::new(0);
-        word.park_timeout(rt, 0, Duration::from_micros(backoff.micros()));
-    } else {
-        for _ in 0..backoff.pauses() {
-            spin_loop();
-        }
+        let Desk { lock } = self;
+        lock.into_value().closed(badge)
     }
 }

@@ -2,30 +2,52 @@
 //!
 //! A step under the lock takes less time than what it touches takes to come from another processor. So a worker
 //! keeps the lock over the steps that follow each other, and those who wait are woken once it lets go.
-ghost use Rattle.std.specs.Prelude.{◌≡◌, ◌≢◌, ◌+◌, true, Err, MatchResult};
+ghost use Rattle.std.specs.Prelude.{◌≡◌, ◌≢◌, true, Err, IfSome};
 ghost use Rattle.sched_rules.specs.declared.refusal.Refusal.TheVariants.{OutOfMemory};
 ghost use Rattle.hall.specs.Journals.{is_worker_step};
+ghost use Rattle.desk.specs.Counts.{share_after};
 
-use crate::locked_hall::LockedHall;
-use crate::shares::{Badge, DeskLedger};
+use crate::bells::bell_of;
+use crate::lock::{DeskLock, Kept};
+use crate::under_lock::UnderLock;
+use crate::worker_badge::WorkerBadge;
 use desk_rules::Change;
 use hall::{DidOf, Jamboree, Step, StepAnswer};
-use std::alloc::{Allocator, Global};
-use std::sync::{Condvar, MutexGuard, Wait};
+use pool_rules::Task;
+use std::marker::Model;
+use std::sync::{MutexGuard, Wait};
 
 /// The desk, locked by one worker for several steps. It can't be dropped: [`DeskGuard::release`] unlocks it, and wakes
 /// who waits for what the steps changed.
-pub struct DeskGuard<'d, L: DeskLedger, A: Allocator = Global> {
-    pub(crate) kept: MutexGuard<'d, LockedHall<L, A>>,
-    pub(crate) ready: &'d Condvar,
-    pub(crate) ended: &'d Condvar,
+pub struct DeskGuard<'d, T> {
+    kept: MutexGuard<'d, Kept<T>>,
+    lock: &'d DeskLock<T>,
     /// How many frames became ready while some worker slept.
-    pub(crate) wakes: u32,
-    /// Whether one of the steps ended a job.
-    pub(crate) has_ended: bool,
+    wakes: u32,
+    /// The bells of those whose jobs the steps ended, a bit each.
+    rung: u64,
 }
 
-impl<'d, L: DeskLedger, A: Allocator + Clone> DeskGuard<'d, L, A> {
+// Clauses see what the lock is for.
+impl<'d, T> Model for DeskGuard<'d, T> {
+    ghost use Rattle.std.specs.Sync.Mutex.{mutex_guard_value};
+
+    ghost Value = { T };
+
+    ghost view = { λ g. (mutex_guard_value g.kept).value };
+}
+
+impl<'d, T: UnderLock> DeskGuard<'d, T> {
+    /// The lock has been taken, and no step yet.
+    pub(crate) fn new(lock: &'d DeskLock<T>, kept: MutexGuard<'d, Kept<T>>) -> DeskGuard<'d, T> {
+        DeskGuard {
+            kept,
+            lock,
+            wakes: 0,
+            rung: 0,
+        }
+    }
+
     /// Offers a worker's step to the hall, and returns what it did or why it is refused, which is never `OutOfMemory`.
     /// The badge's share is raised by 1 exactly where the step was taken. Where the step gives the worker a leaf, the
     /// badge's waits follow its depth from then on. Nobody is woken before `release`. With a badge whose share is
@@ -33,11 +55,12 @@ impl<'d, L: DeskLedger, A: Allocator + Clone> DeskGuard<'d, L, A> {
     pub fn offer<R: Wait>(
         &mut self,
         rt: &R,
-        badge: &mut Badge<L>,
+        badge: &mut T::Badge,
         step: &Step<Jamboree>,
     ) -> StepAnswer
         requires { is_worker_step step.now ≡ true }
-        ensures share { MatchResult result (λ _. badge.new ≡ badge.old + 1) (λ _. badge.new ≡ badge.old) }
+        ensures step { T.is_offered self.old step.now result self.new }
+        ensures share { T.Badge.share badge.new ≡ share_after (T.Badge.share badge.old) result }
         ensures memory { result ≢ Err OutOfMemory }
     {
         if badge.share() >= u64::MAX as u128 {
@@ -45,36 +68,47 @@ impl<'d, L: DeskLedger, A: Allocator + Clone> DeskGuard<'d, L, A> {
             for _ in rt.forever() {}
             unreachable!()
         }
-        let answer = self.kept.offer(badge, step);
+        let answer = self.kept.value.offer(badge, step);
         if let Ok(DidOf::Computing(leaf)) = &answer {
-            badge.backoff.before_leaf(leaf.depth);
+            let mut backoff = badge.backoff();
+            backoff.before_leaf(leaf.depth);
+            badge.wait_by(backoff);
         }
         match Change::of(&answer) {
             Change::InReady if self.kept.has_sleepers() => {
                 self.wakes = self.wakes.saturating_add(1);
             }
             Change::InReady | Change::Nothing => {}
-            Change::Job => self.has_ended = true,
+            Change::Job => self.rung |= bell_of(step.tenant()),
         }
         answer
     }
 
-    /// Unlocks the desk, and then wakes a worker for each frame that became ready while one slept, and all seats that
-    /// wait if a job ended.
+    /// The task that comes next, by who was served least or has waited longest; `None` where nobody who shares has a ready frame. The frame
+    /// isn't taken.
+    pub fn pick(&mut self) -> Option<Task>
+        ensures { IfSome result (T.is_fair self.new) }
+    {
+        self.kept.value.pick()
+    }
+
+    /// This tenant was served so much more.
+    pub fn charge(&mut self, tenant: u64, amount: u64) {
+        self.kept.value.charge(tenant, amount);
+    }
+
+    /// Unlocks the desk, and then wakes a worker for each frame that became ready while one slept, and each seat whose job ended.
     pub fn release(self) {
         let DeskGuard {
             kept,
-            ready,
-            ended,
+            lock,
             wakes,
-            has_ended,
+            rung,
         } = self;
         drop(kept);
         for _ in 0..wakes {
-            ready.notify_one();
+            lock.wake_worker();
         }
-        if has_ended {
-            ended.notify_all();
-        }
+        lock.ring_places(rung);
     }
 }

@@ -3,9 +3,11 @@
 //! A [`Desk`] is shared by all threads. A [`Seat`] is one tenant's: it asks for positions, shows what became of them,
 //! cancels, and leaves. A [`Badge`] is one worker's: it offers the steps of workers ([`Desk::offer`], or several by
 //! [`Desk::hold`]). Each call locks the hall, does its steps there, counts them, and lets go: nothing is computed under
-//! the lock. There are two condition variables to wait at: a worker waits until some frame is ready
-//! ([`Desk::next_ready`]), a seat until its job has ended ([`Desk::wait`]); a step wakes only those who wait for what
-//! it changed.
+//! the lock. A worker waits until some frame is ready ([`Desk::next_ready`]), a seat at its bell until its job has ended
+//! ([`Desk::wait`]); a step wakes only those who wait for what it changed.
+//!
+//! The lock, the bells and who holds the desk are one for all desks: [`DeskLock`] over a value that is [`UnderLock`], of
+//! which `Desk` is the one with a [`LockedHall`], and a site's desk that with its book.
 //!
 //! Behind a lock a contract can't say what a call did to the hall, as other threads use it too. So the steps taken since
 //! the desk was made, each with the number of its maker, are a history ([`History`]) that lies beside the hall, in
@@ -32,7 +34,7 @@
 //!
 //! An `ask` wakes one worker that waits for a frame; so does a step that made a frame ready, where one sleeps
 //! (how many do is counted under the lock, as a wake is a call of the system even where nobody sleeps); a job
-//! that ended wakes the seats that wait, and the closing wakes all.
+//! that ended rings its seat's bell, and the closing wakes all.
 //!
 //! Why it is so:
 //!
@@ -52,13 +54,18 @@
 
 pub use hall::jamboree;
 
+mod bells;
 mod desk;
 mod desk_guard;
 mod history;
+mod lock;
 mod locked_hall;
 mod passes;
+pub mod reading;
 mod seat;
 mod shares;
+mod under_lock;
+mod worker_badge;
 
 pub use desk::Desk;
 pub use desk_guard::DeskGuard;
@@ -68,6 +75,10 @@ pub use hall::{
     StepAnswer, StepOf, Worker,
 };
 pub use history::{History, Opened, Trace};
+pub use lock::{DeskLock, Kept};
+pub use locked_hall::LockedHall;
 pub use passes::Naming;
 pub use seat::Seat;
 pub use shares::{Badge, DeskLedger, PARTS};
+pub use under_lock::UnderLock;
+pub use worker_badge::WorkerBadge;

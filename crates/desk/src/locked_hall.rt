@@ -22,15 +22,17 @@ ghost use Rattle.sched_rules.specs.Runs.{tenant_of};
 ghost use Rattle.desk.specs.Seats.{admit_refusals, reserve_refusals, seeing, stepped, IsAsked};
 ghost use Rattle.desk_rules.specs.Asked.{ask_refusals, cancel_refusals, seat_asked_at, IsShown, IsToldBy, found_or_no_tenant};
 ghost use Rattle.desk.specs.Histories.{core_at, steps_of, is_admit, is_leave, is_seat_step, with_taken, AreStepsOfSeat, AreTaken, HasNoLeave, IsSeated, IsLook, IsShownAt, IsToldOf, IsTrueTo, Saw, Took};
-ghost use Rattle.desk.specs.Counts.{IsOffered, IsLeft, IsAsOpen, IsNextReady, with_kept, waits_on, has_news};
+ghost use Rattle.desk.specs.Counts.{IsOffered, IsLeft, with_kept};
 
 use crate::history::{History, Opened, Trace};
+use crate::reading::{has_ready, is_awaited, left_of, live_of, next_ready, told_of};
 use crate::seat::Seat;
 use crate::shares::{Badge, DeskLedger, PARTS};
+use crate::under_lock::UnderLock;
 use arrayvec::ArrayVec;
-use desk_rules::{Backoff, JOBS, SeatAsked, seat_asked_at, shown};
-use frame_table::FrameId;
+use desk_rules::{Backoff, JOBS, SeatAsked, seat_asked_at};
 use hall::{Hall, Jamboree, Outcome, Refusal, Step, StepAnswer, StepOf, submit};
+use pool_rules::Task;
 use position_text::Position;
 use sched_rules::laws::{each_step_has_a_right_answer, no_tenant_is_disturbed};
 use std::alloc::{Allocator, Global};
@@ -44,7 +46,7 @@ const BADGES: u64 = 1 << 62;
 /// What lies under the desk's lock: the hall, the ledger that counts the steps taken since the desk was made, and the
 /// history of these steps.
 #[derive(Drop)]
-pub(crate) struct LockedHall<L: DeskLedger, A: Allocator = Global> {
+pub struct LockedHall<L: DeskLedger, A: Allocator = Global> {
     hall: Hall<A>,
     /// The steps taken since the desk was made. It exists in proofs alone, but for one word.
     history: History<Step<Jamboree>, L>,
@@ -58,13 +60,9 @@ pub(crate) struct LockedHall<L: DeskLedger, A: Allocator = Global> {
     badges: u64,
     /// How many steps the hall had taken before the desk was made.
     before: u128,
-    /// Whether the desk is closed, so that nobody waits any more.
-    closed: bool,
-    /// How many workers sleep until a frame is ready.
-    sleepers: u32,
 }
 
-// Clauses see the hall, whether the desk is closed, how many workers sleep, how many badges were given, and the history.
+// Clauses see the hall, how many badges were given, and the history.
 impl<L: DeskLedger, A: Allocator> Model for LockedHall<L, A> {
     ghost use Rattle.std.specs.Prelude.{◌≡◌, ◌+◌, ◌^◌, ◌≤◌};
     ghost use Rattle.hall.specs.Halls.{count_of};
@@ -74,7 +72,7 @@ impl<L: DeskLedger, A: Allocator> Model for LockedHall<L, A> {
 
     ghost Value = { LockedHallOf };
 
-    ghost view = { λ k. record { hall = k.hall; closed = k.closed; sleepers = k.sleepers; badges = k.badges; history = k.history } };
+    ghost view = { λ k. record { hall = k.hall; badges = k.badges; history = k.history } };
 
     ghost invariant = { λ k. (count_of k.hall ≡ k.before + k.book.total) × (k.hall.kept ≡ k.before + k.spare.amount) × (k.spare.parts ≡ k.parts)
         × (L.all ≡ ledger_parts) × (k.parts ≤ ledger_parts) × (ledger_parts ≤ k.parts + k.badges + k.hall.shared.newest) × (k.badges ≤ 2 ^ 62)
@@ -94,8 +92,6 @@ impl<L: DeskLedger, A: Allocator + Clone> LockedHall<L, A> {
         requires history { opened ≡ L.table }
         requires begun { hall ≡ L.begun }
         ensures hall { result.hall ≡ record hall { kept = count_of hall } }
-        ensures open { result.closed ≡ false }
-        ensures none { result.sleepers ≡ 0 }
         ensures no_badges { result.badges ≡ 0 }
         ensures no_steps { result.history ≡ [] }
     {
@@ -111,8 +107,6 @@ impl<L: DeskLedger, A: Allocator + Clone> LockedHall<L, A> {
             parts: PARTS,
             badges: 0,
             before,
-            closed: false,
-            sleepers: 0,
         }
     }
 
@@ -135,7 +129,7 @@ impl<L: DeskLedger, A: Allocator + Clone> LockedHall<L, A> {
         ensures stays { is_leave step.now ≡ false → HasNoLeave trace.old.mine → HasNoLeave trace.new.mine }
         ensures left { is_leave step.now ≡ true → HasNoLeave trace.old.mine → result ≡ Ok HasLeft }
         ensures step { IsOffered self.old.hall step.now result self.new.hall }
-        ensures others { IsAsOpen self.old self.new }
+        ensures others { self.new.badges ≡ self.old.badges }
         ensures amount { MatchResult result (λ _. mine.new.amount ≡ mine.old.amount + 1) (λ _. mine.new.amount ≡ mine.old.amount) }
         ensures parts { mine.new.parts ≡ mine.old.parts }
         ensures bound { mine.new.amount ≤ 2 ^ 84 }
@@ -164,7 +158,7 @@ impl<L: DeskLedger, A: Allocator + Clone> LockedHall<L, A> {
         ensures share { MatchResult result (λ _. seat.new ≡ stepped seat.new.known seat.old) (λ _. seat.new ≡ seeing seat.new.known seat.old) }
         ensures told { IsToldOf L.begun seat.old.known step.now result seat.new.known }
         ensures step { IsOffered self.old.hall step.now result self.new.hall }
-        ensures others { IsAsOpen self.old self.new }
+        ensures others { self.new.badges ≡ self.old.badges }
     {
         let answer = self.take(&mut seat.mine, &mut seat.trace, step);
         if answer.is_ok() {
@@ -184,7 +178,7 @@ impl<L: DeskLedger, A: Allocator + Clone> LockedHall<L, A> {
             (λ _. (did : DidOf LeafOf) × IsOffered self.old.hall (Admit (self.old.hall.shared.newest + 1) reserve) (Ok did) self.new.hall)
             (λ refusal. IsOffered self.old.hall (Admit (self.old.hall.shared.newest + 1) reserve) (Err refusal) self.new.hall) }
         ensures refused { IfErr result (Contains admit_refusals) }
-        ensures others { IsAsOpen self.old self.new }
+        ensures others { self.new.badges ≡ self.old.badges }
     {
         let LockedHall {
             hall,
@@ -220,7 +214,7 @@ impl<L: DeskLedger, A: Allocator + Clone> LockedHall<L, A> {
             (λ _. (did : DidOf LeafOf) × IsOffered self.old.hall (AdmitMore seat.old.tenant reserve) (Ok did) self.new.hall)
             (λ refusal. IsOffered self.old.hall (AdmitMore seat.old.tenant reserve) (Err refusal) self.new.hall) }
         ensures refused { IfErr result (Contains reserve_refusals) }
-        ensures others { IsAsOpen self.old self.new }
+        ensures others { self.new.badges ≡ self.old.badges }
     {
         let step = StepOf::AdmitMore(seat.tenant, reserve);
         self.take_for(seat, &step)?;
@@ -237,7 +231,7 @@ impl<L: DeskLedger, A: Allocator + Clone> LockedHall<L, A> {
         depth: u8,
     ) -> Result<u64, Refusal>
         requires { depth ≤ DEEPEST }
-        ensures others { IsAsOpen self.old self.new }
+        ensures others { self.new.badges ≡ self.old.badges }
         ensures asked { IsAsked (record { board = position.now.board; depth = depth }) seat.old result seat.new }
         ensures refused { IfErr result (Contains ask_refusals) }
         ensures full { length seat.old.asked ≡ 256 → (self.new ≡ self.old) × (seat.new ≡ seat.old) }
@@ -267,7 +261,7 @@ impl<L: DeskLedger, A: Allocator + Clone> LockedHall<L, A> {
         ensures step { MatchResult result
             (λ _. (did : DidOf LeafOf) × IsOffered self.old.hall (Cancel seat.old.tenant job) (Ok did) self.new.hall)
             (λ refusal. seat_asked_at seat.old.asked job ≢ None → IsOffered self.old.hall (Cancel seat.old.tenant job) (Err refusal) self.new.hall) }
-        ensures others { IsAsOpen self.old self.new }
+        ensures others { self.new.badges ≡ self.old.badges }
         ensures refused { IfErr result (Contains cancel_refusals) }
     {
         if seat_asked_at(seat.asked.as_slice(), job).is_none() {
@@ -284,7 +278,7 @@ impl<L: DeskLedger, A: Allocator + Clone> LockedHall<L, A> {
         requires few { badge.old + 1 < 2 ^ 64 }
         ensures share { MatchResult result (λ _. badge.new ≡ badge.old + 1) (λ _. badge.new ≡ badge.old) }
         ensures step { IsOffered self.old.hall step.now result self.new.hall }
-        ensures others { IsAsOpen self.old self.new }
+        ensures others { self.new.badges ≡ self.old.badges }
         ensures memory { result ≢ Err OutOfMemory }
     {
         let answer = self.take(&mut badge.mine, &mut badge.trace, step);
@@ -299,11 +293,7 @@ impl<L: DeskLedger, A: Allocator + Clone> LockedHall<L, A> {
         ensures shown { IsShown (seat_asked_at seat.now.asked job) result }
         ensures told { (told : Option OutcomeOf) × IsOutcomeIn (job_of self.now.hall.shared seat.now.tenant job) told × IsToldBy (seat_asked_at seat.now.asked job) told result }
     {
-        let told = self.hall.outcome(seat.tenant(), job);
-        match seat_asked_at(seat.asked(), job) {
-            Some(asked) => Ok(shown(asked, told)),
-            None => Err(Refusal::NoJob),
-        }
+        told_of(&self.hall, seat.tenant(), seat.asked(), job)
     }
 
     /// Lets a seat see the history so far.
@@ -363,63 +353,6 @@ impl<L: DeskLedger, A: Allocator + Clone> LockedHall<L, A> {
         self.live(seat.tenant())
     }
 
-    /// Whether a seat goes on waiting for this job: it is there and hasn't ended, and the desk isn't closed.
-    pub(crate) fn keeps_waiting(&self, tenant: u64, job: u64) -> bool
-        ensures { result ≡ waits_on self.now tenant job }
-    {
-        match self.hall.outcome(tenant, job) {
-            Some(Outcome::Pending) => !self.closed,
-            _ => false,
-        }
-    }
-
-    /// Whether a worker that waits may go on: the desk is closed, or some frame is ready.
-    pub(crate) fn has_news(&self) -> bool
-        ensures { result ≡ has_news self.now }
-    {
-        self.closed || self.hall.core().any_ready().is_some()
-    }
-
-    /// A frame that is ready, with its home; `None` where no frame is ready or the desk is closed. The frame isn't
-    /// taken: it stays ready until a worker's step takes it.
-    pub(crate) fn next_ready(&self) -> Option<(FrameId, u8)>
-        ensures { IsNextReady self.now result }
-    {
-        if self.closed {
-            None
-        } else {
-            self.hall.core().any_ready()
-        }
-    }
-
-    /// Counts one worker more that sleeps until a frame is ready, modulo 2^32.
-    pub(crate) fn begin_sleep(&mut self)
-        ensures { self.new ≡ record self.old { sleepers = (self.old.sleepers + 1) % 2 ^ 32 } }
-    {
-        self.sleepers = self.sleepers.wrapping_add(1);
-    }
-
-    /// Counts one worker fewer that sleeps, modulo 2^32.
-    pub(crate) fn end_sleep(&mut self)
-        ensures { self.new ≡ record self.old { sleepers = (self.old.sleepers + 4294967295) % 2 ^ 32 } }
-    {
-        self.sleepers = self.sleepers.wrapping_sub(1);
-    }
-
-    /// Whether some worker sleeps until a frame is ready.
-    pub(crate) fn has_sleepers(&self) -> bool
-        ensures { result ≡ not (self.now.sleepers == 0) }
-    {
-        self.sleepers > 0
-    }
-
-    /// Marks the desk as closed. To wake those who wait is the caller's part.
-    pub(crate) fn close(&mut self)
-        ensures { self.new ≡ record self.old { closed = true } }
-    {
-        self.closed = true;
-    }
-
     /// How many steps the hall has taken since it was made, those before the desk included.
     pub(crate) fn count(&self) -> u128
         ensures { result ≡ count_of self.now.hall }
@@ -431,14 +364,14 @@ impl<L: DeskLedger, A: Allocator + Clone> LockedHall<L, A> {
     pub(crate) fn quota(&self, tenant: u64) -> Result<Left, Refusal>
         ensures { result ≡ found_or_no_tenant (left_in_core self.now.hall.shared tenant) }
     {
-        self.hall.core().left(tenant).ok_or(Refusal::NoTenant)
+        left_of(&self.hall, tenant)
     }
 
     /// How many frames a tenant has, and how many words these have together; `NoTenant` where it isn't there.
     pub(crate) fn live(&self, tenant: u64) -> Result<(usize, usize), Refusal>
         ensures { result ≡ found_or_no_tenant (live_of self.now.hall.shared tenant) }
     {
-        self.hall.core().live(tenant).ok_or(Refusal::NoTenant)
+        live_of(&self.hall, tenant)
     }
 
     /// A new badge with a share of 0, which has one part of the spare share. `None` only after 2^62 badges.
@@ -474,7 +407,7 @@ impl<L: DeskLedger, A: Allocator + Clone> LockedHall<L, A> {
         ensures told { Took seat.known (Leave seat.tenant) result }
         ensures true_to { IsTrueTo L.begun seat.tenant result }
         ensures step { IsLeft self.old.hall seat self.new.hall }
-        ensures others { IsAsOpen self.old self.new }
+        ensures others { self.new.badges ≡ self.old.badges }
     {
         let Seat {
             tenant,
@@ -531,6 +464,45 @@ impl<L: DeskLedger, A: Allocator + Clone> LockedHall<L, A> {
         book.audit(&mut spare);
         (hall, Some(spare))
     }
+}
+
+impl<L: DeskLedger, A: Allocator + Clone> UnderLock for LockedHall<L, A> {
+    ghost use Rattle.desk.specs.Counts.{IsOffered, IsNextReady, has_ready, is_awaited};
+
+    type Badge = Badge<L>;
+
+    ghost is_offered = { λ before step answer after. IsOffered before.hall step answer after.hall };
+
+    ghost has_ready = { λ kept. has_ready kept.hall.shared };
+
+    ghost waits_on = { λ kept tenant job. is_awaited kept.hall.shared tenant job };
+
+    ghost is_next = { λ before task after. (after ≡ before) × IsNextReady before.hall.shared task };
+
+    // Nobody shares a desk's hall, so nothing that was picked would be fair, and nobody is charged.
+    ghost is_fair = { λ _ _. ⊥ };
+
+    fn offer(&mut self, badge: &mut Badge<L>, step: &Step<Jamboree>) -> StepAnswer {
+        self.offer(badge, step)
+    }
+
+    fn has_ready(&self) -> bool {
+        has_ready(&self.hall)
+    }
+
+    fn waits_on(&self, tenant: u64, job: u64) -> bool {
+        is_awaited(&self.hall, tenant, job)
+    }
+
+    fn next_task(&mut self) -> Option<Task> {
+        next_ready(&self.hall)
+    }
+
+    fn pick(&mut self) -> Option<Task> {
+        None
+    }
+
+    fn charge(&mut self, _tenant: u64, _amount: u64) {}
 }
 
 /// Adds a step with this answer to the history where it was taken, and lets its maker see all of it.

@@ -4,6 +4,7 @@ ghost use Rattle.desk.specs.Parts.{ledger_parts};
 
 use crate::history::Trace;
 use crate::passes::Naming;
+use crate::worker_badge::WorkerBadge;
 use desk_rules::Backoff;
 use hall::{Jamboree, Step};
 use std::marker::{Brand, Model};
@@ -58,6 +59,28 @@ impl<L: DeskLedger> Model for Badge<L> {
     ghost view = { λ b. b.steps };
 
     ghost invariant = { λ b. (b.mine.amount ≡ b.steps) × (b.mine.parts ≡ b.parts) × (0 < b.parts) × (L.all ≡ ledger_parts) × (b.steps ≤ b.parts * 18446744073709551615) };
+}
+
+impl<L: DeskLedger> WorkerBadge for Badge<L> {
+    ghost share = { λ badge. badge };
+
+    ghost may_join = { L.all ≡ L.parts };
+
+    fn share(&self) -> u128 {
+        self.steps
+    }
+
+    fn backoff(&self) -> Backoff {
+        self.backoff
+    }
+
+    fn wait_by(&mut self, backoff: Backoff) {
+        self.backoff = backoff;
+    }
+
+    fn joined(self, other: Badge<L>) -> Badge<L> {
+        self.join(other)
+    }
 }
 
 impl<L: DeskLedger> Badge<L> {

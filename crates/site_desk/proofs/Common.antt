@@ -4,9 +4,9 @@ pub use Rattle.std.proofs.Common.{length-append, refl, rules, subst, sym, true, 
 pub use Rattle.std.proofs.lemmas.Bool.{and_parts, cases_Bool, eq-eqb, eqb-true, false≢true, le-ltb, lt-leb, ne_eqb, or_from}
 pub use Rattle.std.proofs.lemmas.List.Sums.{sum_by-cons}
 pub use Rattle.std.specs.Option.{is_some}
+pub use Rattle.desk.specs.Counts.{IsNextReady}
 pub use Rattle.desk_rules.proofs.Refused.{ask-refused}
 pub use Rattle.desk_rules.specs.Asked.{ask_refusals}
-pub use Rattle.frame_table.specs.Frames.{IsReadyAt}
 pub use Rattle.hall.specs.Halls.{HallOf, IsDecided}
 pub use Rattle.hall.specs.jamboree_rules.Procedure.{jamboree}
 pub use Rattle.hall.specs.jamboree_rules.declared.leaf.Leaf.{Leaf}
@@ -23,7 +23,6 @@ pub use Rattle.sched_rules.specs.Headline.{AreNumbersGiven, AreNumbersTaken, IsO
 pub use Rattle.sched_rules.specs.Lone.{Outcome, is_lower, lone, lone_step}
 pub use Rattle.sched_rules.specs.Runs.{tenant_of}
 pub use Rattle.sched_rules.specs.Trees.{Tenant, account_in, admitted_with}
-pub use Rattle.sched_rules.specs.Views.{named, ready_count}
 pub use Rattle.sched_rules.specs.declared.refusal.Refusal.{Refusal}
 pub use Rattle.sched_rules.specs.declared.step.DidOf.{DidOf}
 pub use Rattle.sched_rules.specs.declared.step.DidOf.TheVariants.{Left}
@@ -55,6 +54,6 @@ pub use Rattle.tenant_quota.specs.Quota.{Quota}
 pub use Rattle.tenant_quota.specs.declared.account.Account.{Account}
 pub use Rattle.site_desk.specs.Booked.{BookedOf, IsAdmission, IsBooked, IsRaise, TookInHall, is_within_seat}
 pub use Rattle.site_desk.specs.BookedSeats.{BookedSeat, number_of, seats_in_book, seats_in_hall}
-pub use Rattle.site_desk.specs.Sites.{IsAnyTask, IsCame, IsListed, IsNextTask, IsSitePick, SiteOf, met, overruns_of, stays_in}
+pub use Rattle.site_desk.specs.Sites.{IsCame, IsListed, IsNextTask, IsSitePick, SiteOf, met, overruns_of, stays_in}
 pub use Rattle.site_desk.specs.declared.turned.Turned.{Turned}
 pub use Rattle.site_desk.specs.declared.turned.Turned.TheVariants.{ByBook, OldTenant, OutOfMemory}

@@ -4,4 +4,4 @@ mod HallSteps
 mod Keepings
 pub mod Lists
 pub mod Comings
-pub mod Tasks
+mod Tasks

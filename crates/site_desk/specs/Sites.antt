@@ -1,18 +1,15 @@
 -- Meaning: what lies under a site's lock, and what each call does to it.
-use Rattle.std.specs.Prelude.{◌≡◌, ℕ, ◌+◌, ◌%◌, ◌^◌, ◌==◌, Bool, true, false, not, ◌&&◌, ◌||◌, ◌⊎◌, List, [], ◌∷◌, ◌++◌, map, is_none, Option, Some, None, Result, Ok, Err}
-use Rattle.frame_table.specs.declared.names.FrameId.{FrameId}
-use Rattle.frame_table.specs.Frames.{IsReadyAt}
+use Rattle.std.specs.Prelude.{◌≡◌, ℕ, ◌+◌, ◌%◌, ◌^◌, ◌==◌, Bool, true, false, ◌&&◌, ◌||◌, ◌⊎◌, List, [], ◌∷◌, ◌++◌, map, is_none, Option, Some, None, Result, Ok, Err}
 use Rattle.tenant_quota.specs.Quota.{Quota}
 use Rattle.sched_rules.specs.declared.refusal.Refusal.{Refusal}
 use Rattle.sched_rules.specs.declared.step.StepOf.{StepOf}
 use Rattle.sched_rules.specs.declared.step.DidOf.{DidOf}
-use Rattle.sched_rules.specs.Views.{job_of, named, ready_count}
+use Rattle.desk.specs.Counts.{is_awaited, IsNextReady}
 use Rattle.site_desk.specs.Booked.{BookedOf, IsAdmission, IsEnd}
 use Rattle.site_desk.specs.declared.turned.Turned.TheVariants.{ByBook, OldTenant, OutOfMemory}
 use Rattle.desk_rules.specs.hall.Halls.{IsDecided}
 use Rattle.desk_rules.specs.hall.jamboree_rules.declared.leaf.Leaf.{Leaf}
 use Rattle.desk_rules.specs.hall.jamboree_rules.declared.leaf.LeafAnswer.{LeafAnswer}
-use Rattle.desk_rules.specs.Changes.{is_some_live}
 use Rattle.site_book.specs.declared.held.Grant.{Grant}
 use Rattle.site_book.specs.declared.held.Overrun.{Overrun}
 use Rattle.site_book.specs.declared.who.Who.{Who}
@@ -31,17 +28,14 @@ use Rattle.fair_share.specs.Shares.{SharesOf, tenant_entered}
 use Rattle.fair_share.specs.Picks.{seen_all, IsFairTask, IsNoTask}
 use Rattle.pool_rules.specs.declared.task.Task.{Task}
 use Rattle.site_desk.specs.Sharing.{share_customer, share_network, unshared}
-use Rattle.site_desk.specs.declared.came.Came.{Came}
-use Rattle.site_desk.specs.declared.came.Came.TheVariants.{Seated, Waiting, Ending, Turned}
+use Rattle.site_desk.specs.declared.entry.SeatOutcome.{SeatOutcome}
+use Rattle.site_desk.specs.declared.entry.SeatOutcome.TheVariants.{Seated, Later, Turned}
 
--- the hall with its book, who is there, who shares the workers and what each was served, whether the desk is closed, how many workers sleep
--- until a frame is ready, modulo 2^32, and how many sessions have left, modulo 2^64
+-- the hall with its book, who is there, who shares the workers and what each was served, and how many sessions have left, modulo 2^64
 pub record SiteOf : Type 0 where
   pub booked : BookedOf
   pub roll : List Present
   pub shares : SharesOf
-  pub closed : Bool
-  pub sleepers : ℕ
   pub left : ℕ
 
 -- who is there is who has a grant, and in the same order
@@ -55,12 +49,12 @@ met site who ask now most = coming site.booked.book.plan site.booked.book.grants
 -- what is done where one asks for a session: where it enters, its tenant is admitted, its grant entered, itself listed and its share begun, all
 -- at once; where a guest is to end for it, that one is told so; and else nothing changes. It is turned away where the book refuses it and
 -- nobody's going would help, or where no number or no memory is left
-abbrev pub IsCame : SiteOf → Who → Quota → ℕ → ℕ → Came → SiteOf → Type 0
-IsCame before who ask now most (Seated number) after =
-    (met before who ask now most ≡ Enters) × IsAdmission before.booked who ask (Ok number) after.booked × (after ≡ record before { booked = after.booked; roll = before.roll ++ newcomer who number now ∷ []; shares = tenant_entered number (share_customer who) (share_network who) before.shares })
-IsCame before who ask now most (Waiting refusal) after = (met before who ask now most ≡ Waits refusal) × (after ≡ before)
-IsCame before who ask now most (Ending session refusal) after =
-    (met before who ask now most ≡ Ends session refusal) × (after ≡ record before { roll = marked_all (One session) (told_to ForAnother) before.roll })
+abbrev pub IsCame : SiteOf → Who → Quota → ℕ → ℕ → SeatOutcome → SiteOf → Type 0
+IsCame before who ask now most (Seated seat) after =
+    (met before who ask now most ≡ Enters) × (seat.who ≡ who) × (seat.asked ≡ []) × IsAdmission before.booked who ask (Ok seat.number) after.booked × (after ≡ record before { booked = after.booked; roll = before.roll ++ newcomer who seat.number now ∷ []; shares = tenant_entered seat.number (share_customer who) (share_network who) before.shares })
+IsCame before who ask now most (Later refusal None left) after = (met before who ask now most ≡ Waits refusal) × (left ≡ before.left) × (after ≡ before)
+IsCame before who ask now most (Later refusal (Some session) left) after =
+    (met before who ask now most ≡ Ends session refusal) × (left ≡ before.left) × (after ≡ record before { roll = marked_all (One session) (told_to ForAnother) before.roll })
 IsCame before who ask now most (Turned (ByBook refusal)) after = (met before who ask now most ≡ Refused refusal) × (after ≡ before)
 IsCame before who ask now most (Turned OldTenant) after = (met before who ask now most ≡ Enters) × (after ≡ before) × IsAdmission before.booked who ask (Err OldTenant) after.booked
 IsCame before who ask now most (Turned OutOfMemory) after = (met before who ask now most ≡ Enters) × (after ≡ before) × IsAdmission before.booked who ask (Err OutOfMemory) after.booked
@@ -82,19 +76,9 @@ abbrev pub stays_in : ℕ → List Present → Bool
 stays_in number [] = false
 stays_in number (present ∷ roll) = (number == present.session) && is_none present.told || stays_in number roll
 
--- whether a seat that waits for a job waits on: the desk isn't closed, the session wasn't told to end, and the job hasn't ended
+-- whether a seat that waits for a job waits on: the session wasn't told to end, and the job hasn't ended
 abbrev pub site_waits_on : SiteOf → ℕ → ℕ → Bool
-site_waits_on site number job = not site.closed && stays_in number site.roll && is_some_live (job_of site.booked.hall.shared number job)
-
--- whether a worker that waits may go on: the desk is closed, or some frame is ready
-abbrev pub site_has_news : SiteOf → Bool
-site_has_news site = site.closed || not (ready_count site.booked.hall.shared.tenants == 0)
-
--- the frame that a worker is given after it has waited, with its home: None exactly where the desk is closed or no frame is ready, else one that
--- is ready
-abbrev pub IsNextFrame : SiteOf → Option (FrameId × ℕ) → Type 0
-IsNextFrame site None = (not site.closed && not (ready_count site.booked.hall.shared.tenants == 0)) ≡ false
-IsNextFrame site (Some ready) = (site.closed ≡ false) × IsReadyAt (named site.booked.hall.shared ready.0) ready.1
+site_waits_on site number job = stays_in number site.roll && is_awaited site.booked.hall.shared number job
 
 -- what a pick is and does: it is seen who has a ready frame, and the task is a fair one by then; None only where no tenant that shares has one.
 -- Nothing else is done: the frame isn't taken, and nobody is charged
@@ -102,18 +86,11 @@ abbrev pub IsSitePick : SiteOf → Option Task → SiteOf → Type 0
 IsSitePick before None after = (after ≡ record before { shares = seen_all before.booked.hall.shared before.shares }) × IsNoTask before.booked.hall.shared after.shares
 IsSitePick before (Some task) after = (after ≡ record before { shares = seen_all before.booked.hall.shared before.shares }) × IsFairTask before.booked.hall.shared after.shares task
 
--- a ready frame of any tenant, as a task; None where none is ready
-abbrev pub IsAnyTask : SiteOf → Option Task → Type 0
-IsAnyTask site None = ready_count site.booked.hall.shared.tenants ≡ 0
-IsAnyTask site (Some task) = IsReadyAt (named site.booked.hall.shared task.frame) task.home
-
 -- the task that a worker is given after it has waited: a pick; or, where no tenant that shares has a ready frame, a ready frame of any tenant; None
--- where the desk is closed, and where no frame is ready
+-- where no frame is ready
 abbrev pub IsNextTask : SiteOf → Option Task → SiteOf → Type 0
-IsNextTask before None after =
-    ((before.closed ≡ true) × (after ≡ before)) ⊎ ((before.closed ≡ false) × IsSitePick before None after × (ready_count before.booked.hall.shared.tenants ≡ 0))
-IsNextTask before (Some task) after =
-    (before.closed ≡ false) × (IsSitePick before (Some task) after ⊎ (IsSitePick before None after × IsReadyAt (named before.booked.hall.shared task.frame) task.home))
+IsNextTask before None after = IsSitePick before None after × IsNextReady before.booked.hall.shared None
+IsNextTask before (Some task) after = IsSitePick before (Some task) after ⊎ (IsSitePick before None after × IsNextReady before.booked.hall.shared (Some task))
 
 -- by how much each grant's part has more than a plan allows, in the order of the grants
 abbrev pub overruns_of : PlanOf → List Grant → List Grant → List (Option Overrun)

@@ -1,9 +1,9 @@
 //! A worker's badge at a site.
 ghost use Rattle.std.specs.Prelude.{◌≡◌, ◌+◌, ◌<◌, ◌^◌};
 
+use desk::WorkerBadge;
 use desk_rules::Backoff;
 use std::marker::Model;
-use steal_pool::WorkerBadge;
 
 /// What a worker offers steps with. Contracts see its share: how many of the steps offered with it, and with the badges that were joined
 /// to it, were taken.
@@ -35,13 +35,6 @@ impl SiteBadge {
         }
     }
 
-    /// Its share: how many steps were taken with it, and with the badges that were joined to it; it stays at 2^128 - 1.
-    pub fn share(&self) -> u128
-        ensures { result ≡ self.now }
-    {
-        self.steps
-    }
-
     /// One badge in place of two, with the sum of their shares, and the waits of the first.
     pub fn join(self, other: SiteBadge) -> SiteBadge
         ensures { self + other < 2 ^ 128 → result ≡ self + other }
@@ -58,6 +51,18 @@ impl WorkerBadge for SiteBadge {
     ghost share = { λ badge. badge };
 
     ghost may_join = { Unit {0} };
+
+    fn share(&self) -> u128 {
+        self.steps
+    }
+
+    fn backoff(&self) -> Backoff {
+        self.backoff
+    }
+
+    fn wait_by(&mut self, backoff: Backoff) {
+        self.backoff = backoff;
+    }
 
     fn joined(self, other: SiteBadge) -> SiteBadge {
         self.join(other)

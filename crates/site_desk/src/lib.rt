@@ -15,11 +15,9 @@
 //! - Whoever ends a session only tells it so and wakes its WAIT; its own thread leaves. So no thread touches another's seat, and a
 //!   session's end is one call wherever it comes from. Who comes meanwhile is told `Later`, and waits for one to leave
 //!   ([`SiteDesk::await_left`]): sessions that have left are counted under the lock, so that none is missed.
-//! - Nobody sleeps on the lock: who does is handed it, and until that thread runs nobody else can take it. Who waits sleeps at a condition
-//!   of its own, and takes the lock as all others do.
 //! - Under the lock at most 64 grants and sessions are looked at, and no memory is taken but by an admission and a raise. Digests,
 //!   texts and files are the caller's, before it or behind it.
-//! - What desks have in common stands in `desk_rules`. There is no ledger here: a seat shows of a job only a reply to what was asked
+//! - The lock, where others wait and whom a step wakes are `desk`'s ([`desk::DeskLock`]). There is no ledger here: a seat shows of a job only a reply to what was asked
 //!   under its number, and what the hall did is said by its own contract.
 //!
 //! ```text
@@ -32,11 +30,8 @@
 #![tactic(auto)]
 
 mod badge;
-mod bells;
 mod booked;
-mod came;
 mod entry;
-mod guard;
 mod locked_site;
 pub mod rows;
 mod seat;
@@ -48,7 +43,7 @@ mod turned;
 pub use badge::SiteBadge;
 pub use booked::BookedHall;
 pub use entry::SeatOutcome;
-pub use guard::SiteGuard;
+pub use locked_site::LockedSite;
 pub use seat::SiteSeat;
 pub use site_desk::SiteDesk;
 pub use turned::Turned;

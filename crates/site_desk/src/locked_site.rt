@@ -1,12 +1,11 @@
 //! What lies under a site's lock: the hall with its book, the roll of who is there, and who shares the workers.
-ghost use Rattle.std.specs.Prelude.{◌≡◌, ◌≢◌, ◌+◌, ◌%◌, ◌^◌, ◌≤◌, ◌==◌, not, [], true, false, length, Ok, Err, Some, None, Contains, IfErr, Option, MatchResult};
+ghost use Rattle.std.specs.Prelude.{◌≡◌, ◌≢◌, ◌≤◌, [], true, length, Ok, Err, Some, None, Contains, IfErr, Option, MatchResult};
 ghost use Rattle.sched_rules.specs.declared.refusal.Refusal.TheVariants.{NoJob, OutOfMemory};
 ghost use Rattle.sched_rules.specs.declared.step.StepOf.TheVariants.{Submit, Cancel};
 ghost use Rattle.sched_rules.specs.declared.step.DidOf.{DidOf};
 ghost use Rattle.sched_rules.specs.Views.{left_in_core, live_of, job_of};
 ghost use Rattle.site_desk.specs.Booked.{IsRaise, is_within_seat};
 ghost use Rattle.desk_rules.specs.hall.Halls.{count_of};
-ghost use Rattle.desk_rules.specs.hall.Journals.{is_worker_step};
 ghost use Rattle.desk_rules.specs.hall.jamboree_rules.declared.leaf.Leaf.{Leaf as LeafOf};
 ghost use Rattle.desk_rules.specs.hall.jamboree_rules.Places.{root_words, frame_size};
 ghost use Rattle.desk_rules.specs.hall.jamboree_rules.othello_eval.othello_moves.declared.choices.TheConstants.{DEEPEST};
@@ -21,17 +20,19 @@ ghost use Rattle.site_book.specs.Rolls.{marked_all};
 ghost use Rattle.fair_share.specs.Lines.{empty_line};
 ghost use Rattle.fair_share.specs.Picks.{charged_to};
 ghost use Rattle.site_desk.specs.Seats.{IsSiteAsk};
-ghost use Rattle.site_desk.specs.Sites.{IsCame, IsSessionGone, IsSiteStep, IsNextFrame, IsAnyTask, IsNextTask, IsSitePick, site_has_news, met, overruns_of, stays_in, site_waits_on};
+ghost use Rattle.site_desk.specs.Sites.{IsCame, IsSessionGone, IsSiteStep, IsSitePick, met, overruns_of, stays_in};
 
+use crate::badge::SiteBadge;
 use crate::booked::BookedHall;
-use crate::came::Came;
+use crate::entry::SeatOutcome;
 use crate::seat::SiteSeat;
 use crate::sharing::{share, unshare};
 use crate::turned::Turned;
 use arrayvec::ArrayVec;
-use desk_rules::{JOBS, SeatAsked, seat_asked_at, shown};
+use desk::UnderLock;
+use desk::reading::{has_ready, is_awaited, left_of, live_of, next_ready, told_of};
+use desk_rules::{JOBS, SeatAsked, seat_asked_at};
 use fair_share::{FairShare, charge, fair_task};
-use frame_table::FrameId;
 use hall::{Jamboree, Outcome, Refusal, Step, StepAnswer, StepOf, submit};
 use position_text::Position;
 use site_book::{
@@ -45,26 +46,22 @@ use tenant_quota::{Left, Reserve};
 
 /// What lies under a site's lock.
 #[derive(Drop)]
-pub(crate) struct LockedSite<A: Allocator = Global> {
+pub struct LockedSite<A: Allocator = Global> {
     booked: BookedHall<A>,
     roll: Roll,
     /// Who shares the workers, and what each was served.
     shares: FairShare,
-    /// Whether the desk is closed, so that nobody waits any more.
-    closed: bool,
-    /// How many workers sleep until a frame is ready.
-    sleepers: u32,
     /// How many sessions have left.
     left: u64,
 }
 
-// Clauses see the hall with its book, who is there, who shares the workers, whether the desk is closed, and the two counts.
+// Clauses see the hall with its book, who is there, who shares the workers, and how many sessions have left.
 impl<A: Allocator> Model for LockedSite<A> {
     ghost use Rattle.site_desk.specs.Sites.{SiteOf, IsListed};
 
     ghost Value = { SiteOf };
 
-    ghost view = { λ k. record { booked = k.booked; roll = k.roll; shares = k.shares; closed = k.closed; sleepers = k.sleepers; left = k.left } };
+    ghost view = { λ k. record { booked = k.booked; roll = k.roll; shares = k.shares; left = k.left } };
 
     ghost invariant = { λ k. IsListed k.booked.book k.roll };
 }
@@ -74,30 +71,36 @@ impl<A: Allocator + Clone> LockedSite<A> {
     pub(crate) fn new(booked: BookedHall<A>, shares: FairShare) -> LockedSite<A>
         requires nobody { booked.book.grants ≡ [] }
         requires none_shares { shares.tenants ≡ empty_line }
-        ensures { result ≡ record { booked = booked; roll = []; shares = shares; closed = false; sleepers = 0; left = 0 } }
+        ensures { result ≡ record { booked = booked; roll = []; shares = shares; left = 0 } }
     {
         LockedSite {
             booked,
             roll: Roll::new(),
             shares,
-            closed: false,
-            sleepers: 0,
             left: 0,
         }
     }
 
     /// What comes of one who asks for a session: it enters where the book allows it.
-    pub(crate) fn come(&mut self, comer: &Comer) -> Came
+    pub(crate) fn come(&mut self, comer: &Comer) -> SeatOutcome
         ensures { IsCame self.old comer.now.who comer.now.ask comer.now.at comer.now.most result self.new }
     {
         match self.met(comer) {
             Coming::Enters => self.let_in(comer),
-            Coming::Waits(refusal) => Came::Waiting(refusal),
+            Coming::Waits(refusal) => SeatOutcome::Later {
+                refusal,
+                ending: None,
+                left: self.left,
+            },
             Coming::Ends(session, refusal) => {
                 self.mark(Whom::One(session), SessionMark::Told(Told::ForAnother));
-                Came::Ending(session, refusal)
+                SeatOutcome::Later {
+                    refusal,
+                    ending: Some(session),
+                    left: self.left,
+                }
             }
-            Coming::Refused(refusal) => Came::Turned(Turned::ByBook(refusal)),
+            Coming::Refused(refusal) => SeatOutcome::Turned(Turned::ByBook(refusal)),
         }
     }
 
@@ -112,7 +115,7 @@ impl<A: Allocator + Clone> LockedSite<A> {
 
     /// Lets one in whom the book allows it: its tenant is admitted, its grant entered, itself listed, and its share begun.
     #[tactic(auto, using(crate::proofs::Lists::has_place, crate::proofs::Lists::listed_open, crate::proofs::Comings::turned_away))]
-    fn let_in(&mut self, comer: &Comer) -> Came
+    fn let_in(&mut self, comer: &Comer) -> SeatOutcome
         requires { met self.old comer.now.who comer.now.ask comer.now.at comer.now.most ≡ Enters }
         ensures { IsCame self.old comer.now.who comer.now.ask comer.now.at comer.now.most result self.new }
     {
@@ -122,9 +125,9 @@ impl<A: Allocator + Clone> LockedSite<A> {
                 let _grants = self.booked.book().grants();
                 self.roll.enter(comer.who, number, comer.at);
                 share(&mut self.shares, comer.who, number);
-                Came::Seated(number)
+                SeatOutcome::Seated(SiteSeat::new(comer.who, number))
             }
-            Err(turned) => Came::Turned(turned),
+            Err(turned) => SeatOutcome::Turned(turned),
         }
     }
 
@@ -140,9 +143,10 @@ impl<A: Allocator + Clone> LockedSite<A> {
     /// A session leaves: its tenant leaves the hall, its grant is taken back, it is listed no more, and shares no more.
     /// False where it isn't there.
     #[tactic(auto, using(crate::proofs::Lists::listed_close))]
-    pub(crate) fn leave(&mut self, who: Who, number: u64) -> bool
-        ensures { IsSessionGone self.old who number result self.new }
+    pub(crate) fn leave(&mut self, seat: &SiteSeat) -> bool
+        ensures { IsSessionGone self.old seat.now.who seat.now.number result self.new }
     {
+        let (who, number) = (seat.who, seat.number);
         let LockedSite {
             booked,
             roll,
@@ -244,36 +248,12 @@ impl<A: Allocator + Clone> LockedSite<A> {
         Ok(())
     }
 
-    /// Offers a worker's step to the hall.
-    pub(crate) fn offer(&mut self, step: &Step<Jamboree>) -> StepAnswer
-        requires { is_worker_step step.now ≡ true }
-        ensures step { IsSiteStep self.old step.now result self.new }
-        ensures memory { result ≢ Err OutOfMemory }
-    {
-        self.take(step)
-    }
-
     /// How a seat's job stands, as `shown` tells it; `NoJob` where the seat asked for no job of this number.
     pub(crate) fn get(&self, seat: &SiteSeat, job: u64) -> Result<Outcome, Refusal>
         ensures shown { IsShown (seat_asked_at seat.now.asked job) result }
         ensures told { (told : Option OutcomeOf) × IsOutcomeIn (job_of self.now.booked.hall.shared seat.now.number job) told × IsToldBy (seat_asked_at seat.now.asked job) told result }
     {
-        let told = self.booked.hall().outcome(seat.number(), job);
-        match seat_asked_at(seat.asked(), job) {
-            Some(asked) => Ok(shown(asked, told)),
-            None => Err(Refusal::NoJob),
-        }
-    }
-
-    /// Whether a seat goes on waiting for this job: it is there and hasn't ended, the session wasn't told to end, and the desk isn't
-    /// closed.
-    pub(crate) fn keeps_waiting(&self, number: u64, job: u64) -> bool
-        ensures { result ≡ site_waits_on self.now number job }
-    {
-        match self.booked.hall().outcome(number, job) {
-            Some(Outcome::Pending) => !self.closed && self.stays(number),
-            _ => false,
-        }
+        told_of(self.booked.hall(), seat.number(), seat.asked(), job)
     }
 
     /// Whether a session is there and wasn't told to end.
@@ -283,45 +263,18 @@ impl<A: Allocator + Clone> LockedSite<A> {
         stays_in(self.roll.entries(), number)
     }
 
-    /// The segments, nodes and steps that a tenant has left; `NoTenant` where it isn't there.
-    pub(crate) fn quota(&self, number: u64) -> Result<Left, Refusal>
-        ensures { result ≡ found_or_no_tenant (left_in_core self.now.booked.hall.shared number) }
+    /// The segments, nodes and steps that a seat's tenant has left; `NoTenant` where it isn't there.
+    pub(crate) fn quota(&self, seat: &SiteSeat) -> Result<Left, Refusal>
+        ensures { result ≡ found_or_no_tenant (left_in_core self.now.booked.hall.shared seat.now.number) }
     {
-        self.booked
-            .hall()
-            .core()
-            .left(number)
-            .ok_or(Refusal::NoTenant)
+        left_of(self.booked.hall(), seat.number())
     }
 
-    /// How many frames a tenant has, and how many words these have together; `NoTenant` where it isn't there.
-    pub(crate) fn live(&self, number: u64) -> Result<(usize, usize), Refusal>
-        ensures { result ≡ found_or_no_tenant (live_of self.now.booked.hall.shared number) }
+    /// How many frames a seat's tenant has, and how many words these have together; `NoTenant` where it isn't there.
+    pub(crate) fn live(&self, seat: &SiteSeat) -> Result<(usize, usize), Refusal>
+        ensures { result ≡ found_or_no_tenant (live_of self.now.booked.hall.shared seat.now.number) }
     {
-        self.booked
-            .hall()
-            .core()
-            .live(number)
-            .ok_or(Refusal::NoTenant)
-    }
-
-    /// Whether a worker that waits may go on: the desk is closed, or some frame is ready.
-    pub(crate) fn has_news(&self) -> bool
-        ensures { result ≡ site_has_news self.now }
-    {
-        self.closed || self.booked.hall().core().any_ready().is_some()
-    }
-
-    /// A frame that is ready, with its home; `None` where no frame is ready or the desk is closed. The frame isn't taken: it stays
-    /// ready until a worker's step takes it.
-    pub(crate) fn next_ready(&self) -> Option<(FrameId, u8)>
-        ensures { IsNextFrame self.now result }
-    {
-        if self.closed {
-            None
-        } else {
-            self.booked.hall().core().any_ready()
-        }
+        live_of(self.booked.hall(), seat.number())
     }
 
     /// The task that comes next, by who was served least: the newest ready frame of a tenant of a customer that none with a ready frame
@@ -333,63 +286,11 @@ impl<A: Allocator + Clone> LockedSite<A> {
         fair_task(hall, &mut self.shares)
     }
 
-    /// The task that a worker is given after it has waited: a pick, or a ready frame of a tenant that doesn't share; `None` where no
-    /// frame is ready or the desk is closed. The frame isn't taken.
-    pub(crate) fn next_task(&mut self) -> Option<Task>
-        ensures { IsNextTask self.old result self.new }
-    {
-        if self.closed {
-            return None;
-        }
-        match self.pick() {
-            Some(task) => Some(task),
-            None => self.any_task(),
-        }
-    }
-
-    /// A ready frame of any tenant, as a task.
-    fn any_task(&self) -> Option<Task>
-        ensures { IsAnyTask self.now result }
-    {
-        match self.booked.hall().core().any_ready() {
-            Some((frame, home)) => Some(Task { frame, home }),
-            None => None,
-        }
-    }
-
     /// This tenant was served so much more, if it is one that shares.
-    pub(crate) fn charge(&mut self, tenant: u64, amount: u64)
+    fn charge(&mut self, tenant: u64, amount: u64)
         ensures { self.new ≡ record self.old { shares = charged_to tenant amount self.old.shares } }
     {
         charge(&mut self.shares, tenant, amount);
-    }
-
-    /// Counts one worker more that sleeps until a frame is ready, modulo 2^32.
-    pub(crate) fn begin_sleep(&mut self)
-        ensures { self.new ≡ record self.old { sleepers = (self.old.sleepers + 1) % 2 ^ 32 } }
-    {
-        self.sleepers = self.sleepers.wrapping_add(1);
-    }
-
-    /// Counts one worker fewer that sleeps, modulo 2^32.
-    pub(crate) fn end_sleep(&mut self)
-        ensures { self.new ≡ record self.old { sleepers = (self.old.sleepers + 4294967295) % 2 ^ 32 } }
-    {
-        self.sleepers = self.sleepers.wrapping_sub(1);
-    }
-
-    /// Whether some worker sleeps until a frame is ready.
-    pub(crate) fn has_sleepers(&self) -> bool
-        ensures { result ≡ not (self.now.sleepers == 0) }
-    {
-        self.sleepers > 0
-    }
-
-    /// Marks the desk as closed. To wake those who wait is the caller's part.
-    pub(crate) fn close(&mut self)
-        ensures { self.new ≡ record self.old { closed = true } }
-    {
-        self.closed = true;
     }
 
     /// How many steps the hall has taken since it was made.
@@ -435,20 +336,55 @@ impl<A: Allocator + Clone> LockedSite<A> {
         listed.try_extend_from_slice(self.roll.entries()).unwrap();
         listed
     }
+}
 
-    /// Takes the hall and the book out.
-    pub(crate) fn into_booked(self) -> BookedHall<A>
-        ensures { result ≡ self.booked }
-    {
-        let LockedSite {
-            booked,
-            roll: _roll,
-            shares: _shares,
-            closed: _,
-            sleepers: _,
-            left: _,
-        } = self;
-        booked
+impl<A: Allocator + Clone> UnderLock for LockedSite<A> {
+    ghost use Rattle.desk.specs.Counts.{has_ready};
+    ghost use Rattle.fair_share.specs.Picks.{IsFairTask};
+    ghost use Rattle.site_desk.specs.Sites.{IsSiteStep, IsNextTask, site_waits_on};
+
+    type Badge = SiteBadge;
+
+    ghost is_offered = { IsSiteStep };
+
+    ghost has_ready = { λ site. has_ready site.booked.hall.shared };
+
+    ghost waits_on = { site_waits_on };
+
+    ghost is_next = { IsNextTask };
+
+    // What is said of a pick is that it is a fair one at the hall as it is then.
+    ghost is_fair = { λ site task. IsFairTask site.booked.hall.shared site.shares task };
+
+    fn offer(&mut self, badge: &mut SiteBadge, step: &Step<Jamboree>) -> StepAnswer {
+        let answer = self.take(step);
+        if answer.is_ok() {
+            badge.steps += 1;
+        }
+        answer
+    }
+
+    fn has_ready(&self) -> bool {
+        has_ready(self.booked.hall())
+    }
+
+    fn waits_on(&self, tenant: u64, job: u64) -> bool {
+        self.stays(tenant) && is_awaited(self.booked.hall(), tenant, job)
+    }
+
+    fn next_task(&mut self) -> Option<Task> {
+        match self.pick() {
+            Some(task) => Some(task),
+            None => next_ready(self.booked.hall()),
+        }
+    }
+
+    fn pick(&mut self) -> Option<Task> {
+        self.pick()
+    }
+
+    fn charge(&mut self, tenant: u64, amount: u64) {
+        self.charge(tenant, amount);
     }
 }
 

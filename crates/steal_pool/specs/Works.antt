@@ -13,13 +13,9 @@ use Rattle.task_deques.specs.pool_rules.declared.turn.Action.TheVariants.{Bring,
 use Rattle.task_deques.specs.pool_rules.declared.turn.Holding.{Holding}
 use Rattle.task_deques.specs.pool_rules.declared.turn.Holding.TheVariants.{Nothing, Next}
 use Rattle.task_deques.specs.pool_rules.Turns.{turn_after}
+use Rattle.desk.specs.Counts.{share_after}
 use Rattle.steal_pool.specs.declared.order.Order.{Order}
 use Rattle.steal_pool.specs.Orders.{is_due, since_after}
-
--- a badge's share after an answer: one more where the step was taken
-abbrev pub share_after : ℕ → Result (DidOf Leaf) Refusal → ℕ
-share_after share (Ok did) = share + 1
-share_after share (Err refusal) = share
 
 -- a worker's seats after a turn: the turn's task, if it made one, is the newest of its own deque or was handed back, and else nothing has
 -- changed

@@ -8,7 +8,7 @@
 //! the workplace chooses by who was served least or has waited longest, so that nobody waits for a neighbour.
 //!
 //! With a frame a worker does turn after turn (`pool_rules`): each turn is one step, offered to the hall under its
-//! lock by [`HeldHall::offer`] and by nothing else (steps that follow each other under one lock, [`steps`]), or one
+//! lock by [`desk::DeskGuard::offer`] and by nothing else (steps that follow each other under one lock, [`steps`]), or one
 //! computation outside all locks. A frame that becomes ready by its step is pushed on the worker's deque; where there
 //! is no room it stays ready in the hall, where it is found again. A worker that is without a frame while it has the
 //! lock goes on with a pick where one is due, or with the newest task of its own deque, under the same lock, up to 32 steps in all.
@@ -46,7 +46,6 @@
 pub use desk;
 
 mod announce;
-mod badge;
 mod gate;
 mod held;
 mod order;
@@ -58,9 +57,8 @@ mod worker;
 mod workplace;
 
 pub use announce::{Announce, Quiet};
-pub use badge::WorkerBadge;
 pub use gate::{Gate, OpenGate};
-pub use held::{HeldHall, steps};
+pub use held::steps;
 pub use order::{Order, Rhythm};
 pub use pool::{
     BeginFault, NotRun, PoolConfig, PoolEnd, PoolFault, PoolSizes, run_pool, run_pool_announced,

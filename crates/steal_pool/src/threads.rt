@@ -9,7 +9,6 @@ ghost use Rattle.task_deques.specs.Deals.{posts, posts_of, returned, returned_ro
 ghost use Rattle.steal_pool.specs.Announced.{IsUnsaid};
 
 use crate::announce::Announce;
-use crate::badge::WorkerBadge;
 use crate::gate::Gate;
 use crate::order::Order;
 use crate::pool::{BeginFault, NotRun, PoolFault, PoolSizes};
@@ -17,6 +16,7 @@ use crate::tasks::{SharedComputations, Tasks};
 use crate::worker::run_worker;
 use crate::workplace::Workplace;
 use core::thread::Stack;
+use desk::WorkerBadge;
 use sched_rules::Worker;
 use std::alloc::{AllocError, Global};
 use std::snapshot::Snapshot;

@@ -19,7 +19,7 @@ use std::sync::Wait;
 use task_deques::pool_rules::{Action, Holding, Task};
 
 /// Does tasks until the workplace is closed and none is found; before that it waits where it finds none. Returns the badge,
-/// whose share has grown by 1 for each step that the hall took, as every step goes through [`HeldHall::offer`](crate::HeldHall::offer),
+/// whose share has grown by 1 for each step that the hall took, as every step goes through [`desk::DeskGuard::offer`],
 /// and the tasks, whose ends are at the same deques as before.
 pub fn run_worker<'s, P: Workplace, G: Gate, R: Wait>(
     rt: &R,

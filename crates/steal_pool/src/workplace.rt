@@ -1,11 +1,9 @@
 //! Where workers work: a hall under a lock.
-use crate::badge::WorkerBadge;
 use crate::gate::Gate;
-use crate::held::{HeldHall, steps};
+use crate::held::steps;
 use crate::tasks::Tasks;
-use desk::jamboree::Jamboree;
-use desk::{Badge, Desk, DeskGuard, DeskLedger, StepAnswer};
-use sched_rules::{Step, Worker};
+use desk::{Badge, Desk, DeskLedger, WorkerBadge};
+use sched_rules::Worker;
 use std::sync::Wait;
 use task_deques::pool_rules::{Holding, Task};
 
@@ -47,28 +45,7 @@ pub trait Workplace {
     fn next_task<R: Wait>(&self, rt: &R) -> Option<Task>;
 }
 
-// Nobody shares a desk's hall, so nothing that was picked would be fair, and nobody is charged.
-impl<'d, L: DeskLedger> HeldHall for DeskGuard<'d, L> {
-    type Badge = Badge<L>;
-
-    ghost is_fair = { λ _ _. ⊥ };
-
-    fn offer<R: Wait>(
-        &mut self,
-        rt: &R,
-        badge: &mut Badge<L>,
-        step: &Step<Jamboree>,
-    ) -> StepAnswer {
-        self.offer(rt, badge, step)
-    }
-
-    fn pick(&mut self) -> Option<Task> {
-        None
-    }
-
-    fn charge(&mut self, _tenant: u64, _amount: u64) {}
-}
-
+// Nobody shares a desk's hall, so there is no pick.
 impl<L: DeskLedger> Workplace for Desk<L> {
     type Badge = Badge<L>;
 
@@ -89,10 +66,15 @@ impl<L: DeskLedger> Workplace for Desk<L> {
         gate: &G,
         holding: Holding,
     ) -> Holding {
-        let mut held = self.hold(rt, badge);
-        let holding = steps(rt, &mut held, worker, badge, tasks, gate, holding);
-        held.release();
-        holding
+        steps(
+            rt,
+            self.hold(rt, badge),
+            worker,
+            badge,
+            tasks,
+            gate,
+            holding,
+        )
     }
 
     fn pick<R: Wait>(&self, _rt: &R) -> Option<Task> {

@@ -7,7 +7,7 @@ use hall::{DidOf, LeafAnswer, Outcome, StepOf, Worker};
 use othello_board::Board;
 use position_text::{Position, Side};
 use site_book::{Told, Who, Whom};
-use site_desk::{SiteBadge, SiteDesk, SiteGuard, SiteSeat};
+use site_desk::{LockedSite, SiteBadge, SiteDesk, SiteSeat};
 use std::alloc::Global;
 use std::process::Abort;
 use std::sync::Wait;
@@ -15,6 +15,7 @@ use std::sync::atomic::{AtomicU64, Ordering};
 use std::thread;
 use std::thread::{Scope, Threads};
 use std::time::{Clock, CpuClock, Duration};
+use steal_pool::desk::DeskGuard;
 
 /// As many sessions as a hall takes.
 const MANY: u64 = 64;
@@ -106,7 +107,7 @@ fn come_to_rest<C: Clock + CpuClock>(clock: &C) -> bool {
 /// The five steps of a worker that compute and finish the job of a frame, while it holds the desk. Whether they are taken.
 fn finish<R: Wait>(
     rt: &R,
-    held: &mut SiteGuard<'_>,
+    held: &mut DeskGuard<'_, LockedSite>,
     badge: &mut SiteBadge,
     worker: Worker,
     root: FrameId,

@@ -4,8 +4,8 @@ ghost use Rattle.std.specs.Prelude.{◌≡◌, true};
 ghost use Rattle.hall.specs.Journals.{is_worker_step};
 
 use desk::{
-    Badge, Config, Desk, DeskGuard, DeskLedger, Hall, Jamboree, LeafAnswer, Outcome, Refusal, Seat,
-    Step, StepAnswer, StepOf, Worker,
+    Badge, Config, Desk, DeskGuard, DeskLedger, Hall, Jamboree, LeafAnswer, LockedHall, Outcome,
+    Refusal, Seat, Step, StepAnswer, StepOf, Worker,
 };
 use frame_table::FrameId;
 use othello_board::Board;
@@ -192,7 +192,7 @@ fn step_of(worker: Worker, frame: FrameId, turn: Turn) -> Step<Jamboree>
 /// A worker that holds the desk does this with a frame: what it is answered.
 pub fn offer_held<L: DeskLedger, R: Wait>(
     rt: &R,
-    held: &mut DeskGuard<'_, L>,
+    held: &mut DeskGuard<'_, LockedHall<L>>,
     badge: &mut Badge<L>,
     worker: Worker,
     frame: FrameId,

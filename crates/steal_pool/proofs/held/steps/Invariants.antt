@@ -3,4 +3,4 @@ use Rattle.task_deques.specs.Deals.{posts}
 use Rattle.steal_pool.proofs.held.steps.Given as goal
 
 abbrev pub invariant-loop : goal.invariant-loop
-invariant-loop g l = (posts l.tasks.ends ≡ posts l.initial.tasks.ends) × (g.H.Badge.WorkerBadge.share l.badge ≤ g.H.Badge.WorkerBadge.share l.initial.badge + l.counter)
+invariant-loop g l = (posts l.tasks.ends ≡ posts l.initial.tasks.ends) × (g.T.Badge.WorkerBadge.share l.badge ≤ g.T.Badge.WorkerBadge.share l.initial.badge + l.counter)

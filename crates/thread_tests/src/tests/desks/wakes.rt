@@ -5,7 +5,7 @@ use super::{Said, crowd, root_of, worker_of};
 use crate::tests::calls::{At, Turn, offer_held};
 use crate::tests::signs::{is_silent, others_work, pass, used_by_others};
 use crate::tests::{holds, holds_that};
-use desk::{Badge, DeskGuard, DeskLedger, DidOf};
+use desk::{Badge, DeskGuard, DeskLedger, DidOf, LockedHall};
 use frame_table::FrameId;
 use std::process::Abort;
 use std::sync::Wait;
@@ -73,7 +73,7 @@ impl<L: DeskLedger, R: Wait + Abort> At<'_, L, R> {
 /// The first root of the tenant of a worker's number, which the worker has taken, opens and has a child, by two steps.
 pub(super) fn opens<L: DeskLedger, R: Wait + Abort>(
     rt: &R,
-    held: &mut DeskGuard<'_, L>,
+    held: &mut DeskGuard<'_, LockedHall<L>>,
     badge: &mut Badge<L>,
     number: u8,
 ) -> FrameId {

@@ -1,0 +1,28 @@
+//! What a worker offers steps with.
+use desk_rules::Backoff;
+
+/// What a worker offers steps with: it counts those that were taken, and knows how long its worker waits for the lock.
+pub trait WorkerBadge: Drop {
+    ghost use Rattle.std.specs.Prelude.{◌≡◌, ℕ};
+
+    /// Its share: how many steps were taken with it, and with those that were joined to it.
+    ghost share: { Self → ℕ };
+
+    /// What has to hold of the workplace that two badges may be joined.
+    ghost may_join: { Type 0 };
+
+    /// Its share.
+    fn share(&self) -> u128
+        ensures { result ≡ share self.now };
+
+    /// How long its worker waits between two tries to take the lock.
+    fn backoff(&self) -> Backoff;
+
+    /// Its worker waits so long from now on.
+    fn wait_by(&mut self, backoff: Backoff)
+        ensures { share self.new ≡ share self.old };
+
+    /// One badge in place of two.
+    fn joined(self, other: Self) -> Self
+        requires { may_join };
+}
