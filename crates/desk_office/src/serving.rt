@@ -1,6 +1,9 @@
 //! Sessions at a desk.
-ghost use Rattle.std.specs.Prelude.{◌≡◌};
+ghost use Rattle.std.specs.Prelude.{◌≡◌, Option};
+ghost use Rattle.sched_rules.specs.declared.step.StepOf.{StepOf};
 ghost use Rattle.session.specs.DoneLines.{TrueSession};
+ghost use Rattle.desk.specs.Traces.{Known};
+ghost use Rattle.hall.specs.jamboree_rules.declared.leaf.LeafAnswer.{LeafAnswer};
 ghost use Rattle.desk_office.specs.Answers.{SeenSession};
 
 use crate::office::DeskOffice;
@@ -13,7 +16,8 @@ use std::sync::Wait;
 /// Serves one session of one tenant at a desk, up to a line `BYE`, the end of the source, or a failure of source or
 /// sink (`serve_lines`); in each case the tenant has left when it returns. Each line `DONE k` that it writes has the
 /// minimax value and the best choice of the position and the depth of the k-th `ASK` line that was answered by `JOB`,
-/// and each line `TABLE k` with entries their table. What else the lines say `serve_desk_seen` says.
+/// and each line `TABLE k` with entries their table. And there is something that the tenant's seat then knew of the desk's history
+/// by which the session is one that `serve_desk_seen` promises.
 pub fn serve_desk<S: Source, K: Sink, L: DeskLedger, R: Wait, A: Allocator + Clone>(
     rt: &R,
     source: &mut S,
@@ -21,7 +25,8 @@ pub fn serve_desk<S: Source, K: Sink, L: DeskLedger, R: Wait, A: Allocator + Clo
     desk: &Desk<L, A>,
 ) -> Result<End, SessionFault>
     requires { L.all ≡ L.parts }
-    ensures { TrueSession S.gives K.takes source.old sink.old source.new sink.new result }
+    ensures lines { TrueSession S.gives K.takes source.old sink.old source.new sink.new result }
+    ensures seen { (knew : Option (Known (StepOf LeafAnswer))) × SeenSession L.begun S.gives K.takes source.old sink.old source.new sink.new result knew }
 {
     let (result, _knew) = serve_desk_seen(rt, source, sink, desk);
     result

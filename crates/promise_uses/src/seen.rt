@@ -32,6 +32,7 @@ ghost use Rattle.session.specs.Sessions.{calls_for, talk_result, texts_for, IsWr
 ghost use Rattle.promises.specs.Replies.{SearchStep};
 
 use desk::{Desk, DeskLedger, Trace};
+use desk_office::serve_desk;
 use hall::{Jamboree, Step};
 use line_io::{Sink, Source};
 use promises::serve;
@@ -95,6 +96,30 @@ where
         × (seat_steps number (steps_of known.seen) ≡ known.mine)) }
 {
     serve(rt, source, sink, desk)
+}
+
+/// The same where nothing that the seat knew is given back: there is what it knew. Uses `desk_office::serve_desk` (`seen`).
+pub fn hello_and_bye_untold<S, K, L, R, A>(
+    rt: &R,
+    source: &mut S,
+    sink: &mut K,
+    desk: &Desk<L, A>,
+) -> Result<End, SessionFault>
+where
+    S: Source,
+    K: Sink,
+    L: DeskLedger,
+    R: Wait,
+    A: Allocator + Clone,
+    requires { L.all ≡ L.parts }
+    ensures { (knew : Option (Known SearchStep)) × (lines : List LineText) × (replies : List OfficeReply) × ((quota : Quota) (known : Known SearchStep) →
+        calls_for lines replies ≡ (Hello quota, Welcome quota) ∷ (Leave, Gone) ∷ [] → knew ≡ Some known →
+        (number : ℕ) × (before between : List (ℕ × SearchStep))
+        × (known.seen ≡ ((before ++ (known.maker, Admit number quota) ∷ []) ++ between) ++ (known.maker, LeaveStep number) ∷ [])
+        × (seat_steps number (steps_of between) ≡ [])
+        × (seat_steps number (steps_of known.seen) ≡ known.mine)) }
+{
+    serve_desk(rt, source, sink, desk)
 }
 
 /// Serves one session. Where the calls that its lines made were HELLO, an ASK to depth 3 that got a number, a WAIT for job 1 that was

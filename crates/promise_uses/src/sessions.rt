@@ -32,7 +32,7 @@ use std::sync::Wait;
 /// last answer is left. Where the lines are `HELLO 4 8`, one that asks for a position, and one that waits for its job,
 /// and the replies are a Welcome, a Job and what the done job came to, then that is job 1, and the third answer is
 /// `DONE 1` with the minimax value and the best choice of that position; where the third line asks for the table, the
-/// answer is `TABLE 1` with that position's table. Uses `desk_office::serve_desk`.
+/// answer is `TABLE 1` with that position's table. Uses `desk_office::serve_desk` (`lines`).
 pub fn third_answer<S, K, L, R, A>(
     rt: &R,
     source: &mut S,
