@@ -1,6 +1,5 @@
 -- Lists of steps that ask for searches with enough.
-use Rattle.promise_uses.proofs.Common.{◌≡◌, ℕ, List, [], ◌∷◌, ◌++◌, Option, Some, None, refl, sym, ap, ◌∙◌, ◌≤◌, arith, StepOf, Submit, Tenant, left_of, alone_from, AreSearches, jamboree, root_words, frame_size}
-use Rattle.std.specs.Prelude.{bit_and}
+use Rattle.promise_uses.proofs.Common.{◌≡◌, ℕ, List, [], ◌∷◌, ◌++◌, Option, Some, None, ap, ◌∙◌, ◌≤◌, arith, StepOf, Submit, Tenant, left_of, alone_from, AreSearches, jamboree}
 use Rattle.othello_board.specs.Words.{cells_of}
 use Rattle.sched_rules.specs.Lone.{lone}
 use Rattle.sched_rules.specs.Runs.{state_after}

@@ -1,4 +1,4 @@
-use Rattle.promise_uses.proofs.Common.{refl, arith, Some, jamboree}
+use Rattle.promise_uses.proofs.Common.{refl, arith}
 use Rattle.sched_rules.specs.Trees.{admitted_with}
 use Rattle.promise_uses.proofs.Reserving.{rest-finds, has-enough}
 use Rattle.promise_uses.proofs.reserved.nine_asks_to_depth_eight.Goals as goal

@@ -1,5 +1,6 @@
-use Rattle.promise_uses.proofs.Common.{refl, arith, sym, subst, Option, Some, Tenant, ◌∷◌, ◌×◌}
+use Rattle.promise_uses.proofs.Common.{refl, arith, sym, subst, List, Option, Tenant, ◌∷◌, StepOf, Admit, Submit, None, root_words, frame_size}
 use Rattle.sched_rules.specs.Trees.{admitted_with}
+use Rattle.jamboree_rules.specs.declared.leaf.LeafAnswer.{LeafAnswer}
 use Rattle.jamboree_core.specs.Enough.{EachFindsEnough}
 use Rattle.promise_uses.proofs.Reserving.{rest-finds, finds-after, has-enough}
 use Rattle.promise_uses.proofs.reserved.seven_asks_again.Goals as goal
@@ -11,6 +12,8 @@ returns c quota own opp own_then opp_then serial first later between tenant fram
     let ended = rest-finds 4 _ later none_then in
     let has = has-enough 6 4 refl (law.any 6 4) law.two_plies (admitted_with quota) own opp refl (omega (arith, segments)) (omega (arith, nodes)) in
     let again = has-enough 6 4 refl (law.any 6 4) law.two_plies between own_then opp_then idle segments_left nodes_left in
-    let both = finds-after 4 _ _ _ ((tt, (has, begun.0)), (tt, ((record { own = own; opp = opp; depth = 6; are = refl; apart = apart; shallow = omega arith }, refl), begun.1)))
-    (subst (λ (o : Option Tenant). EachFindsEnough 4 o _) (sym came) (again, ended.0), ((record { own = own_then; opp = opp_then; depth = 6; are = refl; apart = apart_then; shallow = omega arith }, refl), ended.1)) in
+    let asks : List (StepOf LeafAnswer) = Submit 7 (root_words own_then opp_then 6) frame_size ∷ later in
+    let finds = subst (λ (o : Option Tenant). EachFindsEnough 4 o asks) (sym came) (again, ended.0) in
+    let both = finds-after 4 None (Admit 7 quota ∷ Submit 7 (root_words own opp 6) frame_size ∷ first) asks ((tt, (has, begun.0)), (tt, ((record { own = own; opp = opp; depth = 6; are = refl; apart = apart; shallow = omega arith }, refl), begun.1)))
+    (finds, ((record { own = own_then; opp = opp_then; depth = 6; are = refl; apart = apart_then; shallow = omega arith }, refl), ended.1)) in
     law.never 4 _ tenant 7 serial frame is both.1 both.0 at
