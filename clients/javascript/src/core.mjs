@@ -19,6 +19,17 @@ const RAISED = [{ segments: 512, nodes: 16384 }, { segments: 1024, nodes: 32768 
 const PROBES = ["-O-------O-------OXOO---XOXXOO--OOXXOOO---OXO------OO----------- X", "-----X-------XX---OOOXO---OXX----OOOOXO---OO--X--OXO------X----- X"];
 const [FEW_NODES, LEAST_PROBE, LAST_PROBE] = [50, 2, 8];
 
+/** What a session has to have left so that a search, its only one then, is never spent, whatever the load; null where no session can have as much. */
+export function enough({ cells }, depth, grain) {
+  const [empty, black, white] = ["-", "X", "O"].map((cell) => cells.split(cell).length - 1);
+  let [segments, nodes] = [1, 1];
+  for (let ply = Math.max(1, depth - grain) - 1; ply >= 0; ply -= 1) {
+    const most = Math.min(Math.max(empty - ply, 0), ply ? 56 : 8 * Math.max(black, white), 56);
+    [segments, nodes] = [1 + Math.ceil((12 + most) / 16) + most * segments, 2 + Math.max(2 * most - 1, 0) * nodes];
+  }
+  return segments <= 4096 && nodes <= 65536 ? { segments, nodes } : null;
+}
+
 /**
  * Finds out how deep a server looks: by INFO where it knows that, else by how many nodes two positions take from depth to depth. Yields lines and takes
  * their answers, null for one that is refused.

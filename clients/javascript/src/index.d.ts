@@ -43,6 +43,9 @@ export declare class Position {
   equals(other: unknown): boolean;
 }
 
+/** What a session has to have left so that a search, its only one then, is never spent, whatever the load; null where no session can have as much. */
+export declare function enough(position: Position, depth: number, grain: number): { readonly segments: number; readonly nodes: number } | null;
+
 /** As the player `side` sees it. Scores of one side are ordered by `<`. */
 export declare class Score {
   constructor(value: number, sign?: Sign, ends?: boolean, side?: Side);

@@ -3,7 +3,7 @@ import assert from "node:assert/strict";
 import fs from "node:fs";
 import test from "node:test";
 import { parse } from "../src/answers.mjs";
-import { Broken, IllegalMove, Position, Refused, Score } from "../src/index.mjs";
+import { Broken, enough, IllegalMove, Position, Refused, Score } from "../src/index.mjs";
 
 const SIGNS = { n: "\n", r: "\r", t: "\t", "\\": "\\" };
 const spelled = (text) => text.replaceAll(/\\(x(..)|.)/g, (_, sign, byte) => (byte ? String.fromCharCode(parseInt(byte, 16)) : SIGNS[sign]));
@@ -51,4 +51,10 @@ test("rules", () => {
 
 test("scores", () => {
   for (const [value, sign, ends, text] of rows("score")) assert.equal(String(new Score(Number(value), sign, ends === "1")), text);
+});
+
+test("what is never spent", () => {
+  for (const [text, depth, grain, segments, nodes] of rows("enough")) {
+    assert.deepEqual(enough(Position.parse(text), Number(depth), Number(grain)), nodes === "-" ? null : { segments: Number(segments), nodes: Number(nodes) }, text);
+  }
 });

@@ -2,7 +2,7 @@
 import pathlib
 
 import pytest
-from coluwen import Broken, IllegalMove, Position, Refused, Score
+from coluwen import Broken, IllegalMove, Position, Refused, Reservation, Score, enough
 from coluwen._answers import Answer, parse
 from rows import bytes_of
 
@@ -52,3 +52,8 @@ def test_play(text: str, move: str, after: str) -> None:
 @pytest.mark.parametrize("value, sign, ends, text", rows("score"))
 def test_score(value: str, sign: str, ends: str, text: str) -> None:
     assert str(Score(int(value), sign, ends == "1")) == text
+
+
+@pytest.mark.parametrize("text, depth, grain, segments, nodes", rows("enough"))
+def test_enough(text: str, depth: str, grain: str, segments: str, nodes: str) -> None:
+    assert enough(Position.parse(text), int(depth), int(grain)) == (Reservation(int(segments), int(nodes)) if nodes != "-" else None)

@@ -7,7 +7,7 @@
 What is named here, in `coluwen.aio` (the same for asyncio) and in `coluwen.formats` (the formats of the Othello world) is the package's public
 part, and changes as CHANGELOG.md promises; any other module is its own matter.
 """
-from ._core import Info, Reservation
+from ._core import Info, Reservation, enough
 from .aio import AsyncClient
 from .analyst import Analyst, Outcome, Progress, Result
 from .board import BLACK, PASS, SQUARES, START, WHITE, Board, Move, Position
@@ -22,5 +22,5 @@ __all__ = [
     "BLACK", "FAULTS", "PASS", "SQUARES", "START", "WHITE", "Analyst", "AsyncClient", "AsyncEngine", "Board", "Broken", "Cancelled", "Client",
     "Closed", "ColuwenError", "Done", "Engine", "Entry",
     "Fallback", "FormatError", "IllegalMove", "Info", "Late", "Live", "Move", "Outcome", "Pending", "Position", "Progress", "Quota", "Refused", "Reservation", "Result", "Score",
-    "Session", "Silent", "Spent", "TooDeep", "Unreachable", "connect", "tls_context", "token_in",
+    "Session", "Silent", "Spent", "TooDeep", "Unreachable", "connect", "enough", "tls_context", "token_in",
 ]  # fmt: skip

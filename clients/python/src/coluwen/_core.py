@@ -17,6 +17,7 @@ from collections.abc import Callable, Generator
 from typing import Any, NamedTuple, Protocol
 
 from ._answers import LONGEST, Answer, parse
+from .board import BLACK, WHITE, Position
 from .errors import Broken, Closed, ColuwenError, Late, Refused, Silent, TooDeep, Unreachable
 
 DEEPEST = 12  # plies that a server looks at most
@@ -41,6 +42,16 @@ class Reservation:
 
     segments: int
     nodes: int
+
+
+def enough(position: Position, depth: int, grain: int) -> Reservation | None:
+    """What a session has to have left so that a search, its only one then, is never SPENT, whatever the load (docs/PROTOCOL.md, "What to reserve"); None
+    where no session can have as much. A client reserves less by itself."""
+    segments = nodes = 1
+    for ply in reversed(range(max(1, depth - grain))):
+        most = min(max(position.empties - ply, 0), 56 if ply else 8 * max(position.discs(BLACK), position.discs(WHITE)), 56)
+        segments, nodes = 1 + (27 + most) // 16 + most * segments, 2 + max(2 * most - 1, 0) * nodes
+    return Reservation(segments, nodes) if segments <= 4096 and nodes <= 65536 else None
 
 
 LEVELS = (Reservation(256, 8192), Reservation(1024, 65536))  # what the first session has, and what one has at most

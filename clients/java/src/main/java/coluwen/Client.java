@@ -41,7 +41,7 @@ public final class Client implements Analyst {
 
   private Client(Builder options) {
     this.options = options;
-    var levels = options.isFree ? Core.LEVELS : List.of(new Core.Reservation(options.segments, options.nodes));
+    var levels = options.isFree ? Core.LEVELS : List.of(new Reservation(options.segments, options.nodes));
     core = new Core(new Core.Limits(levels, options.isFree, options.token, options.sessions, options.ahead,
         options.patience.toMillis(), options.silence.toMillis(), options.outage.toMillis()),
         new Core.Hands(seat -> Calls.daemon(() -> serve(seat), "coluwen-session").start(), this::write, seat -> shut(sockets.remove(seat)),

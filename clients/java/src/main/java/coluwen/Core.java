@@ -22,9 +22,6 @@ final class Core {
   private static final int LOSSES = 4; // a question isn't asked again once so many sessions were lost with it
   private static final double NEVER = Double.POSITIVE_INFINITY;
 
-  /** So many segments and nodes. */
-  record Reservation(int segments, int nodes) {}
-
   // What is reserved where nobody says it: by the first session, and at most; between them RESERVE raises.
   static final List<Reservation> LEVELS = List.of(new Reservation(256, 8192), new Reservation(1024, 65536));
   private static final List<Reservation> RAISED = List.of(new Reservation(512, 16384), new Reservation(1024, 32768), LEVELS.get(1));

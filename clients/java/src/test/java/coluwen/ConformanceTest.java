@@ -70,4 +70,13 @@ class ConformanceTest {
   void scores() throws IOException {
     for (var row : rows("score")) assertEquals(row.get(3), new Score(Integer.parseInt(row.get(0)), row.get(1).charAt(0), row.get(2).equals("1"), 'X').toString());
   }
+
+  @Test
+  void whatIsNeverSpent() throws IOException {
+    for (var row : rows("enough")) {
+      var found = Reservation.enough(Position.parse(row.get(0)), Integer.parseInt(row.get(1)), Integer.parseInt(row.get(2)));
+      assertEquals(row.get(4), found.map(each -> String.valueOf(each.nodes())).orElse("-"), row.toString());
+      assertEquals(row.get(3), found.map(each -> String.valueOf(each.segments())).orElse("-"), row.toString());
+    }
+  }
 }
