@@ -2,6 +2,7 @@
 //! positions after so many choices.
 use super::{OPENING, holds, holds_at, opening};
 use arrayvec::ArrayVec;
+use jamboree_core::enough;
 use leaf_search::{INF, Scored, search};
 use othello_board::{Board, Cell, Direction};
 use othello_eval::{Valued, eval, final_value, plain};
@@ -84,6 +85,22 @@ const FOUND: Scored = Scored {
 #[test]
 fn opening_at_depth_2(rt: HostRuntime) {
     holds(&rt, search(OPENING, 2, -INF, INF) == FOUND);
+}
+
+/// How many segments and nodes suffice for a position to a depth at a grain; 0 of each where no tenant can have as much.
+fn sufficing(board: Board, depth: u8, grain: u8) -> (u32, u32) {
+    match enough(board, depth, grain) {
+        Some(reserve) => (reserve.segments(), reserve.nodes()),
+        None => (0, 0),
+    }
+}
+
+#[test]
+fn what_suffices(rt: HostRuntime) {
+    holds(&rt, sufficing(OPENING, 6, 4) == (995, 3505));
+    holds(&rt, sufficing(OPENING, 0, 4) == (19, 33));
+    holds(&rt, sufficing(OPENING, 12, 0) == (0, 0));
+    holds(&rt, sufficing(LOST, 12, 0) == (2, 2));
 }
 
 const TEXT: &[u8; 66] = b"---------------------------OX------XO--------------------------- X";
