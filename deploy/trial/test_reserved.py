@@ -17,14 +17,14 @@ class Deep:
     """A tenant whose searches take all that it has reserved, one session after another, until it is to end."""
 
     def __init__(self, site: Site, number: int):
-        self.site, self.number, self.spent, self.ended = site, number, 0, False
+        self.site, self.number, self.ended = site, number, False
         self.session: From | None = None
 
     def run(self) -> None:
         while not self.ended:
-            with contextlib.suppress(Exception), self.site.opened(address_of(100 + self.number), 700, 60000) as self.session:
+            with contextlib.suppress(Exception), self.site.opened(address_of(100 + self.number), 500, 60000) as self.session:
                 while not self.ended:
-                    self.spent += self.session.wait(self.session.ask_line(LONG)) == ("SPENT",)
+                    self.session.wait(self.session.ask_line(LONG))
 
     def end(self) -> None:
         self.ended = True
@@ -37,7 +37,10 @@ def ends(site: Site, number: int, line: str) -> object:
     depth, _, position = line.partition(" ")
     reserved = enough(Position.parse(position), int(depth), GRAIN)
     assert reserved
-    with site.opened(address_of(number % ASKERS), reserved.segments, reserved.nodes) as session:
+    session = None
+    while session is None:  # until who ended before has left
+        session, _ = site.told(address_of(number), reserved.segments, reserved.nodes)
+    with session:
         return session.wait(session.ask_line(line))
 
 
