@@ -17,7 +17,9 @@ import java.io.IOException;
 import java.nio.file.Files;
 import java.nio.file.Path;
 import java.time.Duration;
+import java.time.Instant;
 import java.util.ArrayList;
+import java.util.Comparator;
 import java.util.List;
 import java.util.Optional;
 import java.util.concurrent.CompletableFuture;
@@ -120,31 +122,25 @@ class EngineTest {
     assertThrows(IllegalArgumentException.class, () -> engine.analyse(OPENING, 13));
   }
 
+  /** The process that was begun first: one that is only being begun isn't the program yet. */
+  private static Optional<ProcessHandle> oldest() {
+    return ProcessHandle.current().children().min(Comparator.comparing(child -> child.info().startInstant().orElse(Instant.MAX)));
+  }
+
   @Test
   void tenThousandAreAnsweredInOrderWhileProcessesAreKilled() throws Exception {
     var positions = new ArrayList<Position>();
     for (var game = OPENING; positions.size() < 10000; game = game.isOver() ? OPENING : game.play(game.legalMoves().get(0))) positions.add(game.side() == 'X' ? game : game.flip());
     try (var many = Engine.start(program(FALSE), 4, null)) {
-      var killer = new Thread(() -> {
-        for (int round = 0; round < 20; round += 1) {
-          ProcessHandle.current().children().findAny().ifPresent(ProcessHandle::destroyForcibly);
-          try {
-            Thread.sleep(20);
-          } catch (InterruptedException fault) {
-            return;
-          }
-        }
-      });
-      killer.start();
       try (var outcomes = many.analyseMany(positions, 4)) {
         var at = new int[1];
         outcomes.forEach(outcome -> {
+          if (at[0] % 500 == 0) oldest().ifPresent(ProcessHandle::destroyForcibly);
           assertEquals(positions.get(at[0]++), outcome.question());
           assertEquals(40, outcome.result().score().value());
         });
         assertEquals(10000, at[0]);
       }
-      killer.join();
     }
   }
 
