@@ -1,7 +1,7 @@
 //! The peer of `othello solve --ordered`, in plain Rust for AVX2: the search of `ordered_peer.rs`.
 //!
 //! usage: ordered < LINES                     answers lines `depth position` by `value move entered`
-//!        ordered positions COUNT DEPTH       writes so many lines, of positions by `positions.rs`
+//!        ordered COUNT DEPTH LEAST MOST      writes so many lines, of positions so many plies after the opening
 #[macro_use]
 mod searches;
 
@@ -14,8 +14,9 @@ mod vectors;
 fn main() {
     assert!(kernels::has_v3(), "the processor doesn't run x86-64-v3");
     let words: Vec<String> = std::env::args().skip(1).collect();
-    if let [_, count, depth] = words.as_slice() {
-        for (own, opp) in positions::positions(count.parse().expect("a number")) {
+    if let [count, depth, least, most] = words.as_slice() {
+        let number = |word: &String| word.parse().expect("a number");
+        for (own, opp) in positions::drawn(number(count), number(least), number(most)) {
             println!("{depth} {} X", (0..64).map(|at| cell(own, opp, at)).collect::<String>());
         }
         return;
