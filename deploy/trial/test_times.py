@@ -139,7 +139,6 @@ def test_who_was_served_much_is_served_again_where_new_ones_keep_coming() -> Non
                     asked = time.monotonic()
                     assert guest.wait(guest.ask_line(f"10 {OPENING}"))[0] == "DONE"
                     assert time.monotonic() - asked < 20, f"{time.monotonic() - asked:.0f} s beside {sum(begun)} sessions"
-                    print(f"{time.monotonic() - asked:.2f} s beside {sum(begun)}")
         finally:
             over.set()
             for each in crowd:

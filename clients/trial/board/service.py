@@ -47,7 +47,7 @@ def try_policy(address):
         check(headers["X-Content-Type-Options"] == "nosniff" and headers["Referrer-Policy"] == "no-referrer", f"{path}: its headers")
         check(status == (404 if path == "no/such" else 200), f"{path}: {status}")
     text = asked(address)[1]
-    check(not re.search(r"<script(?![^>]*src=)|\sstyle=|https?://|\son\w+=", text), "the page has scripts or styles within, or foreign addresses")
+    check(not re.search(r"<script(?![^>]*src=)|\sstyle=|(?:src|href)=.(?:https?:)?//|\son\w+=", text), "the page has scripts or styles within, or foreign addresses")
     tag = asked(address + "style.css")[2]["ETag"]
     check(asked(address + "style.css", headers={"If-None-Match": tag})[0] == 304, "a file is sent again")
     for path in ("../web.py", "%2e%2e/web.py", "js/../../web.py", "static/index.html", "js/", "//etc/passwd", "js/main.js%00", "/[", "class/%00", "?name=%00&x=[".replace("?", "none?")):
