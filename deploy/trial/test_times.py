@@ -57,7 +57,7 @@ def test_who_takes_no_answer_is_ended() -> None:
         session.socket.settimeout(1)
         with contextlib.suppress(OSError):
             session.socket.sendall(b"TABLE 1\n" * 400000)
-        until(lambda: not site.has(), 60, "what it had is given back")
+        until(lambda: not site.has(), 400, "what it had is given back")  # 500 lines a second, until the kernel's buffers are full
         session.socket.close()
 
 
