@@ -2,8 +2,8 @@
 ghost use Rattle.std.specs.Prelude.{◌≡◌, true, false, ℕ, [], ◌∷◌, Some, None, map};
 ghost use Rattle.fair_share.specs.Accounts.{is_before, capped_sum};
 ghost use Rattle.fair_share.specs.Lines.{account_at, least_served, floor_of, has_rival, woken, rested_at, charged};
-ghost use Rattle.fair_share.specs.Waits.{is_ahead, Comes, Wakes, Rests, Serves, Picks, picks_in, tasks_in};
-ghost use Rattle.fair_share.specs.Shares.{new_shares, tenant_entered, entered_place, customer_at, network_at, tenant_seen, left_all};
+ghost use Rattle.fair_share.specs.Waits.{is_ahead, is_older, Comes, Wakes, Rests, Serves, Picks, Longs, picks_in, long_picks_in, tasks_in};
+ghost use Rattle.fair_share.specs.Shares.{new_shares, pick_counted, tenant_entered, entered_place, customer_at, network_at, tenant_seen, left_all};
 ghost use Rattle.fair_share.specs.Rows.{account, four, three, served};
 
 /// Two were served as much: the one that has waited for longer comes before the other. One that was served less comes before
@@ -69,4 +69,22 @@ pub fn who_is_ahead()
 pub fn tasks_and_picks()
     ensures picks { picks_in (Wakes 1 ∷ Serves 0 5 ∷ Picks 1 7 ∷ Rests 1 ∷ Picks 0 1 ∷ []) ≡ 2 }
     ensures tasks { tasks_in (Wakes 1 ∷ Serves 0 5 ∷ Picks 1 7 ∷ Rests 1 ∷ Picks 0 1 ∷ []) ≡ 3 }
+{}
+
+/// Of the four the first has waited since the third turn: itself, and those that wait since the second and the first, have waited as long. Once
+/// it is served it waits since then; one that isn't active waits for nothing.
+pub fn who_has_waited_as_long()
+    ensures older { map (is_older (account 1 0 50 3)) four.accounts ≡ true ∷ true ∷ false ∷ true ∷ [] }
+    ensures served { account_at (charged 0 7 four).accounts 0 ≡ account 1 0 57 4 }
+    ensures turn { (charged 0 7 four).turn ≡ 5 }
+    ensures rests { account_at (charged 2 7 four).accounts 2 ≡ account 3 0 17 0 }
+{}
+
+/// Each fourth pick is of who has waited longest, the first after three others; it is a task too, and no pick of who was served least.
+pub fn each_fourth_pick()
+    ensures first { (pick_counted (new_shares 2)).picks ≡ 1 }
+    ensures fourth { (pick_counted (pick_counted (pick_counted (pick_counted (new_shares 2))))).picks ≡ 0 }
+    ensures longs { long_picks_in (Picks 1 7 ∷ Longs 0 1 ∷ Serves 0 5 ∷ Longs 3 2 ∷ []) ≡ 2 }
+    ensures picks { picks_in (Picks 1 7 ∷ Longs 0 1 ∷ Serves 0 5 ∷ Longs 3 2 ∷ []) ≡ 1 }
+    ensures tasks { tasks_in (Picks 1 7 ∷ Longs 0 1 ∷ Serves 0 5 ∷ Longs 3 2 ∷ []) ≡ 4 }
 {}
