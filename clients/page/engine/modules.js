@@ -4,7 +4,7 @@ export const MODULES = {
   "binaryen": "wasm-opt version 108",
   "verdict": "logic=proved functions=12 target=wasm64-unknown-unknown sum=dac8208d650f15bf native=nat,char,string logic-built=trusted libraries-built=trusted statements=trusted incremental=trusted",
   "integrity": {
-    "page64.wasm": "sha256-bBDuDcp+Kw0BdzjGTAfTWcBeQdO/WEmE7DDAlzEFH2I=",
-    "page32.wasm": "sha256-8bC/VZxER2YmC02HXa/JFsuIOxU4jYoG1qn3hKJPeaM="
+    "page64.wasm": "sha256-phWZv8qmURnZcJSutkzBL+R0zohARiEMosuYJ+fNffU=",
+    "page32.wasm": "sha256-qZUKUGnERdra1bMLmHsIs1ljZWaLUHPbDUdvtjcRBAA="
   }
 };

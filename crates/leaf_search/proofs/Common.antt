@@ -20,7 +20,7 @@ pub use Rattle.othello_board.specs.declared.cells.Cell.{Cell}
 pub use Rattle.othello_eval.proofs.MinimaxLemmas.{best_choice-deeper, best_choice-leaf, best_choice-over, find-kept, find-new, found-below-greatest}
 pub use Rattle.othello_eval.proofs.MinimaxLemmas.{greatest_or-lower, greatest_or-upper, minimax-deeper, minimax-over, minimax-leaf-there}
 pub use Rattle.othello_eval.proofs.ValueLemmas.{known-within}
-pub use Rattle.othello_eval.proofs.othello_moves_DescentLemmas.{choices-fit, goes_down, passing}
+pub use Rattle.othello_eval.proofs.othello_moves_DescentLemmas.{goes_down, passing}
 pub use Rattle.othello_eval.specs.Minimax.{choice_value, greatest, greatest_or, int_equal, minimax}
 pub use Rattle.othello_eval.specs.Values.{IsWithin, final_value}
 pub use Rattle.othello_eval.specs.othello_moves.Choices.{after, choices, plies}

@@ -1,5 +1,5 @@
 -- The list of the choices of a board, one choice after another.
-use Rattle.leaf_search.proofs.Common.{append-nil, append_assoc, ◌≡◌, ◌<◌, ◌≤◌, ◌+◌, ℕ, suc, length, List, [], ◌∷◌, ◌++◌, map, refl, sym, ◌∙◌, ap, ap₂, subst, arith, Contains, Contains-append_right, length-append, length-map, map-append, choices, Choice, Cell, Ranked, numbered, numbered_choice, choices-fit, IsPermutation, IsPermutation-map, length_permutation, take, drop, refill, take-append_seam, drop-cons, get_or, length-drop, eqb, Bool, false, pos, Square}
+use Rattle.leaf_search.proofs.Common.{append-nil, append_assoc, ◌≡◌, ◌<◌, ◌≤◌, ◌+◌, ℕ, suc, length, List, [], ◌∷◌, ◌++◌, map, refl, sym, ◌∙◌, ap, ap₂, subst, arith, Contains, Contains-append_right, length-append, length-map, map-append, choices, Choice, Cell, Ranked, numbered, numbered_choice, IsPermutation, IsPermutation-map, length_permutation, take, drop, refill, take-append_seam, drop-cons, get_or, length-drop, eqb, Bool, false, pos, Square}
 use Rattle.leaf_search.proofs.RankingLemmas.{length-numbered, numbered-push}
 
 -- the items are the choices taken so far, numbered
@@ -22,9 +22,9 @@ module _ {board : List Cell} {items : List Ranked} {left : List Choice} (s : IsL
     pub IsListed-next : Contains (choices board) c
     IsListed-next = subst (λ cs. Contains cs c) split-next (Contains-append_right s.taken (c ∷ rest) c (0, omega arith, refl))
 
-    -- there is room
-    pub IsListed-room : length items < 64
-    IsListed-room = omega (arith, as-many, ap length split-next, length-append s.taken (c ∷ rest), choices-fit board)
+    -- there is room, as a board has few choices
+    pub IsListed-room : length (choices board) ≤ 56 → length items < 56
+    IsListed-room few = omega (arith, as-many, ap length split-next, length-append s.taken (c ∷ rest), few)
 
     pub IsListed-turn : (r : Ranked) → r.choice ≡ c → r.place ≡ length items → IsListed board (items ++ r ∷ []) rest
     IsListed-turn r choice place = record {

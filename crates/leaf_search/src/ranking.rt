@@ -7,10 +7,11 @@ ghost use Rattle.leaf_search.specs.Ranking.{numbered, numbered_choice};
 
 use arrayvec::ArrayVec;
 use othello_eval::Weighed;
+use othello_eval::othello_moves::laws::choices_are_few;
 use othello_eval::othello_moves::{Choice, Choices, Mobility};
 
-/// The most choices that a list has room for.
-pub(crate) const MOST_CHOICES: usize = 64;
+/// The most choices that a list has room for: no board has more.
+pub(crate) const MOST_CHOICES: usize = 56;
 
 /// A choice, and the key by which it is taken. The board after it isn't kept: with boards a list takes 2 kilobytes and not half of one,
 /// and laying it out takes longer than to make the boards again that are searched.
@@ -52,6 +53,7 @@ fn key_of(after: Weighed) -> i32 {
 fn listed(weighed: Weighed) -> ArrayVec<Ranked, MOST_CHOICES>
     ensures { map numbered_choice result.items ≡ numbered 0 (choices (cells weighed.board)) }
 {
+    choices_are_few();
     let mut ranked = ArrayVec::new();
     let mut left = Choices::new(weighed.board);
     while let Some(choice) = left.pop_first() {

@@ -6,7 +6,7 @@ pub after-requires : goal.after-requires
 after-requires c = IsListed-next c.loop-choice.invariant c.in-Some.ensures.cases
 
 pub push-requires : goal.push-requires
-push-requires c = let room = IsListed-room c.loop-choice.invariant c.in-Some.ensures.cases in search rules
+push-requires c = let room = IsListed-room c.loop-choice.invariant c.in-Some.ensures.cases (c.choices_are_few.ensures.most (cells c.args.weighed.board)) in search rules
 
 pub loop-choice-preserved : goal.loop-choice-preserved
 loop-choice-preserved c =
