@@ -4,6 +4,7 @@ ghost use Rattle.std.specs.Option.{option_map_or};
 ghost use Rattle.othello_board.specs.Words.{cells_of, bits_of};
 ghost use Rattle.othello_board.specs.Rules.{squares, is_legal};
 ghost use Rattle.othello_moves.specs.Choices.{choices};
+ghost use Rattle.othello_moves.specs.Depths.{greatest_depth};
 ghost use Rattle.page_engine.specs.leaf_search.othello_eval.Values.{IsWithin};
 ghost use Rattle.page_engine.specs.leaf_search.othello_eval.Minimax.{minimax, best_choice, choice_value};
 ghost use Rattle.page_engine.specs.Codes.{after_code, analysis_code, choice_of_code, no_analysis, no_value, opp_bits, own_bits, turn_code};
@@ -99,9 +100,9 @@ pub extern "C" fn opp_after(own: u64, opp: u64, choice: u32) -> u64
 /// The two come in one number, as the memory of a page's module holds no place that a page could name.
 #[unsafe(no_mangle)]
 pub extern "C" fn analyse(own: u64, opp: u64, depth: u32) -> i64
-    ensures value { bit_and own opp ≡ 0 → depth ≤ DEEPEST → result ≡ analysis_code (minimax depth (cells_of own opp)) (best_choice depth (cells_of own opp)) }
+    ensures value { bit_and own opp ≡ 0 → depth ≤ greatest_depth → result ≡ analysis_code (minimax depth (cells_of own opp)) (best_choice depth (cells_of own opp)) }
     ensures no_board { bit_and own opp ≢ 0 → result ≡ no_analysis }
-    ensures too_deep { DEEPEST < depth → result ≡ no_analysis }
+    ensures too_deep { greatest_depth < depth → result ≡ no_analysis }
 {
     if depth > u32::from(DEEPEST) {
         return NO_ANALYSIS;
@@ -120,11 +121,11 @@ pub extern "C" fn analyse(own: u64, opp: u64, depth: u32) -> i64
 /// depth is 0 or above 12.
 #[unsafe(no_mangle)]
 pub extern "C" fn choice_value(own: u64, opp: u64, depth: u32, choice: u32) -> i32
-    ensures value { bit_and own opp ≡ 0 → 0 < depth → depth ≤ DEEPEST → result ≡ option_map_or (choice_value depth (cells_of own opp)) (choice_of_code (cells_of own opp) choice) no_value }
-    ensures within { bit_and own opp ≡ 0 → 0 < depth → depth ≤ DEEPEST → IsSome (choice_of_code (cells_of own opp) choice) → IsWithin 128000 result }
+    ensures value { bit_and own opp ≡ 0 → 0 < depth → depth ≤ greatest_depth → result ≡ option_map_or (choice_value depth (cells_of own opp)) (choice_of_code (cells_of own opp) choice) no_value }
+    ensures within { bit_and own opp ≡ 0 → 0 < depth → depth ≤ greatest_depth → IsSome (choice_of_code (cells_of own opp) choice) → IsWithin 128000 result }
     ensures no_board { bit_and own opp ≢ 0 → result ≡ no_value }
     ensures no_depth { depth ≡ 0 → result ≡ no_value }
-    ensures too_deep { DEEPEST < depth → result ≡ no_value }
+    ensures too_deep { greatest_depth < depth → result ≡ no_value }
 {
     if depth == 0 || depth > u32::from(DEEPEST) {
         return NO_VALUE;
