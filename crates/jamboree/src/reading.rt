@@ -1,5 +1,6 @@
 //! Replies, read and shown.
 ghost use Rattle.std.specs.Prelude.{◌≡◌, ◌≤◌, ◌<◌, ◌↔◌, true, Some, IsSome, IfSome, length, map, slice_get, slice_index, take};
+ghost use Rattle.othello_moves.specs.Depths.{greatest_depth};
 ghost use Rattle.jamboree_rules.specs.Places.{frame_of, entry_rest, are_entries};
 ghost use Rattle.jamboree_rules.specs.Entries.{bounds_of};
 ghost use Rattle.jamboree.specs.Knowledge.{known_of, bound_by};
@@ -10,7 +11,7 @@ use crate::reply::{MOST, Reply};
 use crate::view::{kept_entries, kept_view};
 use jamboree_rules::othello_eval::{Bound, BoundKind};
 use othello_board::Board;
-use othello_moves::{Choice, DEEPEST, choice};
+use othello_moves::{Choice, choice};
 
 /// What is known of the choices with these entries, in their order; the places after them hold a filler.
 fn known_in(entries: &[u64]) -> [KnownBound; MOST]
@@ -80,7 +81,7 @@ impl Reply {
     /// The depth, 0 to 12 plies.
     pub fn depth(&self) -> u8
         ensures value { result ≡ depth_of self.now }
-        ensures shallow { result ≤ DEEPEST }
+        ensures shallow { result ≤ greatest_depth }
     {
         self.depth
     }
