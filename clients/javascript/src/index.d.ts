@@ -5,11 +5,7 @@ type Listened = Parameters<EventTarget["addEventListener"]>;
 
 /** What the numbers of `ERR` say. */
 export declare const FAULTS: Readonly<Record<number, string>>;
-export declare const START: string;
-export declare const SQUARES: readonly string[];
-export declare const PASS: "pass";
-export declare const HOST: string;
-export declare const PORT: number;
+export declare const START: string, SQUARES: readonly string[], PASS: "pass", HOST: string, PORT: number;
 
 /** Whatever this package throws of its own. Where an argument is none, it throws RangeError or TypeError before anything is sent; of a text FormatError. */
 export declare class ColuwenError extends Error {}
@@ -108,11 +104,9 @@ export type Secure = boolean | object;
 export type Dial = (place: { host: string; port: number; secure: Secure }, heard: Heard) => Link;
 
 export interface PlaceOptions {
-  host?: string;
-  port?: number;
+  host?: string; port?: number; token?: string;
   /** TLS: true, or what `tls.connect` takes. */
   secure?: Secure;
-  token?: string;
   /** What connects, where it isn't node's own sockets. */
   dial?: Dial;
 }

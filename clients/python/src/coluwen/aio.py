@@ -14,10 +14,9 @@ from collections.abc import AsyncIterable, AsyncIterator, Callable, Iterable
 from typing import Self
 
 from ._core import Info
-from .analyst import END, Many, Order, Outcome, Progress, Q, Result, all_of, checked, moves_of, parts_of, steps_of
+from .analyst import END, Many, Order, Outcome, Progress, Q, Result, all_of, checked, deepening, moves_of, parts_of
 from .board import Position
 from .client import Served
-from .errors import Late, TooDeep
 from .score import Entry
 
 
@@ -43,17 +42,10 @@ class AsyncClient(Served):
 
     async def deepen(self, position: str | Position, depth: int | None = None, *, timeout: float | None = None) -> AsyncIterator[Result]:
         """As `Client.deepen`."""
-        found, begun = None, asyncio.get_running_loop().time()
-        for step in steps_of(position, depth):
-            try:
-                left = None if timeout is None else max(begun + timeout - asyncio.get_running_loop().time(), 0.001)
-                yield (found := await self.analyse(position, step, timeout=left))
-            except Late:
-                raise Late(timeout or 0.0, found) from None
-            except TooDeep:
-                if depth is None:
-                    return
-                raise
+        with deepening(position, depth, timeout) as (steps, found):
+            for step, left in steps:
+                found.append(await self.analyse(position, step, timeout=left))
+                yield found[-1]
 
     async def analyse_many(self, positions: Iterable[Q] | AsyncIterable[Q], depth: int | None = None, *, order: Order = "asked", timeout: float | None = None,
                            window: int | None = None, on_progress: Callable[[Progress], object] | None = None) -> AsyncIterator[Outcome[Q]]:  # fmt: skip

@@ -83,11 +83,19 @@ def checked(position: str | Position, depth: int, least: int = 0) -> Position:
         raise Unfit(*fault.args) from None
 
 
-def steps_of(position: str | Position, depth: int | None) -> list[int]:
-    """The depths of a search that deepens: no further than there are empty squares, as that is the game's end."""
-    place = checked(position, DEEPEST if depth is None else depth)
-    aim = min(DEEPEST if depth is None else depth, place.empties)
-    return [*range(2, aim, 2), aim]
+@contextlib.contextmanager
+def deepening(position: str | Position, depth: int | None, timeout: float | None) -> Iterator[tuple[Iterator[tuple[int, float | None]], list[Result]]]:
+    """The depths of a search that deepens, each with the seconds that are left, and where its results go: no further than there are empty squares, as that is
+    the game's end. `Late` has the last result; where no depth was named `TooDeep` ends it."""
+    most, begun, found = DEEPEST if depth is None else depth, time.monotonic(), list[Result]()
+    aim = min(most, checked(position, most).empties)
+    try:
+        yield ((step, None if timeout is None else max(begun + timeout - time.monotonic(), 0.001)) for step in (*range(2, aim, 2), aim)), found
+    except Late:
+        raise Late(timeout or 0.0, found[-1] if found else None) from None
+    except TooDeep:
+        if depth is not None:
+            raise
 
 
 def settle(future: concurrent.futures.Future[Result], outcome: Result | BaseException) -> None:
@@ -236,17 +244,10 @@ class Analyst(abc.ABC):
     def deepen(self, position: str | Position, depth: int | None = None, *, timeout: float | None = None) -> Iterator[Result]:
         """The results of a position 2, 4, 6 .. plies deep and at last `depth` (the greatest that can be had, where none is named), each as soon as it is known, by
         searches of their own. `Late` after `timeout` seconds in all: its `deepest` is the last result, None where there is none."""
-        found, begun = None, time.monotonic()
-        for step in steps_of(position, depth):
-            try:
-                left = None if timeout is None else max(begun + timeout - time.monotonic(), 0.001)
-                yield (found := self.analyse(position, step, timeout=left))
-            except Late:
-                raise Late(timeout or 0.0, found) from None
-            except TooDeep:
-                if depth is None:
-                    return
-                raise
+        with deepening(position, depth, timeout) as (steps, found):
+            for step, left in steps:
+                found.append(self.analyse(position, step, timeout=left))
+                yield found[-1]
 
     def analyse_many(self, positions: Iterable[Q], depth: int | None = None, *, order: Order = "asked", timeout: float | None = None, window: int | None = None,
                      on_progress: Callable[[Progress], object] | None = None) -> Iterator[Outcome[Q]]:  # fmt: skip

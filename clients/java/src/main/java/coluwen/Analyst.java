@@ -49,31 +49,10 @@ public interface Analyst extends AutoCloseable {
    * The results of a position 2, 4, 6 .. plies deep and at last {@code depth}, each as soon as it is known, by searches of their own. {@code Late} after this time in all
    * (null: no limit), which has the deepest.
    */
-  default Stream<Result> deepen(Position position, int depth, Duration timeout) {
-    Calls.checked(depth);
-    var aim = Math.min(depth, position.empties());
-    var until = System.nanoTime() + (timeout == null ? 0 : timeout.toNanos());
-    var last = new Result[1];
-    return IntStream.concat(IntStream.iterate(2, step -> step < aim, step -> step + 2), IntStream.of(aim)).mapToObj(step -> {
-      try {
-        return last[0] = analyse(position, step, timeout == null ? timeout() : Duration.ofNanos(Math.max(until - System.nanoTime(), 1_000_000)));
-      } catch (Late fault) {
-        throw new Late(fault.getMessage(), last[0]);
-      }
-    });
-  }
+  default Stream<Result> deepen(Position position, int depth, Duration timeout) { return Many.deepened(this, position, depth, timeout, false); }
 
   /** The same up to the greatest depth that can be had. */
-  default Stream<Result> deepen(Position position, Duration timeout) {
-    var found = deepen(position, Core.DEEPEST, timeout).iterator();
-    return Stream.generate(() -> {
-      try {
-        return found.hasNext() ? found.next() : null;
-      } catch (TooDeep fault) {
-        return null;
-      }
-    }).takeWhile(Objects::nonNull);
-  }
+  default Stream<Result> deepen(Position position, Duration timeout) { return Many.deepened(this, position, Core.DEEPEST, timeout, true); }
 
   /** Each move's value exactly, the best first, of equals the one from a1 on: one question for each position that a move leads to. */
   default List<Entry> analyseAll(Position position, int depth) {
@@ -134,6 +113,24 @@ public interface Analyst extends AutoCloseable {
 
 /** Many questions and their outcomes. */
 final class Many {
+  /** A position's results at one depth after another; {@code isEnd}: one that is too deep ends them. */
+  static Stream<Result> deepened(Analyst analyst, Position position, int depth, Duration timeout, boolean isEnd) {
+    Calls.checked(depth);
+    var aim = Math.min(depth, position.empties());
+    var until = System.nanoTime() + (timeout == null ? 0 : timeout.toNanos());
+    var last = new Result[1];
+    return IntStream.concat(IntStream.iterate(2, step -> step < aim, step -> step + 2), IntStream.of(aim)).mapToObj(step -> {
+      try {
+        return last[0] = analyst.analyse(position, step, timeout == null ? analyst.timeout() : Duration.ofNanos(Math.max(until - System.nanoTime(), 1_000_000)));
+      } catch (Late fault) {
+        throw new Late(fault.getMessage(), last[0]);
+      } catch (TooDeep fault) {
+        if (isEnd) return null;
+        throw fault;
+      }
+    }).takeWhile(Objects::nonNull);
+  }
+
   static <T> Stream<Outcome<T>> of(Analyst analyst, Iterable<T> questions, Function<? super T, Position> positionOf, int depth, Analyst.Bulk how) {
     class Outcomes implements Iterator<Outcome<T>> {
       private final Map<Integer, CompletableFuture<Result>> asked = new ConcurrentHashMap<>(); // what isn't known yet

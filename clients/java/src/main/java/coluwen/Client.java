@@ -103,23 +103,16 @@ public final class Client implements Analyst {
     /** The client. */
     public Client build() { return new Client(this); }
 
+    /** An option by its name, as an address says it. */
     private void set(String name, String value) throws IOException, GeneralSecurityException {
-      switch (name) {
-        case "tls" -> tls(value.isEmpty() || value.equals("0") ? null : value.equals("1") ? SSLContext.getDefault() : trusting(Path.of(value)));
-        case "token" -> token(Files.readString(Path.of(value)).strip());
-        case "sessions" -> sessions(Integer.parseInt(value));
-        case "ahead" -> ahead(Integer.parseInt(value));
-        case "segments" -> segments(Integer.parseInt(value));
-        case "nodes" -> nodes(Integer.parseInt(value));
-        case "silence" -> silence(seconds(value));
-        case "outage" -> outage(seconds(value));
-        case "patience" -> patience(seconds(value));
-        case "timeout" -> timeout(seconds(value));
-        default -> throw new IllegalArgumentException("there is no option " + name);
-      }
+      Map<String, IntFunction<Builder>> numbers = Map.of("sessions", this::sessions, "ahead", this::ahead, "segments", this::segments, "nodes", this::nodes);
+      Map<String, Function<Duration, Builder>> times = Map.of("silence", this::silence, "outage", this::outage, "patience", this::patience, "timeout", this::timeout);
+      if (name.equals("tls")) tls(value.isEmpty() || value.equals("0") ? null : value.equals("1") ? SSLContext.getDefault() : trusting(Path.of(value)));
+      else if (name.equals("token")) token(Files.readString(Path.of(value)).strip());
+      else if (numbers.containsKey(name)) numbers.get(name).apply(Integer.parseInt(value));
+      else if (times.containsKey(name)) times.get(name).apply(Duration.ofMillis(Math.round(1000 * Double.parseDouble(value))));
+      else throw new IllegalArgumentException("there is no option " + name);
     }
-
-    private static Duration seconds(String value) { return Duration.ofMillis(Math.round(1000 * Double.parseDouble(value))); }
 
     /** TLS by a file of authorities. */
     private static SSLContext trusting(Path authorities) throws IOException, GeneralSecurityException {

@@ -75,10 +75,7 @@ public class ColuwenException extends RuntimeException {
     Stopped() { super("it was stopped", null); }
   }
 
-  /**
-   * A position can't be searched so deep at the server's grain; {@code greatest} is a depth that can be had of each position, 0 where
-   * nothing is known of less.
-   */
+  /** A position can't be searched so deep at the server's grain; {@code greatest} is a depth that can be had of each position, 0 where nothing is known of less. */
   public static final class TooDeep extends ColuwenException {
     /** How deep it was asked. */
     private final int depth;

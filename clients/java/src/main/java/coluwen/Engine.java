@@ -39,8 +39,9 @@ public final class Engine implements Analyst {
   private final Deque<Process> spare = new ArrayDeque<>(); // those that search nothing
   private boolean isClosed;
 
-  private Engine(String program, int workers, int threads, Duration timeout) {
-    this.program = program;
+  private Engine(String named, int workers, int threads, Duration timeout) {
+    if (timeout != null) Calls.positive("timeout", timeout);
+    program = found(named == null ? System.getenv("COLUWEN_OTHELLO") : named);
     this.workers = workers;
     this.threads = threads;
     this.timeout = timeout;
@@ -54,22 +55,13 @@ public final class Engine implements Analyst {
   public static Engine start(int workers) { return start(null, workers, null); }
 
   /** The same of a program that is named (or null), with the time that a question may take from when its search begins (null: no limit). */
-  public static Engine start(String program, int workers, Duration timeout) {
-    Calls.within("workers", 1, workers, 1024);
-    if (timeout != null) Calls.positive("timeout", timeout);
-    return new Engine(found(program == null ? System.getenv("COLUWEN_OTHELLO") : program), workers, 0, timeout);
-  }
+  public static Engine start(String program, int workers, Duration timeout) { return new Engine(program, Calls.within("workers", 1, workers, 1024), 0, timeout); }
 
   /** An engine whose threads search each position together, by a server of its own ({@code othello serve}), which begins with the first question and ends with the engine. */
   public static Engine withThreads(int threads) { return withThreads(null, threads, null); }
 
   /** The same of a program that is named (or null), with the time that a question may take (null: no limit). */
-  public static Engine withThreads(String program, int threads, Duration timeout) {
-    Calls.within("threads", 1, threads, 32);
-    try (var alone = start(program, threads, timeout)) {
-      return new Engine(alone.program, threads, threads, timeout);
-    }
-  }
+  public static Engine withThreads(String program, int threads, Duration timeout) { return new Engine(program, threads, Calls.within("threads", 1, threads, 32), timeout); }
 
   /** {@code Engine[PROGRAM]}. */
   @Override

@@ -5,9 +5,7 @@ import coluwen.ColuwenException.IllegalMove;
 import java.util.*;
 import java.util.stream.IntStream;
 
-/**
- * 64 cells from a1 to h8, row by row (X black, O white, - empty), and the side to move. A move is a square, {@code d3}, or {@code pass}.
- */
+/** 64 cells from a1 to h8, row by row (X black, O white, - empty), and the side to move. A move is a square, {@code d3}, or {@code pass}. */
 public record Position(String cells, char side) {
   /** The word of a pass. */
   public static final String PASS = "pass";

@@ -2,7 +2,7 @@ package coluwen;
 
 import coluwen.ColuwenException.Unreachable;
 import java.io.IOException;
-import java.io.UncheckedIOException;
+import java.io.PrintStream;
 import java.time.Duration;
 import java.util.*;
 
@@ -19,7 +19,7 @@ final class Server implements AutoCloseable {
         "--workers", "" + threads, "--grain", "" + grain).redirectError(ProcessBuilder.Redirect.DISCARD).start();
     var told = Objects.requireNonNullElse(process.inputReader().readLine(), "");
     if (!told.matches("listening 127\\.0\\.0\\.1:\\d+")) {
-      end();
+      end(process);
       throw new Unreachable(program + " serves nothing", null);
     }
     client = Client.builder().port(Integer.parseInt(told.substring(told.indexOf(':') + 1))).silence(Duration.ofMinutes(1)).outage(Duration.ZERO).build();
@@ -38,18 +38,14 @@ final class Server implements AutoCloseable {
     }
   }
 
-  private void end() {
-    try {
-      process.getOutputStream().close();
-      process.onExit().join();
-    } catch (IOException fault) {
-      throw new UncheckedIOException(fault);
-    }
+  private static void end(Process process) {
+    new PrintStream(process.getOutputStream()).close();
+    process.onExit().join();
   }
 
   @Override
   public void close() {
     client.close();
-    end();
+    end(process);
   }
 }
