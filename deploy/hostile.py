@@ -227,6 +227,29 @@ def raise_on(address, port, _, hold_on):
             line.ask("QUOTA")
 
 
+def drum(address, port, chance, _):
+    """Lines that only look, without end: half read no answer, and half read all."""
+    with Line(address, port) as line:
+        line.ask("HELLO 64 1000")
+        line.ask(f"ASK 2 {GREAT}")
+        line.ask("WAIT 1")
+        line.socket.settimeout(10)
+        reads = chance.random() < 0.5
+        for _ in range(100):
+            line.send(b"TABLE 1\nQUOTA\nLIVE\nINFO\nGET 1\n" * 200)
+            for _ in range(1000 if reads else 0):
+                line.lines.readline()
+
+
+def choose(address, port, _, hold_on):
+    """Sessions that are held by addresses of which a number of halls leaves the same rest."""
+    with contextlib.ExitStack() as open_ones:
+        for number in (64, 128):
+            with contextlib.suppress(OSError):
+                open_ones.enter_context(Line(f"127.8.{address.split('.')[3]}.{number}", port)).ask("HELLO 1024 65536")
+        hold_on(5)
+
+
 def cut(address, port, chance, _):
     """Sessions that end at any byte, by an end or a reset."""
     data = f"HELLO 64 1000\nASK 2 {GREAT}\nRESERVE 65 1001\nRESERVE 65 20000\nWAIT 1\nTABLE 1\nBYE\n".encode()
@@ -238,7 +261,7 @@ def cut(address, port, chance, _):
         line.close(by_reset=chance.random() < 0.5)
 
 
-KINDS = (hold, climb, hog, crowd, churn, leave, flood, babble, be_silent, storm, drip, sip, guess, pretend, raise_on, cut)
+KINDS = (hold, climb, hog, crowd, churn, leave, flood, babble, be_silent, storm, drip, sip, guess, pretend, raise_on, drum, choose, cut)
 
 
 def customer(number, port, end, kind):

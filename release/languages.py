@@ -180,10 +180,15 @@ def try_maven(out, folder, address):
         fail(f"the jar's module is {modules}")
 
 
+def has_maven():
+    """Whether Maven is here with the plugins that it takes without a registry."""
+    return bool(shutil.which("mvn")) and all((MAVEN / f"org/apache/maven/plugins/maven-{name}-plugin").exists() for name in PLUGINS)
+
+
 def try_all(out):
     """What was tried, and what wasn't."""
     has_pip = pathlib.Path(PYTHON).exists() and subprocess.run([PYTHON, "-m", "pip", "--version"], capture_output=True, check=False).returncode == 0
-    trials = {"pip": (try_pip, has_pip), "npm": (try_npm, shutil.which("npm")), "maven": (try_maven, shutil.which("mvn") and all((MAVEN / f"org/apache/maven/plugins/maven-{name}-plugin").exists() for name in PLUGINS))}
+    trials = {"pip": (try_pip, has_pip), "npm": (try_npm, shutil.which("npm")), "maven": (try_maven, has_maven())}
     with tempfile.TemporaryDirectory() as tree, server(out, tree) as address:
         for name, (trial, is_here) in trials.items():
             if not is_here:

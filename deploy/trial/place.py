@@ -113,16 +113,17 @@ class From(stage.From):  # type: ignore[misc]
 class Site:
     """`othello_site` with deploy/site.toml at free ports. Sessions come to `port`: by HAProxy with TLS where `made` has its certificates, else as they are;
     `inner` is where a proxy hands connections on, and `clear` HAProxy's entrance without TLS. `terms` are changes of the file, `more` stands behind it. The variable `name` names the program.
-    The words `before` start it. With `apart` site and HAProxy have all of this host's processors but the last, where others can be as if at a host of their own."""
+    The words `before` start it. With `apart` site and HAProxy have all of this host's processors but the last, where others can be as if at a host of their own.
+    `page`: the port of the page's server, to which HAProxy hands HTTP on that comes to `web`."""
 
-    def __init__(self, made: dict[str, str] | None = None, terms: list[tuple[str, str]] | None = None, more: str = "", bare: bool = False, name: str = "SITE", apart: bool = False, before: tuple[str, ...] = ()):
-        self.made, self.bare, self.name = made, bare, name
+    def __init__(self, made: dict[str, str] | None = None, terms: list[tuple[str, str]] | None = None, more: str = "", bare: bool = False, name: str = "SITE", apart: bool = False, before: tuple[str, ...] = (), page: int = 0):
+        self.made, self.bare, self.name, self.page = made, bare, name, page
         self.on = ["taskset", "--cpu-list", ",".join(map(str, sorted(os.sched_getaffinity(0))[:-1]))] if apart and len(os.sched_getaffinity(0)) > 1 else []
         self.on += before
         self.folder = tempfile.TemporaryDirectory()
         root = pathlib.Path(self.folder.name)
         self.file, self.log, self.control = root / "site.toml", root / "log", f"{root}/control"
-        self.inner, self.health, self.plain, self.outer, self.clear, self.metrics_port = (free_port() for _ in range(6))
+        self.inner, self.health, self.plain, self.outer, self.clear, self.metrics_port, self.web = (free_port() for _ in range(7))
         moved = [("127.0.0.1:4720", f"127.0.0.1:{self.inner}"), ("127.0.0.1:4719", f"127.0.0.1:{self.health}"), ("/run/othello-site/control", self.control)]
         moved += [('# plain = "127.0.0.1:4711"', f'plain = "127.0.0.1:{self.plain}"')]
         self.file.write_text(replaced((TOP / "deploy/site.toml").read_text(), [*moved, *(terms or [])]) + more)
@@ -153,8 +154,12 @@ class Site:
             if os.geteuid() != 0:  # only root may take another user and another root
                 moved += [(f"  {line}\n", "") for line in ("user haproxy", "group haproxy", "chroot /var/lib/haproxy")]
             path.write_text(replaced((TOP / "deploy/haproxy.cfg").read_text(), moved))
+            if self.page:
+                moved = [("bind :443", f"bind 127.0.0.1:{self.web}"), ("bind [::]:443", f"bind [::1]:{self.web}"), ("/etc/haproxy", str(path.parent)), ("127.0.0.1:8047", f"127.0.0.1:{self.page}")]
+                path.with_name("web.cfg").write_text(replaced((TOP / "deploy/web.cfg").read_text(), moved))
+            files = ["-f", str(path), *(["-f", str(path.with_name("web.cfg"))] if self.page else [])]
             with self.log.open("a") as log:
-                self.proxy = subprocess.Popen([*self.on, "haproxy", "-db", "-f", str(path)], stdout=log, stderr=log)
+                self.proxy = subprocess.Popen([*self.on, "haproxy", "-db", *files], stdout=log, stderr=log)
                 self.groups["proxy"].add(self.proxy.pid)
             until(lambda: is_there(self.outer), 10, "HAProxy listens")
             time.sleep(1)  # until it has looked whether the site serves

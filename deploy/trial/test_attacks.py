@@ -1,6 +1,6 @@
-"""Each attack of hostile.py, by 54 addresses at once over TLS, in a control group of one processor: everybody else is served beside it, and all comes back.
-HAProxy and the site have the other processors, in groups of the weights that their units have. With --length 60 ten minutes of all: then 99.9 of 100 of a
-customer's calls take 100 ms at most. Calls during which this machine itself stood still (see stood.py) are left out, and counted."""
+"""Each attack of hostile.py, by 54 addresses (60 of those that only look) at once over TLS, in a control group of one processor: everybody else is served beside it,
+and all comes back. HAProxy and the site have the other processors, in groups of the weights that their units have. With --length 60 ten minutes of all, and of those
+that only look: then 99.9 of 100 of a customer's calls take 100 ms at most. Calls during which this machine itself stood still (see stood.py) are left out, and counted."""
 from __future__ import annotations
 
 import contextlib
@@ -15,7 +15,7 @@ import time
 from collections.abc import Iterator
 
 import pytest
-from place import LEFT, SCHOOL, SMALL, Answer, Group, Site, until
+from place import LEFT, LINES, SCHOOL, SMALL, Answer, Group, Site, solve, until
 from coluwen import Refused
 
 HERE = pathlib.Path(__file__).resolve().parent
@@ -24,6 +24,9 @@ import hostile  # noqa: E402
 
 LAST = max(os.sched_getaffinity(0))  # a processor: of those who aren't the host's
 KINDS = [each.__name__ for each in hostile.KINDS]
+LONG, IN_HALLS = ("", "drum"), ("", "drum", "choose")  # those with a longer trial, and those at a site with two halls
+FOUR = [f"4 {line.split(' ', 1)[1]}" for line in LINES]
+ONE_EACH = ("[guests.each]\nsessions = 4\nsegments = 4096\nnodes = 131072", "[guests.each]\nsessions = 1\nsegments = 1024\nnodes = 65536")
 
 
 class Beside:
@@ -48,7 +51,7 @@ class Beside:
                     moments.append(time.monotonic())
                     session.quota()
                     moments.append(time.monotonic())
-                    if not session.is_answered(number, self.wanted):
+                    if session.wait(session.ask_line(FOUR[number % len(FOUR)])) != self.wanted[number % len(FOUR)]:
                         self.faults.append("a wrong value")
                     moments.append(time.monotonic())
                 for name, begun, ended in zip(("WELCOME", "QUOTA", "ASK"), moments, moments[1:]):
@@ -89,12 +92,17 @@ def of_1000(took: list[float]) -> float:
     return took[len(took) * 999 // 1000]
 
 
+@pytest.fixture(scope="module")
+def answers() -> list[Answer]:
+    return solve(FOUR)
+
+
 @pytest.mark.parametrize("kind", ["", *KINDS])
-def test_everybody_else_is_served(kind: str, made: dict[str, str], wanted: list[Answer], length: int, capsys: pytest.CaptureFixture[str]) -> None:
-    seconds = 10 * length if not kind else 4
-    terms = [*LEFT, ("[guests.each]\nsessions = 4\nsegments = 4096\nnodes = 131072", "[guests.each]\nsessions = 1\nsegments = 1024\nnodes = 65536")]
-    with standing() as stood, Site(made, terms=terms, more=SCHOOL, apart=True) as site, Beside(site, wanted) as beside:
-        command = [sys.executable, str(pathlib.Path(hostile.__file__)), str(site.port), "54", str(seconds), *([kind] if kind else [])]
+def test_everybody_else_is_served(kind: str, made: dict[str, str], answers: list[Answer], length: int, capsys: pytest.CaptureFixture[str]) -> None:
+    seconds = 10 * length if kind in LONG else 4
+    terms = [*LEFT, ONE_EACH, *([("# halls = 1 ", "halls = 2 ")] if kind in IN_HALLS else [])]
+    with standing() as stood, Site(made, terms=terms, more=SCHOOL, apart=True) as site, Beside(site, answers) as beside:
+        command = [sys.executable, str(pathlib.Path(hostile.__file__)), str(site.port), "60" if kind == "drum" else "54", str(seconds), *([kind] if kind else [])]
         one = ["taskset", "--cpu-list", str(LAST)]
         attackers = Group("attackers")
         with subprocess.Popen([*one, *command], stdout=subprocess.PIPE, text=True, env={**os.environ, "TLS": "yes"}) as process:
@@ -115,5 +123,5 @@ def test_everybody_else_is_served(kind: str, made: dict[str, str], wanted: list[
         print(f"  left out: {whole - counted} of {whole} calls, in {len(stood)} moments in which a processor was away, {sum(end - begin for begin, end in stood):.2f} s")
     assert not beside.faults, beside.faults[:3]
     assert all(len(them) > 3 and them[-1] < 2 for them in took.values()), figures
-    if length >= 60 and not kind:
+    if length >= 60 and kind in LONG:
         assert all(of_1000(them) <= 0.1 for name, them in took.items() if name.endswith("a customer")), figures

@@ -159,6 +159,7 @@ def test_haproxy_takes_the_files(tmp_path: pathlib.Path, made: dict[str, str]) -
     needs("haproxy")
     (tmp_path / "othello.pem").write_text(pathlib.Path(made["host"] + ".pem").read_text())
     (tmp_path / "named.lst").touch()
-    (tmp_path / "haproxy.cfg").write_text((DEPLOY / "haproxy.cfg").read_text().replace("/etc/haproxy", str(tmp_path)))
-    said = subprocess.run(["haproxy", "-c", "-f", tmp_path / "haproxy.cfg", "-f", DEPLOY / "image/pod.cfg"], capture_output=True, text=True)
+    for name in ("haproxy.cfg", "web.cfg"):
+        (tmp_path / name).write_text((DEPLOY / name).read_text().replace("/etc/haproxy", str(tmp_path)))
+    said = subprocess.run(["haproxy", "-c", "-f", tmp_path / "haproxy.cfg", "-f", tmp_path / "web.cfg", "-f", DEPLOY / "image/pod.cfg"], capture_output=True, text=True)
     assert said.returncode == 0 and "WARNING" not in said.stdout + said.stderr, said

@@ -14,7 +14,9 @@ from typing import Any
 import pytest
 from coluwen import Position, Result
 from coluwen.errors import Refused, TooDeep, Unreachable
+from coluwen.page import customers as page_customers
 from coluwen.page import library as page_library
+from coluwen.page.customers import Customers
 from coluwen.page.files import Site, names_of
 from coluwen.page.library import Library
 from coluwen.page.service import Service
@@ -68,9 +70,21 @@ class Source:
         self.faults: list[Exception] = []
         self.go = asyncio.Event()
         self.go.set()
+        self.asked, self.pings, self.is_closed = 0, list[Exception](), False
+
+    async def ping(self) -> float:
+        """As a client does: who is refused or closed says so."""
+        await asyncio.sleep(0.01)
+        if self.pings:
+            raise self.pings.pop(0)
+        return 0.0
+
+    async def close(self) -> None:
+        self.is_closed = True
 
     async def analyse(self, position: str | Position, depth: int) -> Result:
-        assert isinstance(position, Position)
+        assert isinstance(position, Position) and not self.is_closed
+        self.asked += 1
         await self.go.wait()
         if self.faults:
             raise self.faults.pop(0)
@@ -83,9 +97,9 @@ class Source:
 
 
 class Served:
-    def __init__(self, tokens: frozenset[str] = frozenset()):
+    def __init__(self, tokens: frozenset[str] = frozenset(), customers: Customers | None = None):
         self.source = Source()
-        self.service = Service(Library(self.source, 1), [4, 6, 8], True, tokens)
+        self.service = Service(None if customers else Library(self.source, 1), [4, 6, 8], True, tokens, customers)
 
     async def __aenter__(self) -> Served:
         self.site = Site(self.service, functools.partial(names_of, names={"localhost"}))
@@ -189,6 +203,55 @@ async def trial_of_faults() -> None:
         assert {status for status, _ in await asyncio.gather(*asked)} == {200} and one.service.asking.total() == 0
 
 
+async def trial_of_customers(monkeypatch: pytest.MonkeyPatch) -> None:
+    """Each token's questions go to a client that has it, and to no other's; what the server says of a token comes before an answer begins."""
+    monkeypatch.setattr(page_library, "FIRST_PAUSE", 0.001)
+    good, there = {"position": OPENING, "depth": 4}, dict[str, list[Source]]()
+    refusals: dict[str, Exception] = {"guess": Refused(30), "hasty": Refused(31), "full": Refused(14), "lost": Unreachable("gone")}
+
+    def client_of(token: str) -> Source:
+        there.setdefault(token, []).append(one := Source())
+        one.pings = [refusals[token]] if token in refusals else []
+        return one
+
+    customers = Customers(client_of, 2, most=3)
+    async with Served(customers=customers) as one:
+        for word, status, number in (("", 401, 30), ("Bearer", 401, 30), ("Bearer a b", 401, 30), (f"Bearer {'x' * 65}", 401, 30), ("Basic school", 401, 30), ("Bearer guess", 401, 30), ("Bearer hasty", 429, 429)):
+            found, (told,) = await one.ask(good, Authorization=word)
+            assert (found, told["number"]) == (status, number), (word, told)
+        assert set(there) == {"guess", "hasty"} and all(client.is_closed for clients in there.values() for client in clients) and not customers.there
+        assert (await one.ask("", "GET /about.json"))[1][0]["places"] == 2
+        for token in ("school", "shop", "school", "full", "lost"):
+            assert kinds((await one.ask(good, Authorization=f"Bearer {token}"))[1]) == ["step", "done"], token
+        assert {token: [client.asked for client in clients] for token, clients in there.items()} == {"guess": [0], "hasty": [0], "school": [1], "shop": [1], "full": [1], "lost": [1]}
+        await asyncio.sleep(0.05)  # of four the one that asked longest ago has ended
+        assert list(customers.there) == ["school", "full", "lost"] and there["shop"][0].is_closed and not there["school"][0].is_closed
+        for token in customers.there:
+            there[token][0].go.clear()
+        other = {"position": Position.opening().play("d3").text, "depth": 4}
+        asked = [asyncio.ensure_future(one.ask(other, Authorization=f"Bearer {token}")) for token in ("school", "school", "full", "lost")]
+        await asyncio.sleep(0.2)
+        assert (await one.ask(good, Authorization="Bearer shop"))[0] == 503  # all three are asking
+        monkeypatch.setattr(page_customers, "IDLE", 0.1)
+        customers.look("full", customers.there["full"])
+        for clients in there.values():
+            clients[0].go.set()
+        assert {status for status, _ in await asyncio.gather(*asked)} == {200} and [client.asked for client in there["school"]] == [2] and not one.service.asking
+        await one.ask(good, Authorization="Bearer full")
+        customers.there["full"].until = 0.0
+        customers.look("full", customers.there["full"])
+        await asyncio.sleep(0.01)
+        assert there["full"][0].is_closed and "full" not in customers.there
+        there["lost"][0].faults = [Refused(30)]
+        assert kinds((await one.ask({"position": Position.opening().play("c4").text, "depth": 4}, Authorization="Bearer lost"))[1]) == ["fault"] and "lost" not in customers.there
+        refusals["lost"] = Refused(30)
+        assert (await one.ask(good, Authorization="Bearer lost"))[0] == 401 and [client.is_closed for client in there["lost"]] == [True, True]
+        several = await asyncio.gather(*(one.ask(good, Authorization="Bearer new") for _ in range(4)))
+        assert {status for status, _ in several} == {200} and [client.asked for client in there["new"]] == [1]
+        await customers.close()
+        assert all(client.is_closed for clients in there.values() for client in clients) and not customers.there
+
+
 def named() -> set[str]:
     """All that the description promises that may come."""
     found = {f"{path} {status}" for path, one in API["paths"].items() for call in one.values() for status in call["responses"]}
@@ -209,7 +272,15 @@ def named() -> set[str]:
 def test_the_description_is_what_the_server_does(monkeypatch: pytest.MonkeyPatch) -> None:
     asyncio.run(asyncio.wait_for(trial_of_values(monkeypatch), 120))
     asyncio.run(asyncio.wait_for(trial_of_faults(), 120))
+    asyncio.run(asyncio.wait_for(trial_of_customers(monkeypatch), 120))
     assert sorted(named() - SEEN) == []
+
+
+def test_customers_are_those_of_a_server(capsys: pytest.CaptureFixture[str]) -> None:
+    for words in ([], ["--server", "localhost", "--tokens", "file"], ["--server", "localhost", "--fallback", "engine"]):
+        with pytest.raises(SystemExit) as end:
+            page_command.command(["--customers", *words])
+        assert end.value.code == 2 and "--customers are those of a --server" in capsys.readouterr().err
 
 
 def test_a_file_of_tokens(tmp_path: pathlib.Path) -> None:

@@ -7,7 +7,8 @@ any other name is refused, so that no foreign page reads this one.
 
 Any program may ask values by HTTP, as /openapi.json says: `curl -d '{"position": "..", "depth": 6}' -H 'Content-Type: application/json' ADDRESS/analyse`.
 With --tokens FILE only those may that have a token (`Authorization: Bearer TOKEN`); FILE has the SHA-256 sum of each in a line, as `printf %s TOKEN | sha256sum`
-says it, and behind it a name or nothing.
+says it, and behind it a name or nothing. With --customers only those may whose token the server itself knows (`token_sha256` in a site's file): each is that customer there, in
+--sessions sessions of his own, within his budget.
 
 So many questions as --sessions says are with the server at once; who comes when all are taken waits in turn, and is told how many are
 before. Where the server that was named can't be reached at the beginning, one line says so within 2 seconds, and the status is 1; where it
@@ -31,6 +32,7 @@ from ..aio import AsyncClient
 from ..engine import AsyncEngine
 from ..errors import ColuwenError
 from ..tools import command as commands
+from .customers import Customers
 from .files import Site, names_of
 from .library import Library
 from .service import Service
@@ -56,6 +58,7 @@ def options() -> argparse.ArgumentParser:
     words.add_argument("--sessions", type=int, default=4, help="how many sessions of the server are used at once; others wait (4)")
     words.add_argument("--connections", type=int, default=Limits.connections, help="of browsers at once (%(default)s)")
     words.add_argument("--tokens", metavar="FILE", help="only who has a token that this file names may ask values")
+    words.add_argument("--customers", action="store_true", help="only who has a token of the server may ask values, as the customer that he is there")
     words.add_argument("--log", metavar="FILE", default="-", help="where a line for each request is written, in the common log format (standard error); '' for nowhere")
     words.add_argument("--per-address", type=int, default=Limits.per_address, help="of these for one address (%(default)s)")
     return words
@@ -120,6 +123,9 @@ async def serve(asked: argparse.Namespace) -> None:
     if not commands.names_server(asked):
         await serve_by(asked, Service(None, [], True))
         return
+    if asked.customers:
+        await serve_customers(asked)
+        return
     async with AsyncEngine(analyst=commands.analyst_of(asked, NAME, patience=0, sessions=max(asked.sessions, 1))) as client:
         await client.ping()
         service = Service(Library(client, client.parallel), [LEAST], tokens=tokens_in(asked.tokens))
@@ -128,6 +134,19 @@ async def serve(asked: argparse.Namespace) -> None:
             await serve_by(asked, service)
         finally:
             learning.cancel()
+
+
+async def serve_customers(asked: argparse.Namespace) -> None:
+    """Serves the server's customers; how deep it looks is learnt first, by a session that then ends."""
+    commands.tell_by_log(NAME)
+    options = {**commands.server_options(asked), "sessions": max(asked.sessions, 1)}
+    async with AsyncClient(**options) as client:
+        depths = offered(await client.info(), asked.most_depth)
+    customers = Customers(lambda token: AsyncClient(**dict(options, patience=0, token=token)), options["sessions"])
+    try:
+        await serve_by(asked, Service(None, depths, True, customers=customers))
+    finally:
+        await customers.close()
 
 
 async def serve_by(asked: argparse.Namespace, service: Service) -> None:
@@ -160,6 +179,8 @@ async def learn(service: Service, client: AsyncClient, most: int) -> None:
 
 def command(words: Sequence[str] | None = None) -> int:
     """The command `coluwen-page`; its exit status."""
-    asked = options().parse_args(words)
+    asked = (parser := options()).parse_args(words)
+    if asked.customers and (asked.tokens or asked.fallback or not commands.names_server(asked)):
+        parser.error("--customers are those of a --server, without --tokens or --fallback")
     log_to(asked.log)
     return commands.run(NAME, lambda: asyncio.run(serve(asked)))

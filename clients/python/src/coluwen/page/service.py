@@ -30,6 +30,7 @@ from ..board import PASS, Position
 from ..errors import ColuwenError, Refused, TooDeep
 from ..formats import transcript
 from ..score import EXACT, Score
+from .customers import UNKNOWN, Customers
 from .library import Found, Library, Told, steps_of
 from .rooms import Rooms
 from .web import Answer, Fault, Request
@@ -65,10 +66,10 @@ def telling(events: Events, **more: object) -> Told:
 
 
 class Service:
-    """Answers the page's questions from a library of what is known; without one there are classes alone."""
+    """Answers the page's questions from a library of what is known, or from those of customers; without either there are classes alone."""
 
-    def __init__(self, library: Library | None, depths: list[int], settled: bool = False, tokens: frozenset[str] = frozenset()):
-        self.known, self.depths, self.settled = library, depths, settled
+    def __init__(self, library: Library | None, depths: list[int], settled: bool = False, tokens: frozenset[str] = frozenset(), customers: Customers | None = None):
+        self.known, self.depths, self.settled, self.customers = library, depths, settled, customers
         self.tokens = tokens  # their SHA-256 sums; where there are none everybody may ask
         self.asking: collections.Counter[str] = collections.Counter()  # questions of each at once
         self.addresses: list[str] = []  # by which browsers of other hosts come in
@@ -88,12 +89,14 @@ class Service:
         """The answer of one of the paths above; None where it is none of them."""
         path = request.path
         if path == "/about.json" and self.allowed(request, "GET"):
-            places = self.known.turns.places if self.known else 0
+            places = self.known.turns.places if self.known else self.customers.places if self.customers else 0
             return Answer.json({"service": True, "depths": self.depths, "places": places, "settled": self.settled, "addresses": self.addresses})
         if path == "/openapi.json" and self.allowed(request, "GET"):
             return Answer(body=pathlib.Path(__file__).with_name("openapi.json").read_bytes())
-        if path == "/analyse" and self.allowed(request, "POST") and self.library:
-            return Answer(kind="application/x-ndjson", lines=self.counted(self.token_of(request), self.lines_for(request.json())))
+        if path == "/analyse" and self.allowed(request, "POST"):
+            token = self.token_of(request)
+            library = await self.customers.library(token) if self.customers else self.library
+            return Answer(kind="application/x-ndjson", lines=self.counted(token, self.lines_for(request.json(), library)))
         if path == "/class" or path.startswith("/class/"):
             return self.of_class(request, path.removeprefix("/class").removeprefix("/"))
         return None
@@ -110,14 +113,14 @@ class Service:
     # /analyse
 
     def token_of(self, request: Request) -> str:
-        """The sum of a request's token, which must be one of those that there are."""
-        kind, _, token = request.headers.get("authorization", "").partition(" ")
-        found = hashlib.sha256(token.strip().encode("latin-1")).hexdigest() if kind.lower() == "bearer" else ""
-        if self.tokens and found not in self.tokens:
+        """A request's token, which must be one of those that there are; without any it is nothing. Whether a server knows it `Customers` says."""
+        kind, _, said = request.headers.get("authorization", "").partition(" ")
+        token = said.strip() if kind.lower() == "bearer" and (self.tokens or self.customers) else ""
+        if self.tokens and hashlib.sha256(token.encode("latin-1")).hexdigest() not in self.tokens:
             raise Fault(401, "token", "nobody has this token")
-        if self.tokens and self.asking[found] >= MOST_OF_TOKEN:
+        if token and self.asking[token] >= MOST_OF_TOKEN:
             raise Fault(429, "busy", f"this token has {MOST_OF_TOKEN} questions already")
-        return found
+        return token
 
     async def counted(self, token: str, lines: AsyncGenerator[bytes, None]) -> AsyncGenerator[bytes, None]:
         """The lines, while which a token has one question more."""
@@ -127,12 +130,12 @@ class Service:
                 async for line in lines:
                     yield line
         finally:
-            self.asking[token] -= 1
+            self.asking -= collections.Counter([token])  # (which leaves out those that have none)
 
-    def lines_for(self, asked: Any) -> AsyncGenerator[bytes, None]:
+    def lines_for(self, asked: Any, library: Library | None = None) -> AsyncGenerator[bytes, None]:
         """What answers a question: of a position, or of each position of a game."""
         if not isinstance(asked, dict) or "game" not in asked:
-            return self.analyse(*self.question_of(asked))
+            return self.analyse(*self.question_of(asked), library)
         if "position" in asked or not isinstance(asked["game"], str):
             raise Fault(400, "game", "a question has a position or a game")
         try:
@@ -142,15 +145,15 @@ class Service:
         if asked.get("exact", "all") != "all":
             raise Fault(400, "exact", "of a game the exact values of all moves are had, or of none")
         words = {name: value for name, value in asked.items() if name != "game"}
-        return self.analyse_game([self.question_of({**words, "position": position.text}, near_end=True) for position, _ in game.positions()])
+        return self.analyse_game([self.question_of({**words, "position": position.text}, near_end=True) for position, _ in game.positions()], library)
 
-    async def analyse_game(self, questions: list[tuple[Position, int, list[str], bool]]) -> AsyncGenerator[bytes, None]:
+    async def analyse_game(self, questions: list[tuple[Position, int, list[str], bool]], library: Library | None) -> AsyncGenerator[bytes, None]:
         """The lines of several positions, each with its number, as they come; `done` once."""
         lines: asyncio.Queue[bytes] = asyncio.Queue()
 
         async def ask(ply: int, question: tuple[Position, int, list[str], bool]) -> None:
             try:
-                async with contextlib.aclosing(self.analyse(*question)) as found:
+                async with contextlib.aclosing(self.analyse(*question, library)) as found:
                     async for line in found:
                         if line != DONE:
                             lines.put_nowait(b'{"ply":%d,' % ply + line[1:])
@@ -196,10 +199,10 @@ class Service:
             raise Fault(400, "steps", "with steps or without")
         return position, depth, exact, steps
 
-    async def analyse(self, position: Position, depth: int, exact: list[str], steps: bool = True) -> AsyncGenerator[bytes, None]:
+    async def analyse(self, position: Position, depth: int, exact: list[str], steps: bool = True, library: Library | None = None) -> AsyncGenerator[bytes, None]:
         """What is learnt, line by line: each step, and then the exact values that are wanted of other moves than the best."""
         events: Events = asyncio.Queue()
-        worker = asyncio.ensure_future(self.learn(position, depth, exact, steps, events))
+        worker = asyncio.ensure_future(self.learn(library or self.library, position, depth, exact, steps, events))
         try:
             while (event := await events.get()) is not None:
                 yield json.dumps(event, separators=(",", ":")).encode() + b"\n"
@@ -208,37 +211,40 @@ class Service:
             with contextlib.suppress(asyncio.CancelledError):
                 await worker
 
-    async def learn(self, position: Position, depth: int, exact: list[str], steps: bool, events: Events) -> None:
+    async def learn(self, library: Library, position: Position, depth: int, exact: list[str], steps: bool, events: Events) -> None:
         try:
-            found = await (self.by_steps(position, depth, events) if steps else self.at_once(position, depth, events))
+            found = await (self.by_steps if steps else self.at_once)(library, position, depth, events)
             if found:
-                await self.exactly(found, exact, events)
+                await self.exactly(library, found, exact, events)
             events.put_nowait({"kind": "done"})
         except (ColuwenError, Refused) as fault:
-            events.put_nowait({"kind": "fault", "code": "server", "number": fault.number if isinstance(fault, Refused) else 502, "text": str(fault)})
+            number = fault.number if isinstance(fault, Refused) else 502
+            events.put_nowait({"kind": "fault", "code": "server", "number": number, "text": str(fault)})
+            if self.customers and number == UNKNOWN:
+                self.customers.forget(library)
         finally:
             events.put_nowait(None)
 
-    async def by_steps(self, position: Position, depth: int, events: Events) -> Found | None:
+    async def by_steps(self, library: Library, position: Position, depth: int, events: Events) -> Found | None:
         """The steps; the last one that could be had. What is known of a deeper one already isn't asked less deep."""
         found = None
         steps = steps_of(position, depth)
-        known = [step for step in steps if self.library.known(position, step)]
+        known = [step for step in steps if library.known(position, step)]
         for step in steps[steps.index(known[-1]) :] if known else steps:
             try:
-                found = await self.library.find(position, step, telling(events, depth=step))
+                found = await library.find(position, step, telling(events, depth=step))
             except TooDeep:
                 events.put_nowait({"kind": "deepest", "depth": found.result.depth if found else 0})
                 break
             events.put_nowait(step_of(found))
         return found
 
-    async def at_once(self, position: Position, depth: int, events: Events) -> Found | None:
+    async def at_once(self, library: Library, position: Position, depth: int, events: Events) -> Found | None:
         """The last step alone; where it can't be had, the one before it."""
         steps = steps_of(position, depth)
         for step in reversed(steps):
             try:
-                found = await self.library.find(position, step, telling(events, depth=step))
+                found = await library.find(position, step, telling(events, depth=step))
             except TooDeep:
                 continue
             events.put_nowait(step_of(found))
@@ -247,7 +253,7 @@ class Service:
             return found
         return None
 
-    async def exactly(self, found: Found, exact: Iterable[str], events: Events) -> None:
+    async def exactly(self, library: Library, found: Found, exact: Iterable[str], events: Events) -> None:
         """The exact values of these moves, each by a question of the position behind it. At the game's end also those that are exact
         in the table are asked, as only their lines tell how many squares stay empty."""
         result = found.result
@@ -258,7 +264,7 @@ class Service:
                 continue
             left = result.depth if move == PASS else result.depth - 1
             try:
-                behind = await self.library.find(result.position.play(move), left, telling(events, depth=result.depth, exact=True))
+                behind = await library.find(result.position.play(move), left, telling(events, depth=result.depth, exact=True))
             except TooDeep:
                 continue
             worth = Score(-behind.result.score.value, EXACT, result.depth >= result.position.empties or behind.result.score.ends, result.position.side)
