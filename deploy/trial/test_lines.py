@@ -29,12 +29,12 @@ def server() -> Iterator[int]:
 
 def pieces_of(chance: random.Random) -> list[bytes]:
     """Lines of all kinds, some of them no lines, cut anywhere. Each job is waited for at once, so that answers don't depend on when it ends; none asks
-    for more than a guest may have, and none has what a site alone knows (INFO, a token)."""
+    for more than a guest may have, and none has what a site alone knows (INFO, PING, a token)."""
     position = LINES[0].split(" ", 1)[1].encode()
     words = [b"HELLO 64 4096", b"HELLO 64 4096\r", b"HELLO 64 4096\r\r", b"HELLO 0 1", b"HELLO 5000 1", b"HELLO  64", b"QUOTA", b"LIVE", b"LIVE ", b"", b"\r", b"RESERVE 64 4096", b"RESERVE 64 4097",
              b"RESERVE 65 9000\r", b"RESERVE 65 9000\r\r", b"RESERVE 63 9999", b"RESERVE 5000 1", b"RESERVE 00000128 00009999", b"RESERVE 1 1 1", b" RESERVE 900 9999", b"GET 2", b"TABLE 1", b"CANCEL 9",
              b"\n".join([b"ASK 0 " + position, *(b"WAIT %d" % number for number in range(1, 61))]), b"ASK 13 " + position, b"hello 1 1", b"x" * 127, b"x" * 128, b"x" * 129, b"RESERVE 1 65536" * 40,
-             b"x" * 5000, chance.randbytes(50).replace(b"\n", b"").replace(b"INFO", b""), b"SOMETHING NEW", b"\xff\0", b"INF", b"INFO\0"]  # fmt: skip
+             b"x" * 5000, chance.randbytes(50).replace(b"\n", b"").replace(b"INFO", b"").replace(b"PING", b""), b"SOMETHING NEW", b"\xff\0", b"INF", b"INFO\0", b"PING ", b"ping"]  # fmt: skip
     data = b"\n".join(chance.choice(words) for _ in range(chance.randint(1, 60))) + (b"\n" if chance.random() < 0.7 else b"")
     cuts = sorted(chance.randrange(len(data) + 1) for _ in range(chance.randint(0, 6)))
     data += LAST if chance.random() < 0.3 else b""
@@ -85,3 +85,11 @@ def test_lines_are_answered_as_by_a_server_alone(made: dict[str, str], length: i
         assert lines > 2000 * length and len(cut) <= length, (lines, cut)
         with capsys.disabled():
             print(f"\n{lines} lines; {len(cut)} of {100 * length} conversations lost what stood before a reset")
+
+
+def test_a_ping_is_answered_by_a_site_alone(made: dict[str, str]) -> None:
+    """Before HELLO and behind it; a server without a site knows no PING."""
+    lines = b"PING\nPING \nHELLO 4 8\nPING\nQUOTA\nBYE\n"
+    with Site(made) as site, server() as alone:
+        assert site.said(address_of(1), lines) == b"PONG\nERR 21\nWELCOME 4 8\nPONG\nQUOTA 4 8 128\nBYE\n"
+        assert conversation(alone, b"", [lines], 0) == b"ERR 21\nERR 21\nWELCOME 4 8\nERR 21\nQUOTA 4 8 128\nBYE\n"

@@ -1,5 +1,5 @@
 -- Whether a tenant is there, through the lines of a session.
-use Rattle.site_office.proofs.Common.{◌≡◌, ℕ, List, [], ◌∷◌, Bool, true, false, Option, sym, ap, subst, ◌∙◌, LineText, Answers, Call, Hello, Reserve, Get, Leave, OfficeReply, Gone, Request, Fault, Makes, Tabulates, Ends, LeavesIf, Turned, seated_after, Quota, Greeted, Known, Unknown, Crowded, Info, SiteRequest, Greets, Raises, Informs, Plain, IsRefused, IsWelcomed, IsGreeted, IsRaised, SiteTurned}
+use Rattle.site_office.proofs.Common.{◌≡◌, ℕ, List, [], ◌∷◌, Bool, true, false, Option, sym, ap, subst, ◌∙◌, LineText, Answers, Call, Hello, Reserve, Get, Leave, OfficeReply, Gone, Request, Fault, Makes, Tabulates, Ends, LeavesIf, Turned, seated_after, Quota, Greeted, Known, Unknown, Crowded, Info, SiteRequest, Greets, Raises, Informs, Pings, Plain, IsRefused, IsWelcomed, IsGreeted, IsRaised, SiteTurned}
 
 -- what each answer keeps true stays true through a chain of them
 pub chain-holds : {A : Type 0} (answers : A → LineText → List ℕ → A → Type 0) (holds : A → Type 0) → ((a : A) (line : LineText) (text : List ℕ) (b : A) → answers a line text b → holds a → holds b)
@@ -46,4 +46,5 @@ module _ {O : Type 0} (does : O → Call → OfficeReply → O → Type 0) (gree
       greeted-so h.2 h.0 quota h.3 seated text to seated' h.6 (paid h.1 h.2 h.3 h.5 ∙ met from token h.0 h.1 h.4 ∙ e)
   site-turned (Raises quota) from seated text to seated' h e = raised h.0 quota h.1 seated text to seated' h.3 (paid from h.0 h.1 h.2 ∙ e)
   site-turned Informs from seated text to seated' h e = informed from h.0 to h.1 ∙ e ∙ sym h.2
+  site-turned Pings from seated text to seated' h e = ap here (sym h.0) ∙ e ∙ sym h.1
   site-turned (Plain asked) from seated text to seated' h e = turned asked from seated text to seated' h e

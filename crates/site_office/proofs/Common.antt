@@ -25,7 +25,7 @@ pub use Rattle.session.specs.declared.office.Office.{Ghosts}
 pub use Rattle.session.specs.declared.standings.Standing.{Standing}
 pub use Rattle.site_desk.specs.Seats.{SiteSeatOf}
 pub use Rattle.tenant_quota.specs.Quota.{Quota}
-pub use Rattle.site_office.specs.Lines.{Greets, Informs, Plain, Raises, SiteRequest, site_request}
+pub use Rattle.site_office.specs.Lines.{Greets, Informs, Pings, Plain, Raises, SiteRequest, site_request}
 pub use Rattle.site_office.specs.Offices.{asks_of_seat}
 pub use Rattle.site_office.specs.Tokens.{is_token, last_word, token_after, token_by, token_of, word_after, word_after_two}
 pub use Rattle.site_office.specs.Turns.{IsGreeted, IsRaised, IsRefused, IsWelcomed, SiteTurned}

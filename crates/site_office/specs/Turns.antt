@@ -8,7 +8,7 @@ use Rattle.tenant_quota.specs.Quota.{Quota}
 use Rattle.site_office.specs.declared.reception.Greeted.{Greeted}
 use Rattle.site_office.specs.declared.reception.Greeted.TheVariants.{Known, Unknown, Crowded}
 use Rattle.site_office.specs.declared.reception.Info.{Info}
-use Rattle.site_office.specs.Lines.{SiteRequest, Greets, Raises, Informs, Plain}
+use Rattle.site_office.specs.Lines.{SiteRequest, Greets, Raises, Informs, Pings, Plain}
 
 -- a number, and the space before it
 abbrev pub spaced_number : ℕ → List ℕ
@@ -42,7 +42,7 @@ IsRaised does false quota from seated text to seated' = IsRefused 31 from seated
 IsRaised does true quota from seated text to seated' = Turned does (Makes (Reserve quota)) from seated text to seated'
 
 -- what comes of a line, by what it asks for: HELLO first says who says it and then pays its rate, whoever that is; RESERVE pays its rate; INFO
--- is told; all else is as in any session
+-- is told; PING is answered, and nothing is asked of anybody; all else is as in any session
 abbrev pub SiteTurned : {O : Type 0} → (O → Call → OfficeReply → O → Type 0) → (O → Option (List ℕ) → Greeted → O → Type 0) → (O → Bool → O → Type 0) → (O → Info → O → Type 0)
     → SiteRequest → O → Bool → List ℕ → O → Bool → Type 0
 SiteTurned {O} does greets pays informs (Greets token quota) from seated text to seated' =
@@ -50,4 +50,5 @@ SiteTurned {O} does greets pays informs (Greets token quota) from seated text to
 SiteTurned {O} does greets pays informs (Raises quota) from seated text to seated' =
     (paid : Bool) × (heard : O) × pays from paid heard × IsRaised does paid quota heard seated text to seated'
 SiteTurned does greets pays informs Informs from seated text to seated' = (info : Info) × informs from info to × (seated' ≡ seated) × (text ≡ info_text info)
+SiteTurned does greets pays informs Pings from seated text to seated' = (from ≡ to) × (seated' ≡ seated) × (text ≡ codes "PONG")
 SiteTurned does greets pays informs (Plain asked) from seated text to seated' = Turned does asked from seated text to seated'

@@ -1,9 +1,10 @@
 //! The office of one connection at a site's desk, the lines of its sessions, and sessions over it.
 //!
-//! A site's session is one of `session`, whose lines have three things more (`specs/Lines.antt`). HELLO may bear a token as its third word
-//! after HELLO, which says whose session it is to be. INFO tells the customer what it may have and has. And lines that ask for a
-//! reservation are paid for by a rate. [`take_site_turn`] answers one line: who says HELLO, the rate and INFO are asked of a [`Reception`],
-//! all else of the session's office, by the session's own code. So a line is read once, by one grammar.
+//! A site's session is one of `session`, whose lines have four things more (`specs/Lines.antt`). HELLO may bear a token as its third word
+//! after HELLO, which says whose session it is to be. INFO tells the customer what it may have and has. PING is answered PONG, also before
+//! HELLO, by this thread alone: no lock is taken. And lines that ask for a reservation are paid for by a rate. [`take_site_turn`] answers
+//! one line: who says HELLO, the rate and INFO are asked of a [`Reception`], all else of the session's office, by the session's own code.
+//! So a line is read once, by one grammar.
 //!
 //! A [`SiteOffice`] is what a [`SiteClerk`] asks for a connection (`session::Office` and [`Reception`]). It has the desk by reference, the
 //! seat of its session once HELLO was welcomed, whose the next session is to be, and a [`House`]: the clock, the keys, the rates, and who
@@ -35,6 +36,7 @@
 //! ```text
 //! HELLO 4 8 secret      WELCOME 4 8
 //! INFO                  INFO 4 16384 1048576 4 8 1.0.0
+//! PING                  PONG
 //!
 //! let mut office = SiteOffice::new(rt, &desk, house, own, 4);
 //! serve_connection(rt, &mut source, &mut sink, &mut office)?;

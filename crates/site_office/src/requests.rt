@@ -19,6 +19,8 @@ pub enum SiteRequest<'a> {
     Raises(Reserve),
     /// INFO: what the customer may have and has.
     Informs,
+    /// PING: a sign that the site is there.
+    Pings,
     /// What concerns the session alone.
     Plain(Request),
 }
@@ -32,6 +34,9 @@ pub fn read_site_request(seated: bool, line: Line<'_>) -> SiteRequest<'_>
     };
     if bytes == b"INFO".as_slice() {
         return info_request(seated);
+    }
+    if bytes == b"PING".as_slice() {
+        return SiteRequest::Pings;
     }
     match read_request(seated, Line::Whole(without_token(bytes))) {
         Request::Hello(reserve) => SiteRequest::Greets(token_of(bytes), reserve),

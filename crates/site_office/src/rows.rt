@@ -4,7 +4,7 @@ ghost use Rattle.line_io.specs.Lines.{Whole, TooLong};
 ghost use Rattle.protocol.specs.declared.faults.ProtocolFault.TheVariants.{NoCommand, LongLine, NoNumber, NoHello, HelloAgain};
 ghost use Rattle.session.specs.Calls.{AskQuota, Get};
 ghost use Rattle.session.specs.Requests.{Fault, Makes, Ends};
-ghost use Rattle.site_office.specs.Lines.{Greets, Raises, Informs, Plain, site_request};
+ghost use Rattle.site_office.specs.Lines.{Greets, Raises, Informs, Pings, Plain, site_request};
 ghost use Rattle.site_office.specs.Turns.{info_text};
 
 /// Lines before HELLO.
@@ -20,6 +20,9 @@ pub fn lines_before_hello()
     ensures no_number { site_request false (Whole (codes "HELLO 4 x abc")) ≡ Plain (Fault NoNumber) }
     ensures none_reserved { site_request false (Whole (codes "HELLO 0 8 abc")) ≡ Plain (Fault NoNumber) }
     ensures info { site_request false (Whole (codes "INFO")) ≡ Plain (Fault NoHello) }
+    ensures ping { site_request false (Whole (codes "PING")) ≡ Pings }
+    ensures ping_now { site_request false (Whole (codes "PING now")) ≡ Plain (Fault NoCommand) }
+    ensures ping_in_small { site_request false (Whole (codes "ping")) ≡ Plain (Fault NoCommand) }
     ensures reserve { site_request false (Whole (codes "RESERVE 8 16")) ≡ Plain (Fault NoHello) }
     ensures bye { site_request false (Whole (codes "BYE")) ≡ Plain Ends }
     ensures long { site_request false TooLong ≡ Plain (Fault LongLine) }
@@ -34,6 +37,8 @@ pub fn lines_of_a_tenant()
     ensures hello_by_token { site_request true (Whole (codes "HELLO 8 16 abc")) ≡ Plain (Fault HelloAgain) }
     ensures info { site_request true (Whole (codes "INFO")) ≡ Informs }
     ensures info_now { site_request true (Whole (codes "INFO now")) ≡ Plain (Fault NoCommand) }
+    ensures ping { site_request true (Whole (codes "PING")) ≡ Pings }
+    ensures ping_with_return { site_request true (Whole (codes "PING" ++ 13 ∷ [])) ≡ Plain (Fault NoCommand) }
     ensures quota { site_request true (Whole (codes "QUOTA")) ≡ Plain (Makes AskQuota) }
     ensures get { site_request true (Whole (codes "GET 7")) ≡ Plain (Makes (Get 7)) }
 {}

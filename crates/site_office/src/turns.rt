@@ -1,5 +1,5 @@
 //! One line of a site's session: what it asks of the office and the reception, and its answer.
-ghost use Rattle.std.specs.Prelude.{◌≡◌, ◌+◌, ◌≤◌, ◌++◌, true, length, Option};
+ghost use Rattle.std.specs.Prelude.{◌≡◌, ◌+◌, ◌≤◌, ◌++◌, true, length, Option, codes};
 ghost use Rattle.std.specs.Option.{option_copied};
 ghost use Rattle.line_io.specs.Views.{text_of};
 ghost use Rattle.protocol.specs.Texts.{error_text};
@@ -58,6 +58,15 @@ fn write_info(text: &mut SessionText, info: Info)
     push_after(text, info.has_segments);
     push_after(text, info.has_nodes);
     text.try_extend_from_slice(VERSION).unwrap();
+}
+
+/// Writes the sign that the site is there over the last answer.
+fn write_pong(text: &mut SessionText)
+    ensures text { text.new.items ≡ codes "PONG" }
+    ensures short { length text.new.items ≤ 1114 }
+{
+    text.clear();
+    text.try_extend_from_slice(b"PONG").unwrap();
 }
 
 /// Answers a HELLO whose rate was paid, by what is known of who says it.
@@ -135,6 +144,7 @@ pub fn take_site_turn<O: Office + Reception>(
             let info = office.inform();
             write_info(text, info);
         }
+        SiteRequest::Pings => write_pong(text),
         SiteRequest::Plain(asked) => answer_request(office, seated, text, asked),
     }
 }

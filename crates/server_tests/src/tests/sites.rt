@@ -224,8 +224,8 @@ fn leaves<R: Wait + Abort>(rt: &R, desk: &SiteDesk, seat: Option<SiteSeat>) {
 
 /// A session of a guest, from its first line to its last.
 const WHOLE: Talk = (
-    "INFO\nHELLO 9 8\nHELLO 4 8\nINFO\nRESERVE 4 8\nRESERVE 8 81\r\r\nRESERVE 8 81\nRESERVE 8 80\nINFO\nQUOTA\nHELLO 1 1\nBYE\nQUOTA\n",
-    "ERR 28\nERR 14\nWELCOME 4 8\nINFO 4 8 80 4 8 1.0.0\nERR 20\nERR 23\nERR 14\nRESERVED 8 80\nINFO 4 8 80 8 80 1.0.0\nQUOTA 8 80 1280\nERR 29\nBYE\n",
+    "INFO\nPING\nPING now\nHELLO 9 8\nHELLO 4 8\nINFO\nPING\nRESERVE 4 8\nRESERVE 8 81\r\r\nRESERVE 8 81\nRESERVE 8 80\nINFO\nQUOTA\nHELLO 1 1\nBYE\nQUOTA\n",
+    "ERR 28\nPONG\nERR 21\nERR 14\nWELCOME 4 8\nINFO 4 8 80 4 8 1.0.0\nPONG\nERR 20\nERR 23\nERR 14\nRESERVED 8 80\nINFO 4 8 80 8 80 1.0.0\nQUOTA 8 80 1280\nERR 29\nBYE\n",
     "bBbE",
 );
 
