@@ -4,7 +4,7 @@ that are written by hand. Every link, also to a part of a document, and every pa
 also in the heads of crates and their examples, is there in code, definitions or scripts (a comment or another document shows nothing); every
 counted figure, list and excerpt is what the tree says (so the transcripts are those of the texts that ./gate plays); docs/promises and
 docs/pictures are what their scripts write. Of every other document (README.md of a folder) the links are checked, and everywhere the
-version, which is that of VERSION, with the date that CHANGELOG.md has for it. A reader's page has 1,200 words at most.
+version, which is that of VERSION, with the date that CHANGELOG.md has for it.
 
 usage: tools/docs/check.py [FILE..]     (all where none is named)
        tools/docs/check.py write        writes the counted figures, the pages of promises and the tables anew
@@ -31,8 +31,6 @@ FIGURE = re.compile(r"<!--n:([\w:.-]+)-->(.*?)<!---->")
 LIST = re.compile(r"(<!--made:([\w:,-]+)-->\n).*?(<!--/made-->)", re.S)
 PROMISES = TOP / "docs/promises"
 BY_HAND = [PROMISES / "HOW-TO-READ.md", PROMISES / "WHAT-IS-ASSUMED.md"]
-READERS = [TOP / f"docs/{name}.md" for name in ("SITE", "TESTER", "TEACHER", "PROGRAMMER", "SCEPTIC", "MAINTAINER")]
-MOST_FOR_A_READER = 1_200  # words
 VERSIONED = {  # where the version stands beside VERSION itself; in documents it stands in the names of a release's files
     "crates/command_line/src/commands.rt": r'const VERSION: &str = "(.*?)"',
     "crates/othello_site/src/running.rt": r'"othello_site (.*?)\\n"',
@@ -370,14 +368,6 @@ def words_in(document):
     return sum(any(map(str.isalnum, word)) for word in LIST.sub("", document.read_text()).split())
 
 
-def count_words():
-    """The words of each document by hand, and of all but the readers' pages; and the faults of those that have too many."""
-    counts = {document: words_in(document) for document in documents() if not is_made(document)}
-    total = sum(count for document, count in counts.items() if document not in READERS)
-    faults = [f"{page.relative_to(TOP)}: {counts[page]} words, and {MOST_FOR_A_READER} at most" for page in READERS if counts[page] > MOST_FOR_A_READER]
-    return counts, total, faults
-
-
 def write(counted):
     promises.write(promises.made())  # first, as documents quote them
     for document in documents():
@@ -390,10 +380,10 @@ def write(counted):
 def main():
     words = sys.argv[1:]
     if words == ["words"]:
-        counts, total, _ = count_words()
+        counts = {document: words_in(document) for document in documents() if not is_made(document)}
         for document, count in counts.items():
-            print(f"{count:6} {document.relative_to(TOP)}{' (a page for a reader)' if document in READERS else ''}")
-        print(f"{total:6} words by hand beside the readers' pages")
+            print(f"{count:6} {document.relative_to(TOP)}")
+        print(f"{sum(counts.values()):6} words by hand")
         return
     files = tracked()
     counted = figures(files)
@@ -411,7 +401,7 @@ def main():
     if not words:
         others = [TOP / name for name in files if name.endswith(".md") and not name.startswith("docs/") and TOP / name not in documents()]
         linked = [f"{other.relative_to(TOP)}: {fault}" for other in others for fault in link_faults(other, other.read_text())]
-        for fault in sorted({*head_faults(files, names), *name_faults(files), *lemma_faults(files), *proved_faults(), *linked, *version_faults(), *bodies.faults(), *count_words()[2]}):
+        for fault in sorted({*head_faults(files, names), *name_faults(files), *lemma_faults(files), *proved_faults(), *linked, *version_faults(), *bodies.faults()}):
             print(fault)
             bad += 1
         bad += promises.told(promises.made())
