@@ -1,24 +1,23 @@
 -- Journals: what a tenant of searches comes to by its own taken steps, and how a journal grows.
-use Rattle.jamboree_core.proofs.Common.{◌≡◌, ◌≢◌, ℕ, List, [], ◌∷◌, ◌++◌, Option, Some, None, Result, Ok, Err, refl, ap, sym, ◌∙◌, subst, append_assoc, append-nil, arith, Quota, Refusal, NoTenant, OldTenant, StepOf, DidOf, Admitted, Admit, Functions, Tenant, admitted_with, Outcome, lone, tenant_of, state_after, alone_from, CoreState, tenant_in, shared_with, AreNumbersGiven, IsOneStep, tenant_in-with_outcome, tenant_in-other-with_outcome, step-taken, shared-after-taken, submits, origins_of, LeftShaped, lone-shaped, LeftFits, step-fits, Leaf, LeafAnswer, AreFitting, IsRoot, jamboree, IsSearch, AreSearches, TenantSearches, StaysTaken, AreTakenFrom, IsJournalOf}
+use Rattle.jamboree_core.proofs.Common.{◌≡◌, ◌≢◌, ℕ, List, [], ◌∷◌, ◌++◌, Option, Some, None, Result, Ok, Err, refl, ap, sym, ◌∙◌, subst, append_assoc, append-nil, arith, Quota, Refusal, NoTenant, StepOf, DidOf, Admit, Functions, Tenant, admitted_with, Outcome, lone, tenant_of, state_after, alone_from, CoreState, tenant_in, shared_with, AreNumbersGiven, IsOneStep, tenant_in-with_outcome, tenant_in-other-with_outcome, step-taken, shared-after-taken, submits, origins_of, LeftShaped, lone-shaped, LeftFits, step-fits, Leaf, LeafAnswer, AreFitting, IsRoot, jamboree, IsSearch, AreSearches, TenantSearches, StaysTaken, AreTakenFrom, IsJournalOf, Fitting, IsLawful, RootFits}
 use Rattle.jamboree_core.proofs.Replying.{search-fits, lawful}
 use Rattle.jamboree_core.proofs.Serving.{searches-asked}
 
-abbrev Came : Type 0
-Came = Result (Outcome Leaf) Refusal
+-- a tenant: its shape, and that its frames fit
+abbrev pub FitsOn : Fitting → List (List ℕ) → Option Tenant → Type 0
+FitsOn fits origins tenant = LeftShaped tenant × LeftFits fits IsRoot origins tenant
 
--- from nothing only an admission is taken, and it leaves a tenant without jobs
-module _ (grain : ℕ) (outcome : Outcome Leaf) where
-  begun-fits : (step : StepOf LeafAnswer) → lone (jamboree grain) None step ≡ Ok outcome → LeftFits AreFitting IsRoot (submits step) outcome.0
+-- so it is after one of its own steps; from nothing only an admission is taken, and it leaves a tenant without jobs
+module _ (grain : ℕ) (fits : Fitting) (law : IsLawful (jamboree grain) fits IsRoot) (root : (step : StepOf LeafAnswer) → IsSearch step → RootFits fits IsRoot step) (outcome : Outcome Leaf) where
+  begun-fits : (step : StepOf LeafAnswer) → lone (jamboree grain) None step ≡ Ok outcome → LeftFits fits IsRoot (submits step) outcome.0
   begun-fits (Admit number quota) is = grind arith
-  begun-fits _ is = (let no : ◌≡◌ {A = Came} (Err NoTenant) (Ok outcome) = is in absurd cc)
+  begun-fits _ is = (let no : ◌≡◌ {A = Result (Outcome Leaf) Refusal} (Err NoTenant) (Ok outcome) = is in absurd cc)
 
-  -- a tenant of searches after one of its own steps; where it wasn't there, no words were submitted
-  lone-fits : (origins : List (List ℕ)) (before : Option Tenant) (step : StepOf LeafAnswer) → IsSearch step → lone (jamboree grain) before step ≡ Ok outcome →
-      (before ≡ None → origins ≡ []) → LeftShaped before → LeftFits AreFitting IsRoot origins before →
-      LeftFits AreFitting IsRoot (origins ++ submits step) outcome.0
-  lone-fits origins (Some tenant) step search is none shaped fits =
-      step-fits (jamboree grain) AreFitting IsRoot origins tenant step outcome (lawful grain) shaped fits (search-fits step search) is
-  lone-fits origins None step search is none shaped fits = rw (none refl) (begun-fits step is)
+  pub fits-on : (origins : List (List ℕ)) (before : Option Tenant) (step : StepOf LeafAnswer) → IsSearch step → lone (jamboree grain) before step ≡ Ok outcome →
+      (before ≡ None → origins ≡ []) → FitsOn fits origins before → FitsOn fits (origins ++ submits step) outcome.0
+  fits-on origins None step search is none has = (lone-shaped (jamboree grain) None step outcome is has.0, rw (none refl) (begun-fits step is))
+  fits-on origins (Some tenant) step search is none has =
+      (lone-shaped (jamboree grain) (Some tenant) step outcome is has.0, step-fits (jamboree grain) fits IsRoot origins tenant step outcome law has.0 has.1 (root step search) is)
 
 -- What each step keeps lasts over a journal, each step of which meets a condition, which may speak of the tenant before it.
 module _ (grain : ℕ) (Each : Option Tenant → List (StepOf LeafAnswer) → Type 0) (Meets : Option Tenant → StepOf LeafAnswer → Type 0)
@@ -35,7 +34,7 @@ module _ (grain : ℕ) (Each : Option Tenant → List (StepOf LeafAnswer) → Ty
   lasts-on : (step : StepOf LeafAnswer) (steps : List (StepOf LeafAnswer)) → Lasts steps → Lasts (step ∷ steps)
   lasts-on step steps rest origins before each taken none has = by (lone (jamboree grain) before step) refl (parts before step steps each).1 taken
     where
-      by : (came : Came) → lone (jamboree grain) before step ≡ came → Each (state_after before came) steps → StaysTaken came × AreTakenFrom (jamboree grain) (state_after before came) steps →
+      by : (came : Result (Outcome Leaf) Refusal) → lone (jamboree grain) before step ≡ came → Each (state_after before came) steps → StaysTaken came × AreTakenFrom (jamboree grain) (state_after before came) steps →
           P (origins ++ (submits step ++ origins_of steps)) (alone_from (jamboree grain) (state_after before came) steps)
       by (Err refusal) e later t = absurd t.0
       by (Ok (None, did)) e later t = absurd t.0
@@ -57,17 +56,9 @@ pub journal-lasts : (grain : ℕ) (P : List (List ℕ) → Option Tenant → Typ
     P [] None → (journal : List (StepOf LeafAnswer)) (tenant : Tenant) → IsJournalOf (jamboree grain) journal tenant → AreSearches journal → P (origins_of journal) (Some tenant)
 journal-lasts grain P keeps = all-lasts grain (λ before steps. AreSearches steps) (λ before step. IsSearch step) (λ before step steps each. each) P keeps
 
--- a tenant of searches: its shape, and that its frames fit
-abbrev pub FitsOn : List (List ℕ) → Option Tenant → Type 0
-FitsOn origins tenant = LeftShaped tenant × LeftFits AreFitting IsRoot origins tenant
-
-pub fits-on : (grain : ℕ) (origins : List (List ℕ)) (before : Option Tenant) (step : StepOf LeafAnswer) (outcome : Outcome Leaf) → IsSearch step → lone (jamboree grain) before step ≡ Ok outcome →
-    (before ≡ None → origins ≡ []) → FitsOn origins before → FitsOn (origins ++ submits step) outcome.0
-fits-on grain origins before step outcome search is none has = (lone-shaped (jamboree grain) before step outcome is has.0, lone-fits grain outcome origins before step search is none has.0 has.1)
-
 pub journal-searches : (grain : ℕ) (journal : List (StepOf LeafAnswer)) (tenant : Tenant) → IsJournalOf (jamboree grain) journal tenant → AreSearches journal → TenantSearches (origins_of journal) tenant
 journal-searches grain journal tenant is searches =
-    record { fits = (journal-lasts grain FitsOn (fits-on grain) (tt, tt) journal tenant is searches).1; asked = searches-asked journal searches }
+    record { fits = (journal-lasts grain (FitsOn AreFitting) (λ origins before step outcome. fits-on grain AreFitting (lawful grain) search-fits outcome origins before step) (tt, tt) journal tenant is searches).1; asked = searches-asked journal searches }
 
 -- a journal that goes on with a taken step, after which its tenant is still there
 stays : {I : Type 0} (came : Result (Outcome I) Refusal) (outcome : Outcome I) (next : Tenant) → came ≡ Ok outcome → outcome.0 ≡ Some next → StaysTaken came
@@ -78,9 +69,7 @@ module _ {I A : Type 0} (functions : Functions I A) where
       AreTakenFrom functions before steps → alone_from functions before steps ≡ Some tenant → lone functions (Some tenant) step ≡ Ok outcome →
       outcome.0 ≡ Some next → AreTakenFrom functions before (steps ++ step ∷ []) × (alone_from functions before (steps ++ step ∷ []) ≡ Some next)
   longer before [] tenant next step outcome taken comes is left = grind (arith, stays)
-  longer before (first ∷ steps) tenant next step outcome taken comes is left =
-      let rest = longer (state_after before (lone functions before first)) steps tenant next step outcome taken.1 comes is left in
-      ((taken.0, rest.0), rest.1)
+  longer before (first ∷ steps) tenant next step outcome taken comes is left = grind (arith, longer (state_after before (lone functions before first)) steps tenant next step outcome)
 
   pub journal-goes-on : (before : CoreState) (step : StepOf A) (did : DidOf I) (after : CoreState) (journal : List (StepOf A)) (tenant next : Tenant) →
       AreNumbersGiven before → IsOneStep functions before step (Ok did) after → tenant_in before.tenants (tenant_of step) ≡ Some tenant →
@@ -104,10 +93,7 @@ module _ {I A : Type 0} (functions : Functions I A) where
       (found ∙ admitted-left functions (tenant_in before.tenants number) number quota t.outcome t.own, record { taken = (tt, tt); comes = refl })
     where
       admitted-left : (functions : Functions I A) (own : Option Tenant) (number : ℕ) (quota : Quota) (outcome : Outcome I) → lone {A = A} functions own (Admit number quota) ≡ Ok outcome → outcome.0 ≡ Some (admitted_with quota)
-      admitted-left functions None number quota outcome is =
-          let both : ◌≡◌ {A = Result (Outcome I) Refusal} (Ok (Some (admitted_with quota), Admitted)) (Ok outcome) = is in
-          let own : ◌≡◌ {A = Outcome I} outcome (Some (admitted_with quota), Admitted) = cc in ap (λ (o : Outcome I). o.0) own
-      admitted-left functions (Some tenant) number quota outcome is = let e : ◌≡◌ {A = Result (Outcome I) Refusal} (Err OldTenant) (Ok outcome) = is in absurd cc
+      admitted-left functions own number quota outcome is = grind arith
 
   -- a step changes its own tenant alone
   pub others-stay : (before : CoreState) (step : StepOf A) (answer : Result (DidOf I) Refusal) (after : CoreState) (number : ℕ) → AreNumbersGiven before →

@@ -1,6 +1,5 @@
 -- A done job kept a returned root, which holds what it was asked.
-use Rattle.jamboree_core.proofs.Common.{◌≡◌, ℕ, List, [], ◌∷◌, Some, Result, refl, sym, ◌∙◌, subst, arith, Quota, Frame as TreeFrame, Job, Live, Done, Spent as SpentJob, Cancelled as CancelledJob, Refusal, StepOf, Submit, DidOf, Tree, Tenant, kept_words, HasReturned, mark_of_state, EachFits, only, shared_by_nobody, tenant_in, AreAnswersTo, after_answers, taken_steps, JobsFit, TenantFits, submits, RootFits, RootsFit, origins_of, IsLawful, run-fits, nobody-fits, Leaf, LeafAnswer, cells_of, Bound, IsTable, board, frame_of, bounds_of, AreFitting, IsRoot, jamboree, next-keeps, inlet-keeps, fits_sound, accept-keeps, root_fits, root_value, root-whole, root-kept, AreAllRootWords, IsSearch, AreSearches, IsReplyTo, AreReplies, AreAllSound}
-use Rattle.jamboree_rules.specs.Frames.{Frame}
+use Rattle.jamboree_core.proofs.Common.{◌≡◌, ℕ, List, [], ◌∷◌, Some, Result, refl, sym, ◌∙◌, subst, arith, Quota, F, Job, Live, Done, Spent as SpentJob, Cancelled as CancelledJob, Refusal, StepOf, Submit, DidOf, Tree, Tenant, kept_words, HasReturned, mark_of_state, EachFits, only, shared_by_nobody, tenant_in, AreAnswersTo, after_answers, taken_steps, JobsFit, TenantFits, submits, RootFits, RootsFit, origins_of, IsLawful, run-fits, nobody-fits, Leaf, LeafAnswer, cells_of, Bound, IsTable, board, frame_of, bounds_of, AreFitting, IsRoot, jamboree, next-keeps, inlet-keeps, fits_sound, accept-keeps, root_fits, root_value, root-whole, root-kept, AreAllRootWords, IsSearch, AreSearches, IsReplyTo, AreReplies, AreAllSound, Frame, negsuc, ap, All-from_recursion, Cell, squares, squares_beside, Square, in_order, weights, minimax, best_choice, IsTrueBound, IsExactIfBest, equal_moves, apart, coded, asked, kept}
 
 -- the new root of a search fits, and belongs to a board and a depth
 pub search-parts : {A : Type 0} (step : StepOf A) → IsSearch step → RootFits AreFitting IsRoot step × AreAllRootWords (submits step)
@@ -64,6 +63,34 @@ replies-held tree (origin ∷ origins) (Done words ∷ jobs) fit = (reply-held f
 replies-held tree (origin ∷ origins) (SpentJob ∷ jobs) fit = (tt, replies-held tree origins jobs fit.1)
 replies-held tree (origin ∷ origins) (CancelledJob ∷ jobs) fit = (tt, replies-held tree origins jobs fit.1)
 
-pub all-sound : (tree : Tree) (frames : List (TreeFrame (List ℕ))) → EachFits AreFitting tree frames → AreAllSound tree frames
+pub all-sound : (tree : Tree) (frames : List (F)) → EachFits AreFitting tree frames → AreAllSound tree frames
 all-sound tree [] fit = tt
 all-sound tree (frame ∷ frames) fit = (fits_sound (frame.value) _ (mark_of_state frame.state) fit.0, all-sound tree frames fit.1)
+
+pub worth : minimax 1 (cells_of 34628173824 68853694464) ≡ negsuc 2
+unfolding squares squares_beside in_order weights minimax
+worth = refl
+
+pub best : best_choice 1 (cells_of 34628173824 68853694464) ≡ Some (Square 19)
+unfolding squares squares_beside in_order weights minimax best_choice
+best = refl
+
+-- the table of d3, and of c4, f5 and e6
+tabled : IsTable 1 (cells_of 34628173824 68853694464) (bounds_of (frame_of (kept 1 999997 19)))
+unfolding squares squares_beside in_order weights minimax best_choice
+tabled =
+    let board : List Cell = cells_of 34628173824 68853694464 in
+    record {
+      each = refl;
+      holds = All-from_recursion (IsTrueBound 1 board) equal_moves (refl, (record { le = tt }, (record { le = tt }, (record { le = tt }, tt))));
+      best = All-from_recursion (IsExactIfBest (best_choice 1 board)) equal_moves (
+        λ _. refl,
+        (
+          λ e. absurd (apart (best_choice 1 board) 19 26 refl (λ n. absurd (omega arith)) e),
+          (λ e. absurd (apart (best_choice 1 board) 19 37 refl (λ n. absurd (omega arith)) e), (λ e. absurd (apart (best_choice 1 board) 19 44 refl (λ n. absurd (omega arith)) e), tt)),
+        ),
+      );
+    }
+
+pub answered : IsReplyTo asked (kept 1 999997 19)
+answered = record { own = refl; opp = refl; depth = refl; value = sym worth; choice = sym (ap coded best); table = tabled }

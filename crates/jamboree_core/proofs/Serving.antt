@@ -1,6 +1,8 @@
 -- Cores of searches: what follows from each frame fitting and each job holding what it was asked.
-use Rattle.jamboree_core.proofs.Common.{◌≡◌, ℕ, inl, inr, true, eqb, List, [], ◌∷◌, ◌++◌, Option, Some, None, Result, Ok, Err, refl, arith, is_ok, OnOk, cases_Bool, Quota, Refusal, StepOf, DidOf, Tenant, tenant_of, only, CoreState, shared_by_nobody, tenant_in, AreNumbersGiven, IsHeadline, taken_steps, tenant_in-new, CoreFits, RootsFit, submits, origins_of, origins_after, nobody-fits, Leaf, LeafAnswer, AreFitting, IsRoot, jamboree, IsSearch, AreSearches, AreReplies, AreAllSound, AreAllRootWords, TenantSearches, ServesSearches, CoreSearches, HoldsReplies, submitted_to, IsHeadlineInFull, IsHeadlineFromNew, submitted_by}
+use Rattle.jamboree_core.proofs.Common.{◌≡◌, ℕ, true, List, [], ◌∷◌, ◌++◌, Option, Some, None, Result, Ok, Err, refl, arith, is_ok, OnOk, Quota, Refusal, StepOf, DidOf, Tenant, only, CoreState, shared_by_nobody, tenant_in, AreNumbersGiven, IsHeadline, taken_steps, tenant_in-new, CoreFits, RootsFit, submits, origins_of, origins_after, nobody-fits, Leaf, LeafAnswer, AreFitting, IsRoot, jamboree, IsSearch, AreSearches, AreReplies, AreAllSound, AreAllRootWords, TenantSearches, ServesSearches, CoreSearches, HoldsReplies, submitted_to, IsHeadlineInFull, IsHeadlineFromNew, submitted_by, ap, sym, ◌∙◌, ◌-◌, option_and_then, Job, Live, Done, Spent as SpentJob, Cancelled as CancelledJob, Tree, job_at, job_of, JobsFit, JobFits, HoldsReply, Reply, table_of, Pending, IsJournalOf, origin_at, IsOfSearch, IsOutcomeOf, IsOutcomeIn, IsTo, AnswersTo}
 use Rattle.jamboree_core.proofs.Replying.{replies-held, all-sound, search-parts, searches-fit}
+use Rattle.jamboree_core.specs.declared.outcomes.Outcome.{Outcome}
+use Rattle.jamboree_core.specs.declared.outcomes.Outcome.TheVariants.{Done as DoneWith, Spent, Cancelled}
 
 pub nobody-searches : (totals : Quota) → CoreSearches (λ number. []) (shared_by_nobody totals)
 nobody-searches totals = record { fits = nobody-fits AreFitting IsRoot totals; asked = λ number. tt }
@@ -58,18 +60,12 @@ module _ {A : Type 0} (number : ℕ) where
   pub after-asked : {I : Type 0} (origins : ℕ → List (List ℕ)) (step : StepOf A) (answer : Result (DidOf I) Refusal) →
       ((number : ℕ) → AreAllRootWords (origins number)) → (is_ok answer ≡ true → IsSearch step) → AreAllRootWords (origins_after origins step answer number)
   after-asked origins step (Err refusal) asked search = asked number
-  after-asked origins step (Ok did) asked search = elim (cases_Bool (eqb (tenant_of step) number)) [
-    | inl own ↦ rw own (asked-append (origins number) (submits step) (asked number) (search-parts step (search refl)).1)
-    | inr other ↦ rw other (asked number)
-  ]
+  after-asked origins step (Ok did) asked search = grind (arith, asked-append, search-parts)
 
   -- those of one tenant's steps
   only-searches : (steps : List (StepOf A)) → AreSearches steps → AreSearches (only number steps)
   only-searches [] are = tt
-  only-searches (step ∷ steps) are = elim (cases_Bool (eqb (tenant_of step) number)) [
-    | inl own ↦ rw own (are.0, only-searches steps are.1)
-    | inr other ↦ rw other (only-searches steps are.1)
-  ]
+  only-searches (step ∷ steps) are = grind (arith, only-searches steps)
 
 module _ (before after : CoreState) where
   searches-after-run : (origins : ℕ → List (List ℕ)) (steps : List (StepOf LeafAnswer)) → CoreSearches origins before → AreSearches steps →
@@ -96,10 +92,8 @@ both-ok (Err error) p q make = tt
 
 -- of a list of searches, those that were taken are searches
 taken-searches : (steps : List (StepOf LeafAnswer)) (answers : List (Result (DidOf Leaf) Refusal)) → AreSearches steps → AreSearches (taken_steps steps answers)
-taken-searches [] answers are = tt
-taken-searches (step ∷ steps) [] are = tt
-taken-searches (step ∷ steps) (Ok did ∷ answers) are = (are.0, taken-searches steps answers are.1)
-taken-searches (step ∷ steps) (Err refusal ∷ answers) are = taken-searches steps answers are.1
+taken-searches (step ∷ steps) (answer ∷ answers) are = grind (arith, taken-searches steps answers)
+taken-searches steps answers are = grind arith
 
 -- the headline from a new core, and that its jobs are searches
 pub headline-from-new : (grain : ℕ) (totals : Quota) (before : CoreState) (steps : List (StepOf LeafAnswer)) (answered : List (Result (DidOf Leaf) Refusal)) (after : CoreState) → before ≡ shared_by_nobody totals → AreSearches steps →
@@ -110,3 +104,72 @@ headline-from-new grain totals before steps answered after new are whole =
     let search = taken-searches steps answered are in
     let held = full.replies (λ number. []) nobody search in
     (record { tenants = full.tenants; replies = held.replies; sound = held.sound }, full.searches (λ number. []) nobody search)
+
+-- a job of a tenant of searches is one
+of-search : (tree : Tree) (origin : List ℕ) (job : Job) → JobFits AreFitting IsRoot tree origin job → IsOfSearch job
+of-search tree origin job fits = grind arith
+
+search-at : (tree : Tree) (origins : List (List ℕ)) (jobs : List Job) (number : ℕ) (job : Job) → JobsFit AreFitting IsRoot tree origins jobs → job_at jobs number ≡ Some job → IsOfSearch job
+search-at tree origins [] number job fit is = absurd cc
+search-at tree [] (first ∷ jobs) number job fit is = absurd fit
+search-at tree (origin ∷ origins) (first ∷ jobs) number job fit is = grind (arith, search-at tree origins jobs (number - 1) job, of-search)
+
+pub served-job : (shared : CoreState) (tenant number : ℕ) (job : Job) → ServesSearches (tenant_in shared.tenants tenant) → job_of shared tenant number ≡ Some job → IsOfSearch job
+served-job shared tenant number job serves at = by (tenant_in shared.tenants tenant) serves at
+  where
+    by : (own : Option Tenant) → ServesSearches own → option_and_then (λ (t : Tenant). job_at t.jobs number) own ≡ Some job → IsOfSearch job
+    by None serves at = absurd cc
+    by (Some owner) serves at = search-at owner.frames serves.0 owner.jobs number job serves.1.fits.jobs at
+
+-- the words that a job was submitted with, and what it holds
+reply-at : (origins : List (List ℕ)) (jobs : List Job) (number : ℕ) (job : Job) → AreReplies origins jobs → job_at jobs number ≡ Some job → (origin : List ℕ) × (origin_at origins number ≡ Some origin) × HoldsReply origin job
+reply-at origins [] number job are is = absurd cc
+reply-at [] (first ∷ jobs) number job are is = absurd are
+reply-at (origin ∷ origins) (first ∷ jobs) number job are is = grind (arith, reply-at origins jobs (number - 1) job)
+
+-- no job, and nothing submitted
+none-at : (origins : List (List ℕ)) (jobs : List Job) (number : ℕ) → AreReplies origins jobs → job_at jobs number ≡ None → origin_at origins number ≡ None
+none-at [] jobs number are is = refl
+none-at (origin ∷ origins) [] number are is = absurd are
+none-at (origin ∷ origins) (first ∷ jobs) number are is = grind (arith, none-at origins jobs (number - 1))
+
+-- an outcome of a job that holds the reply to what was submitted
+is-to : (origin : List ℕ) (job : Job) (outcome : Outcome) → HoldsReply origin job → IsOutcomeOf job outcome → IsTo origin outcome
+is-to origin job outcome holds is = grind arith
+
+module _ (shared : CoreState) (tenant number : ℕ) {origins : List (List ℕ)} {owner : Tenant} (searches : TenantSearches origins owner) where
+  pub answers-asked : (job : Job) (outcome : Outcome) → tenant_in shared.tenants tenant ≡ Some owner → job_of shared tenant number ≡ Some job →
+      IsOutcomeOf job outcome → AnswersTo (origin_at origins number) (Some outcome)
+  answers-asked job outcome there at is =
+      let found : job_at owner.jobs number ≡ Some job = sym (ap (λ (o : Option Tenant). option_and_then (λ (t : Tenant). job_at t.jobs number) o) there) ∙ at in
+      let held = reply-at origins owner.jobs number job (tenant-replies origins owner searches) found in
+      rw held.1 (is-to held.0 job outcome held.2 is)
+
+  pub none-asked : tenant_in shared.tenants tenant ≡ Some owner → job_of shared tenant number ≡ None → AnswersTo (origin_at origins number) None
+  none-asked there at =
+      let found : job_at owner.jobs number ≡ None = sym (ap (λ (o : Option Tenant). option_and_then (λ (t : Tenant). job_at t.jobs number) o) there) ∙ at in
+      rw (none-at origins owner.jobs number (tenant-replies origins owner searches) found) tt
+
+-- the reply of a done job is in the words that it kept
+reply-in : Reply → Outcome → Reply
+reply-in other Pending = other
+reply-in other (DoneWith reply) = reply
+reply-in other Spent = other
+reply-in other Cancelled = other
+
+module _ (first second : Reply) where
+  same-table : (job : Job) → IsOutcomeOf job (DoneWith first) → IsOutcomeOf job (DoneWith second) → table_of first ≡ table_of second
+  unfolding reply-in
+  same-table (Live root) a b = absurd cc
+  same-table (Done words) a b =
+      ap (λ (o : Outcome). table_of (reply-in first o)) a.1 ∙ a.2.table ∙ sym b.2.table ∙ sym (ap (λ (o : Outcome). table_of (reply-in first o)) b.1)
+  same-table SpentJob a b = absurd cc
+  same-table CancelledJob a b = absurd cc
+
+  same-in : (job : Option Job) → IsOutcomeIn job (Some (DoneWith first)) → IsOutcomeIn job (Some (DoneWith second)) → table_of first ≡ table_of second
+  same-in job a b = grind (arith, same-table)
+
+-- what a tenant's job has come to is a function of the tenant's own taken steps
+pub own-table : (grain : ℕ) (journal : List (StepOf LeafAnswer)) (one other : Tenant) (number : ℕ) (first second : Reply) → IsJournalOf (jamboree grain) journal one → IsJournalOf (jamboree grain) journal other →
+    IsOutcomeIn (job_at one.jobs number) (Some (DoneWith first)) → IsOutcomeIn (job_at other.jobs number) (Some (DoneWith second)) → table_of first ≡ table_of second
+own-table grain journal one other number first second is is_other a b = grind (arith, same-in)

@@ -1,5 +1,5 @@
 use Rattle.std.proofs.Common.{arith}
-use Rattle.jamboree_core.proofs.CutOff.{segments-step, nodes-step}
+use Rattle.jamboree_core.proofs.EnoughBounds.{segments-step, nodes-step}
 use Rattle.jamboree_core.proofs.amounts.+most_needed.Goals as goal
 
 pub returns-clause-segments : goal.returns-clause-segments

@@ -1,7 +1,7 @@
 use Rattle.std.proofs.Common.{arith, ap, refl, ℕ, ◌≡◌, min, ◌∙◌}
 use Rattle.othello_board.specs.Words.{cells}
 use Rattle.jamboree_core.specs.Enough.{board_nodes, board_segments}
-use Rattle.jamboree_core.proofs.CutOff.{most, all-squares, are-segments, are-nodes, within-limits, value-within}
+use Rattle.jamboree_core.proofs.EnoughBounds.{most, all-squares, are-segments, are-nodes, within-limits, value-within}
 use Rattle.jamboree_core.proofs.amounts.enough.Goals as goal
 
 pub overflow_sub-empty : goal.overflow_sub-empty

@@ -1,4 +1,4 @@
-use Rattle.jamboree_core.proofs.OutcomeLemmas.{own-table}
+use Rattle.jamboree_core.proofs.Serving.{own-table}
 use Rattle.jamboree_core.proofs.laws.a_table_is_of_its_tenants_own_steps.Goals as goal
 
 pub returns : goal.returns

@@ -1,5 +1,5 @@
 use Rattle.jamboree_core.proofs.Common.{sym}
-use Rattle.jamboree_core.proofs.OutcomeLemmas.{served-job, answers-asked, none-asked}
+use Rattle.jamboree_core.proofs.Serving.{served-job, answers-asked, none-asked}
 use Rattle.jamboree_core.proofs.outcomes.outcome_of.Goals as goal
 
 pub of-requires : goal.of-requires

@@ -1,5 +1,5 @@
 use Rattle.jamboree_core.proofs.Common.{◌≡◌, ℕ, negsuc, ap, ◌∙◌, arith, ints, squares, squares_beside, Square, in_order, BoundKind, Low, High, Exact, weights, minimax, best_choice, entry, coded}
-use Rattle.jamboree_core.proofs.OpeningReply.{worth, best, answered}
+use Rattle.jamboree_core.proofs.Replying.{worth, best, answered}
 use Rattle.jamboree_core.proofs.rows.what_a_search_answers.Goals as goal
 
 pub returns-clause-opening : goal.returns-clause-opening

@@ -1,4 +1,4 @@
-use Rattle.jamboree_core.proofs.OpeningReply.{answered}
+use Rattle.jamboree_core.proofs.Replying.{answered}
 use Rattle.jamboree_core.proofs.rows.what_jobs_answer.Goals as goal
 
 pub returns-clause-in_order : goal.returns-clause-in_order
