@@ -1,5 +1,5 @@
 -- What lies under the lock has come by the steps of the history, one after the other.
-use Rattle.desk.proofs.Common.{◌≡◌, ℕ, ◌+◌, ◌<◌, ◌≤◌, List, [], ◌∷◌, ◌++◌, true, false, refl, sym, ap, ◌∙◌, subst, arith, None, Result, Ok, Err, OnOk, OnErr, IsPrefix, Quota, Refusal, Admit, Leave, DidOf, Left, refusal_in, tenant_of, only, alone_from, CoreState, tenant_in, shared_run, newest_after, IsOneStep, AreNumbersGiven, step-taken, known-number, tenant_in-new, Leaf, LeafAnswer, jamboree, HallOf, IsOffered, hall_after, IsExplained, own, Known, SeatOf, seeing, steps_of, core_at, is_admit, with_taken, is_leave, AreStepsOfSeat, HasNoLeave, HasOwners, IsComeBy, IsThere, IsLook, IsToldOf}
+use Rattle.desk.proofs.Common.{◌≡◌, ℕ, ◌+◌, ◌<◌, ◌≤◌, List, [], ◌∷◌, ◌++◌, true, false, refl, sym, ap, ◌∙◌, subst, arith, None, Result, Ok, Err, OnOk, OnErr, IsPrefix, Quota, Refusal, Admit, Leave, DidOf, Left, refusal_in, tenant_of, only, alone_from, CoreState, tenant_in, shared_run, newest_after, IsOneStep, AreNumbersGiven, step-taken, known-number, tenant_in-new, Leaf, LeafAnswer, jamboree, HallOf, IsOffered, hall_after, IsExplained, own, Known, SeatOf, seeing, steps_of, core_at, is_admit, with_taken, is_leave, AreStepsOfSeat, HasNoLeave, HasOwners, IsAtEndOf, IsComeBy, IsThere, IsLook, IsToldOf}
 use Rattle.desk.proofs.Judged.{run-more, taken-more, no-first, newest-stays, Rights, Headlines, isolated}
 use Rattle.desk.proofs.Staying.{there-more, seat-stays, leaves}
 use Rattle.desk.proofs.Owners.{Step, Entries, IsOfSeat, steps_of-more, owners-more, owners-admit, steps-are-mine, unused, unmade, upto-more}
@@ -19,6 +19,10 @@ come-begun begun hall is explained =
     let given = explained.known in
     subst (λ (b : HallOf). IsComeBy b hall.grain hall.shared []) is
     (record { same = refl; core = refl; legal = tt; owners = ((λ _. 0), tt); upto = tt; later = omega arith; first = given; given = given; there = λ t stays. absurd (cc stays) })
+
+-- it is at the history's end
+pub at-end : (begun hall : HallOf) (log : Entries) → IsComeBy begun hall.grain hall.shared log → IsAtEndOf begun log hall
+at-end begun hall log come = record { grain = come.same; core = come.core; legal = come.legal }
 
 -- A hall that has come by this history.
 module _ {begun : HallOf} {log : Entries} (before : HallOf) (come : IsComeBy begun before.grain before.shared log) where

@@ -36,7 +36,7 @@ pub use Rattle.sched_rules.specs.declared.step.StepOf.{StepOf}
 pub use Rattle.sched_rules.specs.declared.step.StepOf.TheVariants.{Admit, AdmitMore, Leave, Submit}
 pub use Rattle.tenant_quota.specs.Quota.{Quota}
 pub use Rattle.desk.specs.Counts.{IsOffered}
-pub use Rattle.desk.specs.Histories.{AllOwn, AreStepsOfSeat, AreStepsUpTo, AreTaken, HasNoLeave, HasOwners, IsComeBy, IsLook, IsSeated, IsThere, IsToldOf, IsTrueTo}
+pub use Rattle.desk.specs.Histories.{AllOwn, AreStepsOfSeat, AreStepsUpTo, AreTaken, HasNoLeave, HasOwners, IsAtEndOf, IsComeBy, IsLook, IsSeated, IsThere, IsToldOf, IsTrueTo}
 pub use Rattle.desk.specs.Histories.{Owned, core_at, is_admit, is_leave, is_seat_step, seat_steps, stays_by, steps_of, with_taken}
 pub use Rattle.desk.specs.Seats.{SeatOf, reserve_refusals, seeing}
 pub use Rattle.desk.specs.Traces.{Begins, Fits, IsTrue, Kept, Known, Notes, bare, begun, given, holding, keeper, nobody, noted, own}

@@ -165,3 +165,10 @@ pub record IsComeBy (begun : HallOf) (grain : ℕ) (shared : CoreState) (history
 abbrev pub with_taken : {X S : Type 0} → List S → S → Result X Refusal → List S
 with_taken before step (Ok value) = before ++ step ∷ []
 with_taken before step (Err refusal) = before
+
+-- the hall is at the end of a history of the desk that was made with another: it has that one's grain, its core is the one to which the
+-- history's steps lead, and each of these was taken
+pub record IsAtEndOf (begun : HallOf) (history : List (ℕ × StepOf LeafAnswer)) (hall : HallOf) : Type 0 where
+  pub grain : hall.grain ≡ begun.grain
+  pub core : hall.shared ≡ core_at begun history
+  pub legal : AreTaken (jamboree begun.grain) begun.shared (steps_of history)

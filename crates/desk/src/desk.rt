@@ -1,20 +1,22 @@
 //! The desk.
-ghost use Rattle.std.specs.Prelude.{◌≡◌, ◌≢◌, ◌+◌, ◌≤◌, [], true, length, Err, Some, None, Contains, IfErr, IfOk, IfSome, OnSome, MatchResult};
+ghost use Rattle.std.specs.Prelude.{◌≡◌, ◌≢◌, ℕ, ◌+◌, ◌≤◌, List, [], true, length, Err, Some, None, Contains, IfErr, IfOk, IfSome, OnSome, MatchResult};
 ghost use Rattle.sched_rules.specs.declared.refusal.Refusal.TheVariants.{NoJob, NoTenant, OutOfMemory};
 ghost use Rattle.hall.specs.Journals.{is_worker_step};
 ghost use Rattle.hall.specs.Halls.{count_of};
+ghost use Rattle.hall.specs.jamboree_rules.declared.leaf.LeafAnswer.{LeafAnswer};
 ghost use Rattle.hall.specs.jamboree_rules.Places.{root_words, frame_size};
 ghost use Rattle.hall.specs.jamboree_rules.Procedure.{jamboree};
 ghost use Rattle.hall.specs.jamboree_rules.othello_eval.othello_moves.declared.choices.TheConstants.{DEEPEST};
+ghost use Rattle.sched_rules.specs.declared.step.StepOf.{StepOf};
 ghost use Rattle.sched_rules.specs.declared.step.StepOf.TheVariants.{AdmitMore, Submit, Cancel, Leave};
 ghost use Rattle.sched_rules.specs.Cores.{tenant_in};
 ghost use Rattle.sched_rules.specs.Views.{left_in_core, live_of};
 ghost use Rattle.desk_rules.specs.Asked.{found_or_no_tenant, ask_refusals, cancel_refusals, seat_asked_at, IsShown};
 ghost use Rattle.desk.specs.Seats.{admit_refusals, reserve_refusals, seeing, stepped, IsAsked};
-ghost use Rattle.desk.specs.Histories.{core_at, steps_of, AreTaken, IsSeated, IsLook, IsShownAt, IsToldOf, IsTrueTo, Saw, Took};
+ghost use Rattle.desk.specs.Histories.{core_at, steps_of, AreTaken, IsAtEndOf, IsSeated, IsLook, IsShownAt, IsToldOf, IsTrueTo, Saw, Took};
 
 use crate::desk_guard::DeskGuard;
-use crate::history::{Opened, Trace};
+use crate::history::{History, Opened, Trace};
 use crate::lock::DeskLock;
 use crate::locked_hall::LockedHall;
 use crate::seat::Seat;
@@ -284,11 +286,31 @@ impl<L: DeskLedger, A: Allocator + Clone> Desk<L, A> {
     /// Takes the hall out of the desk. Where this badge has all parts of the ledger that are out, since every seat has
     /// left and every other badge was joined to this one, the share that has all parts comes with it. Then the hall's
     /// count of steps is its number `kept` (the steps before the desk and those of the seats that have left) plus the
-    /// badge's share. Else `None` comes with it: a share with all parts can't be made up.
+    /// badge's share. Else `None` comes with it: a share with all parts can't be made up. There is a history, by whose steps,
+    /// each of which was taken, the hall has come from the one that the desk was made with ([`Desk::into_hall_seen`] gives it).
     pub fn into_hall(self, badge: Badge<L>) -> (Hall<A>, Option<Share<L>>)
         requires { L.all ≡ L.parts }
+        ensures come { (history : List (ℕ × StepOf LeafAnswer)) × IsAtEndOf L.begun history result.0 }
         ensures parts { IfSome result.1 (λ whole. whole.parts ≡ L.parts) }
         ensures count { OnSome result.1 (count_of result.0 ≡ result.0.kept + badge) }
+        ensures whole { IfSome result.1 (λ whole. count_of result.0 ≡ count_of L.begun + whole.amount) }
+    {
+        let (hall, whole, _history) = self.into_hall_seen(badge);
+        (hall, whole)
+    }
+
+    /// As [`Desk::into_hall`], and gives the desk's history too, by which the hall has come from the one that the desk was made with.
+    /// It can be shown to each trace that a seat left with ([`History::show`]): it goes on from what that one had seen, and all its
+    /// steps in it are those that it knew.
+    pub fn into_hall_seen(
+        self,
+        badge: Badge<L>,
+    ) -> (Hall<A>, Option<Share<L>>, History<Step<Jamboree>, L>)
+        requires { L.all ≡ L.parts }
+        ensures come { IsAtEndOf L.begun result.2 result.0 }
+        ensures parts { IfSome result.1 (λ whole. whole.parts ≡ L.parts) }
+        ensures count { OnSome result.1 (count_of result.0 ≡ result.0.kept + badge) }
+        ensures whole { IfSome result.1 (λ whole. count_of result.0 ≡ count_of L.begun + whole.amount) }
     {
         let Desk { lock } = self;
         lock.into_value().closed(badge)

@@ -24,7 +24,8 @@
 //!
 //! A seat's and a badge's share count their own taken steps, as shares of one ledger (`std::sync::ledger`) whose book lies
 //! under the lock. So at the end, where [`Desk::into_hall`] gives the share with all parts of that ledger, all steps in the
-//! hall are those that it keeps and those of the badge: nobody else took a step.
+//! hall are those that it keeps and those of the badge: nobody else took a step. They are as many as those of the hall that the desk was
+//! made with, and the amount of that share; and the hall's core is the one to which the history's steps lead.
 //!
 //! Beside the hall and the book lies a spare share. A taken step adds 1 to the book and to the share of who
 //! took it, and a seat that leaves merges its share into the spare one: so the hall's count is what it was

@@ -21,7 +21,7 @@ ghost use Rattle.desk.specs.Traces.{own};
 ghost use Rattle.sched_rules.specs.Runs.{tenant_of};
 ghost use Rattle.desk.specs.Seats.{admit_refusals, reserve_refusals, seeing, stepped, IsAsked};
 ghost use Rattle.desk_rules.specs.Asked.{ask_refusals, cancel_refusals, seat_asked_at, IsShown, IsToldBy, found_or_no_tenant};
-ghost use Rattle.desk.specs.Histories.{core_at, steps_of, is_admit, is_leave, is_seat_step, with_taken, AreStepsOfSeat, AreTaken, HasNoLeave, IsSeated, IsLook, IsShownAt, IsToldOf, IsTrueTo, Saw, Took};
+ghost use Rattle.desk.specs.Histories.{core_at, steps_of, is_admit, is_leave, is_seat_step, with_taken, AreStepsOfSeat, AreTaken, HasNoLeave, IsAtEndOf, IsSeated, IsLook, IsShownAt, IsToldOf, IsTrueTo, Saw, Took};
 ghost use Rattle.desk.specs.Counts.{IsOffered, IsLeft, with_kept};
 
 use crate::history::{History, Opened, Trace};
@@ -76,7 +76,7 @@ impl<L: DeskLedger, A: Allocator> Model for LockedHall<L, A> {
 
     ghost invariant = { λ k. (count_of k.hall ≡ k.before + k.book.total) × (k.hall.kept ≡ k.before + k.spare.amount) × (k.spare.parts ≡ k.parts)
         × (L.all ≡ ledger_parts) × (k.parts ≤ ledger_parts) × (ledger_parts ≤ k.parts + k.badges + k.hall.shared.newest) × (k.badges ≤ 2 ^ 62)
-        × IsComeBy L.begun k.hall.grain k.hall.shared k.history };
+        × IsComeBy L.begun k.hall.grain k.hall.shared k.history × (k.before ≡ count_of L.begun) };
 }
 
 impl<L: DeskLedger, A: Allocator + Clone> LockedHall<L, A> {
@@ -437,16 +437,24 @@ impl<L: DeskLedger, A: Allocator + Clone> LockedHall<L, A> {
         self.hall.keep(kept + steps);
     }
 
-    /// Takes the hall out, and gives the share that has all parts of the ledger where this badge has those that the
-    /// spare share hasn't. Then the hall's count of steps is its number `kept` plus the badge's share.
-    pub(crate) fn closed(self, badge: Badge<L>) -> (Hall<A>, Option<Share<L>>)
+    /// Takes the hall and its history out, and gives the share that has all parts of the ledger where this badge has those that the
+    /// spare share hasn't. The hall has come by the history from the one that the desk was made with. With that share its count of
+    /// steps is its number `kept` plus the badge's share, and that of the first hall plus the amount of the whole share.
+    pub(crate) fn closed(
+        self,
+        badge: Badge<L>,
+    ) -> (Hall<A>, Option<Share<L>>, History<Step<Jamboree>, L>)
         requires { L.all ≡ L.parts }
         ensures same { result.0 ≡ self.hall }
+        ensures history { result.2 ≡ self.history }
+        ensures come { IsAtEndOf L.begun result.2 result.0 }
         ensures parts { IfSome result.1 (λ whole. whole.parts ≡ L.parts) }
         ensures count { OnSome result.1 (count_of result.0 ≡ result.0.kept + badge) }
+        ensures whole { IfSome result.1 (λ whole. count_of result.0 ≡ count_of L.begun + whole.amount) }
     {
         let LockedHall {
             hall,
+            history,
             mut book,
             mut spare,
             parts,
@@ -458,11 +466,11 @@ impl<L: DeskLedger, A: Allocator + Clone> LockedHall<L, A> {
             ..
         } = badge;
         if PARTS - parts != out {
-            return (hall, None);
+            return (hall, None, history);
         }
         spare.merge(mine);
         book.audit(&mut spare);
-        (hall, Some(spare))
+        (hall, Some(spare), history)
     }
 }
 
