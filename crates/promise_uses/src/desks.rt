@@ -1,5 +1,5 @@
 //! What a seat of tenant 9 knows after its calls at a desk.
-ghost use Rattle.std.specs.Prelude.{◌≡◌, ◌≢◌, ◌++◌, ◌+◌, ◌∷◌, [], ℕ, List, length, Option, Some, None, Err, IfOk, OnOk, IfErr, MatchResult, Contains};
+ghost use Rattle.std.specs.Prelude.{◌≡◌, ◌≢◌, ◌++◌, ◌+◌, ◌∷◌, [], ℕ, List, length, Option, Some, None, Err, IfOk, OnOk, IfErr, IfSome, OnSome, MatchResult, Contains};
 ghost use Rattle.sched_rules.specs.declared.refusal.Refusal.TheVariants.{Full, Lower, NoJob, NoJobsLeft, NoNodes, NoSegments, NoTenant, OldTenant, OutOfMemory};
 ghost use Rattle.sched_rules.specs.declared.step.StepOf.TheVariants.{Admit, AdmitMore, Submit, Cancel, Leave};
 ghost use Rattle.sched_rules.specs.Runs.{alone, only};
@@ -8,6 +8,7 @@ ghost use Rattle.sched_rules.specs.Headline.{IsAnswerTo};
 ghost use Rattle.sched_rules.specs.Cores.{tenant_in};
 ghost use Rattle.jamboree_rules.specs.Procedure.{jamboree};
 ghost use Rattle.jamboree_rules.specs.Places.{root_words, frame_size};
+ghost use Rattle.hall.specs.Halls.{count_of};
 ghost use Rattle.desk.specs.Traces.{own};
 ghost use Rattle.jamboree_core.specs.declared.outcomes.Outcome.{Outcome as OutcomeOf};
 ghost use Rattle.jamboree_core.specs.Outcomes.{IsOutcomeIn};
@@ -17,11 +18,12 @@ ghost use Rattle.desk.specs.Histories.{core_at, seat_steps, steps_of, AreTaken};
 ghost use mathlib.Core.List.{IsPrefix};
 ghost use Rattle.promises.specs.Replies.{SearchStep};
 
-use desk::{Desk, DeskLedger, Seat, Trace};
-use hall::{Jamboree, Outcome, Refusal, Step};
+use desk::{Badge, Desk, DeskLedger, History, Seat, Trace};
+use hall::{Hall, Jamboree, Outcome, Refusal, Step};
 use position_text::Position;
 use std::alloc::Allocator;
 use std::sync::Wait;
+use std::sync::ledger::Share;
 use tenant_quota::{Left, Reserve};
 
 /// A seat that is new at a desk: the history that it has seen ends with its tenant's admission, which is all that it made.
@@ -206,4 +208,28 @@ pub fn two_sessions<L: DeskLedger, A: Allocator + Clone, R: Wait>(
     ensures legal { AreTaken (jamboree L.begun.grain) L.begun.shared (steps_of one.new.seen) }
 {
     desk.compare(rt, one, other)
+}
+
+/// A desk's end, and what a seat knew when it left: the hall's core is the one to which the steps of one history lead, and each of these
+/// was taken. The history goes on from what the seat had seen, and the seat's steps in it are those that it knew. Where all shares are
+/// there, the hall's count is that of the first hall and the whole share: nobody counted a step that nobody made.
+/// Uses `desk::Desk::into_hall_seen` (`come`, `parts`, `count`, `whole`).
+pub fn the_end_of_a_desk<L: DeskLedger, A: Allocator + Clone>(
+    desk: Desk<L, A>,
+    badge: Badge<L>,
+    trace: &mut Trace<Step<Jamboree>, L>,
+) -> (Hall<A>, Option<Share<L>>, History<Step<Jamboree>, L>)
+    requires { L.all ≡ L.parts }
+    ensures grain { result.0.grain ≡ L.begun.grain }
+    ensures core { result.0.shared ≡ core_at L.begun result.2 }
+    ensures legal { AreTaken (jamboree L.begun.grain) L.begun.shared (steps_of result.2) }
+    ensures seen { IsPrefix trace.old.seen result.2 }
+    ensures own { own trace.old.maker result.2 ≡ trace.old.mine }
+    ensures parts { IfSome result.1 (λ whole. whole.parts ≡ L.parts) }
+    ensures kept { OnSome result.1 (count_of result.0 ≡ result.0.kept + badge) }
+    ensures whole { IfSome result.1 (λ whole. count_of result.0 ≡ count_of L.begun + whole.amount) }
+{
+    let (hall, whole, mut history) = desk.into_hall_seen(badge);
+    history.show(trace);
+    (hall, whole, history)
 }
