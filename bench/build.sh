@@ -64,11 +64,12 @@ library() { # FOLDER CRATE
 }
 
 # Proves the search of $top and builds it as static libraries, libsearch_v2.a and libsearch_v3.a of a folder, with
-# `kernel_search` and `kernel_search_v3` of bench/search/kernel.txt; with a further word only libsearch_v2_WORD.a, with `kernel_search_WORD`.
+# `kernel_search` and `kernel_search_v3` of bench/search/kernel.txt, by the function that the variable `searched` names (else `search`); with a
+# further word only libsearch_v2_WORD.a, with `kernel_search_WORD`.
 kernel() { # FOLDER LIBRARIES [WORD]
     lay "$1" leaf_search 'search_kernel staticlib: leaf_search othello_board othello_moves'
     mkdir -p "$1/crates/search_kernel/src" "$1/crates/search_kernel/specs"
-    cp "$here/kernel.txt" "$1/crates/search_kernel/src/lib.rt"
+    sed "s/leaf_search::search;/leaf_search::${searched:-search};/; s/= search(/= ${searched:-search}(/" "$here/kernel.txt" > "$1/crates/search_kernel/src/lib.rt"
     touch "$1/crates/search_kernel/specs/Lib.antt"
     library "$1" search_kernel
     made=$1/crates/search_kernel/out/libsearch_kernel.a
