@@ -43,7 +43,7 @@ LEFT = [("[guests.together]          # in each hall\nsessions = 64\nsegments = 6
 DEPTH, SMALL, GREAT = 3, (64, 2048), (256, 20000)
 # A job that lasts for seconds where these terms hold, and what it takes.
 LONG, LONGEST = "12 ----------OX--O----O-OO-O-OXOOO--OXXOXOXO-OX-XO--OXXXXO--XO-X--O X", (1024, 65536)
-SLOW = [("grain = 4 ", "grain = 6 "), ("# workers = 4 ", "workers = 1 ")]
+SLOW = [("# workers = 4 ", "workers = 1 ")]
 LINES = [f"{DEPTH} {position}" for position in stage.positions(50, 1)]
 
 

@@ -90,7 +90,7 @@ def test_the_line_that_is_judged_is_the_line_that_is_served() -> None:
 def test_info() -> None:
     with Site(terms=LEFT, more=SCHOOL) as site:
         found = site.said(address_of(1), b"INFO\nHELLO 4 8\nINFO\nBYE\n").decode().splitlines()
-        assert found[0] == "ERR 28" and found[2].startswith("INFO 4 4096 131072 4 8 "), found
+        assert found[0] == "ERR 28" and found[2].startswith("INFO 6 4096 131072 4 8 "), found
 
 
 def test_the_idlest_guest_is_ended_for_one_that_comes(wanted: list[Answer]) -> None:

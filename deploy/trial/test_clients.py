@@ -29,7 +29,7 @@ def test_a_token_that_nobody_has_is_told_at_once() -> None:
 def test_a_site_says_what_it_is(wanted: list[Answer]) -> None:
     with Site(terms=LEFT, more=SCHOOL) as site, client(site, token=TOKEN) as asked:
         info = asked.info()
-        assert (info.grain, info.version) == (4, (TOP / "VERSION").read_text().strip()) and is_right(asked, 0, wanted)
+        assert (info.grain, info.version) == (6, (TOP / "VERSION").read_text().strip()) and is_right(asked, 0, wanted)
         assert set(site.has()) == {"school"}
 
 

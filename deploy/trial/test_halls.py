@@ -29,7 +29,7 @@ class Homes(contextlib.ExitStack):
 def halls(many: int, network: int) -> list[tuple[str, str]]:
     wide = ("[guests.network]           # the guests of the first 48 bits of an address of IPv6; of IPv4 of one address\nsessions = 8\nsegments = 8192\nnodes = 262144",
             f"[guests.network]\nsessions = {network}\nsegments = 65536\nnodes = 4194304")
-    return [SLOW[1], ("# halls = 1 ", f"halls = {many} "), wide]
+    return [*SLOW, ("# halls = 1 ", f"halls = {many} "), wide]
 
 
 def test_500_homes_have_places() -> None:

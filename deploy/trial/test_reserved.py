@@ -48,7 +48,7 @@ def batch(workers: int, seed: int) -> None:
     drawn = random.Random(seed)
     lines = [f"{drawn.randint(0, GRAIN + 2)} {position}" for position in stage.positions(BATCH, seed)]
     wanted = solve(lines)
-    terms = [("grain = 4 ", f"grain = {GRAIN} "), ("# workers = 4 ", f"workers = {workers} "), *RATE]
+    terms = [("grain = 6 ", f"grain = {GRAIN} "), ("# workers = 4 ", f"workers = {workers} "), *RATE]
     with Site(terms=terms) as site, concurrent.futures.ThreadPoolExecutor(DEEP) as others, concurrent.futures.ThreadPoolExecutor(ASKERS) as askers:
         deep = [Deep(site, number) for number in range(DEEP)]
         running = [others.submit(each.run) for each in deep]

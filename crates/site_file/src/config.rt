@@ -44,6 +44,15 @@ pub struct Workers {
     pub grain: u8,
 }
 
+impl Workers {
+    /// Those of a site whose file says nothing of them. Leaves of six plies: from three plies on a leaf is searched in a good order, and
+    /// the longer it is, the more that saves.
+    pub const USUAL: Workers = Workers {
+        count: None,
+        grain: 6,
+    };
+}
+
 /// The numbers and times of a site. Times are seconds.
 #[derive(Clone, Copy, Debug, PartialEq, Eq)]
 pub struct Limits {
@@ -98,10 +107,7 @@ impl SiteConfig {
                 health: None,
             },
             control: None,
-            workers: Workers {
-                count: None,
-                grain: 4,
-            },
+            workers: Workers::USUAL,
             limits: Limits::USUAL,
             halls,
             directory: Directory {

@@ -162,10 +162,10 @@ fn control_in(file: &Section<'_>) -> Result<Option<String>, FileFault> {
 
 fn workers_in(file: &Section<'_>) -> Result<Workers, FileFault> {
     let count = file.count("workers", 1, 62)?;
-    let grain = file.count("grain", 0, 12)?.unwrap_or(4);
+    let grain = file.count("grain", 0, 12)?;
     Ok(Workers {
         count: count.map(|count| count as u8),
-        grain: grain as u8,
+        grain: grain.map_or(Workers::USUAL.grain, |grain| grain as u8),
     })
 }
 
