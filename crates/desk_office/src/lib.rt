@@ -32,5 +32,5 @@ pub mod rows;
 mod serving;
 
 pub use office::DeskOffice;
-pub use outcomes::told_answer;
+pub use outcomes::{told_answer, told_live};
 pub use serving::{serve_desk, serve_desk_seen};

@@ -2,7 +2,7 @@
 ghost use Rattle.std.specs.Prelude.{◌==◌};
 ghost use Rattle.desk_office.specs.Moments.{IsTurnAt};
 
-use crate::outcomes::told_answer;
+use crate::outcomes::{told_answer, told_live};
 use desk::{Desk, DeskLedger, Jamboree, Refusal, Seat, Step, Trace};
 use session::{Live, Office, Question, Standing};
 use std::alloc::{Allocator, Global};
@@ -126,11 +126,7 @@ impl<L: DeskLedger, R: Wait, A: Allocator + Clone> Office for DeskOffice<'_, L, 
         let Some(seat) = &mut self.seat else {
             return Err(Refusal::NoTenant);
         };
-        let (frames, words) = self.desk.live_seen(self.rt, seat)?;
-        Ok(Live {
-            frames: frames as u64,
-            words: words as u64,
-        })
+        Ok(told_live(self.desk.live_seen(self.rt, seat)?))
     }
 
     /// The tenant leaves the desk, with its jobs, frames and reservation, and the office has no seat then. Nothing

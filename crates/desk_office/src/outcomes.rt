@@ -5,7 +5,7 @@ ghost use Rattle.desk_office.specs.Offices.{standing_of, told_answer};
 
 use desk::{Outcome, Refusal, Reply};
 use othello_eval::Valued;
-use session::{Analysis, Bounds, Standing};
+use session::{Analysis, Bounds, Live, Standing};
 
 /// The entries of a reply's table, in order.
 #[tactic(auto, using(crate::proofs::Entries::read_one, crate::proofs::Entries::read_none))]
@@ -44,4 +44,15 @@ pub fn told_answer(answer: Result<Outcome, Refusal>) -> Result<Standing, Refusal
     ensures { result ≡ told_answer answer }
 {
     Ok(standing_of(answer?))
+}
+
+/// How many frames and words a tenant has, as a session tells it.
+pub fn told_live(counts: (usize, usize)) -> Live
+    ensures { result ≡ record { frames = counts.0; words = counts.1 } }
+{
+    let (frames, words) = counts;
+    Live {
+        frames: frames as u64,
+        words: words as u64,
+    }
 }

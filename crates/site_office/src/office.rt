@@ -9,7 +9,7 @@ ghost use Rattle.site_office.specs.Refusing.{comer_refusal, comer_refusals};
 use crate::entering::{cause_of, comer_refusal, raise_refusal};
 use crate::house::{Cause, House, Met, Note};
 use crate::reception::{Greeted, Info, Reception};
-use desk_office::told_answer;
+use desk_office::{told_answer, told_live};
 use hall::Refusal;
 use session::{Live, Office, Question, Standing};
 use site_book::{Amount, BookRefusal, Comer, SessionMark, Who, Whom};
@@ -345,11 +345,7 @@ impl<H: House, R: Wait + Clock, A: Allocator + Clone> Office for SiteOffice<'_, 
         let Some(seat) = &self.seat else {
             return Err(Refusal::NoTenant);
         };
-        let (frames, words) = self.desk.live(self.rt, seat)?;
-        Ok(Live {
-            frames: frames as u64,
-            words: words as u64,
-        })
+        Ok(told_live(self.desk.live(self.rt, seat)?))
     }
 
     /// The tenant leaves the desk, with its jobs, frames and reservation, and the office has no seat then.
