@@ -114,7 +114,7 @@ def test_everybody_else_is_served(kind: str, made: dict[str, str], answers: list
         beside.stop.set()
         for each in beside.threads:
             each.join(30)
-        until(lambda: not site.has(), 30, "all is given back")
+        until(lambda: not site.has(), 90, "all is given back")  # (a WAIT goes on for 60 seconds behind an end of input, if its job lasts)
     took = beside.took(stood)
     counted, whole = (sum(map(len, each.values())) for each in (took, beside.calls))
     figures = ", ".join(f"{name} {statistics.median(them) * 1000:.1f} ms, 99.9 of 100 below {of_1000(them) * 1000:.0f}, at most {them[-1] * 1000:.0f}" for name, them in took.items() if them)
