@@ -5,9 +5,10 @@
 //! gives the share with all parts of the desk's ledger, every step in the hall is one that a seat or a badge counted:
 //! no accepted step was lost, and nobody else took one. Nobody can make such a share up, so `serve_at` gives it back,
 //! and only where it is there the status is 0.
-ghost use Rattle.std.specs.Prelude.{◌≡◌, ◌≤◌, true, IfOk, Ok};
+ghost use Rattle.std.specs.Prelude.{◌≡◌, ◌≤◌, true, IfErr, IfOk, Ok};
 ghost use Rattle.line_io.specs.Writes.{IsWritten};
 ghost use Rattle.hall.specs.Halls.{empty_hall};
+ghost use Rattle.commands.specs.declared.serving.Unserved.TheVariants.{Uncounted};
 ghost use Rattle.commands.specs.Running.{IsServed, ended_text, listening_text};
 
 use crate::saying::say;
@@ -206,7 +207,8 @@ where
 /// back: then every step of the hall is accounted for. Else `Uncounted`.
 fn accounted<L: DeskLedger>(desk: Desk<L>, badge: Badge<L>) -> Result<Share<L>, Unserved>
     requires { L.all ≡ L.parts }
-    ensures { IfOk result (λ whole. whole.parts ≡ L.parts) }
+    ensures whole { IfOk result (λ whole. whole.parts ≡ L.parts) }
+    ensures uncounted { IfErr result (λ why. why ≡ Uncounted) }
 {
     let (_hall, whole) = desk.into_hall(badge);
     match whole {
