@@ -1,8 +1,8 @@
 #!/usr/bin/env python3
 """Tries every wrong body of the crates, and says what tells each: a goal of the prover, or a test.
 
-usage: tools/wrong_bodies.py [--resume] [--goals] [CRATE..]      (all crates where none is named, else those in this order; --goals: none of
-those that a test tells; status 1 where a body is told by nothing, or a crate isn't proved)
+usage: tools/wrong_bodies.py [--resume] [--goals|--tests] [CRATE..]      (all crates where none is named, else those in this order; --goals: none
+of those that a test tells; --tests: those alone, with no proof; status 1 where a body is told by nothing, or a crate isn't proved)
 
 A wrong body is a file `crates/CRATE/must-fail/NAME.edit`, or `wrong-bodies/NAME.edit`: the gate tries the first, this script all. It
 has a line `file: PATH`, then pairs of lines `old: TEXT` and `new: TEXT`; a line `# test: CRATE WORD` says that no clause can tell
@@ -143,17 +143,33 @@ def toolchain():
     return rt
 
 
+def only(functions, proved):
+    """The words that have a check prove these functions alone, or the file of one that stands outside of functions."""
+    words = []
+    for path, owner, name in functions:
+        module = "::".join(part for part in pathlib.Path(path).with_suffix("").parts[1:] if part != "lib")
+        # (a method of a trait stands there under the type's name and the trait's in one word, in the type's file)
+        owners = rf"(\w+::)*{owner}\w*" if owner else module
+        found = [it for it in proved if it.rpartition("::")[2] == name and re.fullmatch(owners, it.rpartition("::")[0])] if name else [module]
+        if not found or found == [""]:
+            return []
+        words += [word for it in found for word in ("--only", it)]
+    return words
+
+
 def by_prover(rt, crate, folder, edits):
     """For each of these bodies the goal that refuses it and the lines that say so, or None."""
     if not edits:
         return
-    if subprocess.run(["rt", "check", "--jobs", "1"], cwd=folder, stdin=subprocess.DEVNULL, capture_output=True, check=False).returncode:
+    checked = subprocess.run(["rt", "check", "--jobs", "1"], cwd=folder, stdin=subprocess.DEVNULL, capture_output=True, text=True, check=False)
+    if checked.returncode:
         raise NotProved
+    proved = re.findall(rf"^fn {crate.name}::(\S+): proved", checked.stdout, re.M)
     with tempfile.TemporaryDirectory(prefix="wrong-bodies-") as room:
         if (folder / "out" / "incremental").is_dir():
             shutil.copytree(folder / "out" / "incremental", f"{room}/kept")
-        for part, texts, _ in groups(folder, edits):
-            said = rt.checked(crate, texts, ["--jobs", "1"], f"{room}/kept").stdout
+        for part, texts, all_functions in groups(folder, edits):
+            said = rt.checked(crate, texts, ["--jobs", "1", *only(all_functions, proved)], f"{room}/kept").stdout
             for edit, functions in part.items():
                 goal = refused(said, functions, texts, folder)
                 if goal is None:
@@ -223,7 +239,7 @@ def look(rt, crates, name, words):
         else:
             left.append(edit)
     tested = {edit: said for edit in left if (said := TESTED.search(edit.read_text()))}
-    for edit, told in by_prover(rt, crates[name], folder, [edit for edit in left if edit not in tested]):
+    for edit, told in by_prover(rt, crates[name], folder, [edit for edit in left if edit not in tested]) if "--tests" not in words else ():
         yield edit, kept.keep(edit, told)
     for edit, said in tested.items() if "--goals" not in words else ():
         yield edit, kept.keep(edit, by_test(folder, edit, said[1], said[2]))
@@ -231,7 +247,7 @@ def look(rt, crates, name, words):
 
 def main():
     words, untold, rt = sys.argv[1:], 0, toolchain()
-    names = [word for word in words if word not in ("--resume", "--goals")]
+    names = [word for word in words if word not in ("--resume", "--goals", "--tests")]
     crates = {crate.name: crate for crate in rt.rtlib.crates_below(str(TOP))}
     if any(name not in crates for name in names):
         sys.exit(__doc__)
