@@ -104,6 +104,8 @@ test("a worker that fails is replaced, and what it searched is answered", async 
   };
   const pool = new Pool(await Rules.load(bytes), begin, bytes, 1);
   assert.deepEqual(await pool.ask(OWN, OPP, 2), { value: -4, choice: 19 });
+  for (const guess of [-128000, -4, 16, 17, 128000]) assert.deepEqual(await pool.ask(OWN, OPP, 2, { choice: 19, guess }), { value: -4 });
+  await assert.rejects(pool.ask(OWN, OPP, 2, { choice: 19, guess: 0.5 }), RangeError);
   assert.ok(begun > 2);
   pool.close();
 });

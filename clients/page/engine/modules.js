@@ -2,9 +2,9 @@
 export const MODULES = {
   "kit": "rattle-kit-13f logic dac8208d650f15bf",
   "binaryen": "wasm-opt version 108",
-  "verdict": "logic=proved functions=12 target=wasm64-unknown-unknown sum=dac8208d650f15bf native=nat,char,string logic-built=trusted libraries-built=trusted statements=trusted incremental=trusted",
+  "verdict": "logic=proved functions=15 target=wasm64-unknown-unknown sum=dac8208d650f15bf native=nat,char,string logic-built=trusted libraries-built=trusted statements=trusted incremental=trusted",
   "integrity": {
-    "page64.wasm": "sha256-phWZv8qmURnZcJSutkzBL+R0zohARiEMosuYJ+fNffU=",
-    "page32.wasm": "sha256-qZUKUGnERdra1bMLmHsIs1ljZWaLUHPbDUdvtjcRBAA="
+    "page64.wasm": "sha256-8ObVm3F2s3+eKuk/WdmkB4tybOUCuFaG3G6IntzJX3I=",
+    "page32.wasm": "sha256-np/td/xZFnCzE1AG92RDSoZPBO31qUyRvw/4MRISusA="
   }
 };

@@ -9,6 +9,7 @@ import { DEEPEST, Rules, fetchModule, isBoard } from "./module.js";
 const GRACE = 20; // milliseconds that a search which is given up may still take, before its worker is ended
 const TRIES = 3; // of a search whose workers are lost
 const MOST_WORKERS = 8;
+const GREATEST = 128000; // of values
 
 /** How many searches run at once where nobody says it: one for each processor, up to eight. */
 export const workersHere = () => Math.min(Math.max(globalThis.navigator?.hardwareConcurrency ?? 1, 1), MOST_WORKERS);
@@ -57,18 +58,19 @@ export class Engine {
 
   /**
    * A board's minimax value so many plies deep (0 to 12) and its best choice (null where there is none), or, where `choice` names one of its
-   * choices, what that is worth (1 to 12 plies deep). Values are seen by the player to move. `signal` gives it up: it rejects at once with an
-   * AbortError. `RangeError` where the words are no board, or the board has no such choice.
+   * choices, what that is worth (1 to 12 plies deep), sooner where `guess` is near that. Values are seen by the player to move. `signal` gives
+   * it up: it rejects at once with an AbortError. `RangeError` where the words are no board, the board has no such choice, or a guess is no value.
    */
-  ask(own, opp, depth, { signal, choice } = {}) {
+  ask(own, opp, depth, { signal, choice, guess } = {}) {
     return new Promise((resolve, reject) => {
       if (!isBoard(own, opp)) throw new RangeError("two words of 64 bits that share none are a board");
       if (!Number.isInteger(depth) || depth < (choice === undefined ? 0 : 1) || depth > DEEPEST) throw new RangeError(`a depth is a number of plies up to ${DEEPEST}`);
       if (choice !== undefined && !this.rules.isChoice(own, opp, choice)) throw new RangeError("the player to move doesn't have this choice");
+      if (guess !== undefined && !(Number.isInteger(guess) && Math.abs(guess) <= GREATEST)) throw new RangeError(`a guess is a whole number up to ${GREATEST}`);
       if (this.closed) throw new Error(this.closed);
       if (signal?.aborted) throw given("given up");
       const stop = () => this.giveUp(task, given("given up"));
-      const task = { asked: { own, opp, depth, choice }, resolve, reject, tries: 0, hand: null, isOver: false, quiet: () => signal?.removeEventListener("abort", stop) };
+      const task = { asked: { own, opp, depth, choice, guess }, resolve, reject, tries: 0, hand: null, isOver: false, quiet: () => signal?.removeEventListener("abort", stop) };
       signal?.addEventListener("abort", stop);
       this.waiting.push(task);
       this.assign();

@@ -119,7 +119,7 @@ export class Analyst {
     if (!this.asked.size) [this.since, this.work] = [performance.now(), 0];
     this.asked.set(position, question);
     try {
-      if (isHere) this.learn(position, await this.local.table(position, depth, question.stop.signal));
+      if (isHere) this.learn(position, await this.local.table(position, depth, question.stop.signal, this.of(position)));
       else await this.hear(question, position, depth);
     } catch (fault) {
       if (question.stop.signal.aborted) return;

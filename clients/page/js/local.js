@@ -23,18 +23,18 @@ export class Local {
     return Boolean(this.engine);
   }
 
-  /** All moves of a position, so many plies deep, each exactly: {depth, score, best, table, ends}. Given up with the signal. */
-  async table(position, depth, signal) {
-    const moves = legal(position), ends = depth >= count(position, "-");
-    const values = await Promise.all(moves.map((at) => this.moveValue(position, at, depth, signal)));
+  /** All moves of a position, so many plies deep, each exactly: {depth, score, best, table, values, ends}. Given up with the signal. `before` is what was found less deep. */
+  async table(position, depth, signal, before) {
+    const moves = legal(position), ends = depth >= count(position, "-"), guesses = ends ? undefined : before?.values;
+    const values = await Promise.all(moves.map((at) => this.moveValue(position, at, depth, signal, guesses?.get(at))));
     const table = new Map(moves.map((at, number) => [SQUARES[at], scoreOf(values[number], ends)]));
     const most = Math.max(...values), best = SQUARES[moves[firstBest(moves, values, most)]];
-    return { depth, score: scoreOf(most, ends), best, table, ends, line: [best] };
+    return { depth, score: scoreOf(most, ends), best, table, values: new Map(moves.map((at, number) => [at, values[number]])), ends, line: [best] };
   }
 
-  /** What a move is worth to the player who makes it. */
-  async moveValue(position, at, depth, signal) {
-    const { value } = await this.engine.ask(...wordsOf(position), depth, { choice: at, signal });
+  /** What a move is worth to the player who makes it, sooner where a guess is near. */
+  async moveValue(position, at, depth, signal, guess) {
+    const { value } = await this.engine.ask(...wordsOf(position), depth, { choice: at, signal, guess });
     return value;
   }
 

@@ -14,18 +14,20 @@ pub use Rattle.std.specs.List.Sorted.{IsPermutation}
 pub use Rattle.std.proofs.Common.{FitsSigned, of_z, to_z, w32, ◌*ℤ◌, ◌-ℤ◌}
 pub use lib.Count.{ones-le}
 pub use Rattle.std.specs.Int.{int_max}
-pub use Rattle.othello_board.specs.Words.{cells}
+pub use Rattle.othello_board.specs.Rules.{exchanged, is_legal, is_nil, squares}
+pub use Rattle.othello_board.specs.Words.{bits_of, cells}
 pub use Rattle.othello_board.specs.declared.boards.Board.{Board}
 pub use Rattle.othello_board.specs.declared.cells.Cell.{Cell}
 pub use Rattle.othello_eval.proofs.MinimaxLemmas.{best_choice-deeper, best_choice-leaf, best_choice-over, find-kept, find-new, found-below-greatest}
 pub use Rattle.othello_eval.proofs.MinimaxLemmas.{greatest_or-lower, greatest_or-upper, minimax-deeper, minimax-over, minimax-leaf-there}
-pub use Rattle.othello_eval.proofs.ValueLemmas.{known-within}
-pub use Rattle.othello_eval.proofs.othello_moves_DescentLemmas.{goes_down, passing}
+pub use Rattle.othello_eval.proofs.ValueLemmas.{difference-fits, eval-fits, eval-is, known-within, mobility-fits, small-fits}
+pub use Rattle.othello_moves.proofs.AllowedLemmas.{goes_down, legal_squares-fit, passing}
+pub use Rattle.othello_moves.proofs.BitLemmas.{length-in_order}
 pub use Rattle.othello_eval.specs.Minimax.{choice_value, greatest, greatest_or, int_equal, minimax}
-pub use Rattle.othello_eval.specs.Values.{IsWithin, final_value}
-pub use Rattle.othello_eval.specs.othello_moves.Choices.{after, choices, plies}
+pub use Rattle.othello_eval.specs.Values.{IsWithin, discs_value, eval, final_value, weights}
+pub use Rattle.othello_eval.specs.othello_moves.Choices.{after, choices, legal_squares, plies}
 pub use Rattle.othello_eval.specs.othello_moves.declared.choices.Choice.{Choice}
-pub use Rattle.othello_eval.specs.othello_moves.declared.choices.Choice.TheVariants.{Square}
+pub use Rattle.othello_eval.specs.othello_moves.declared.choices.Choice.TheVariants.{Pass, Square}
 pub use Rattle.leaf_search.specs.Bounds.{IsBound}
 pub use Rattle.leaf_search.specs.Ranking.{numbered, numbered_choice}
 pub use Rattle.leaf_search.specs.declared.ranking.Ranked.{Ranked}

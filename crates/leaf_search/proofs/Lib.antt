@@ -3,3 +3,4 @@ pub mod EvalLemmas
 pub mod WindowLemmas
 pub mod RankingLemmas
 pub mod ListLemmas
+pub mod LeafLemmas

@@ -7,10 +7,11 @@ ghost use Rattle.othello_eval.specs.Values.{IsWithin};
 ghost use Rattle.othello_eval.specs.Minimax.{minimax, best_choice};
 ghost use Rattle.leaf_search.specs.Bounds.{IsBound};
 
-use super::ranking::{Ranked, ranking};
+use super::ranking::{Ranked, rank};
 use super::scored::{Counted, Scored};
 use super::tree::{search, search_below};
 use super::window::{INF, Window};
+use arrayvec::ArrayVec;
 use othello_board::Board;
 use othello_eval::othello_moves::{Choice, DEEPEST, plies};
 use othello_eval::{Weighed, final_value};
@@ -54,7 +55,7 @@ struct Best {
     /// The best score, the choice that has it, and how many positions were entered.
     found: Scored,
     /// The place of that choice in the rules' order.
-    place: u8,
+    place: u16,
 }
 
 impl Best {
@@ -71,7 +72,7 @@ impl Best {
     /// The score that a choice at this place has to exceed to be the best: the best score, and where the first best choice is
     /// wanted and it comes earlier than the best so far, one less, so that a tie counts.
     #[inline(always)]
-    fn floor(self, place: u8, first: bool) -> i32
+    fn floor(self, place: u16, first: bool) -> i32
         requires { neg_ℤ INF ≤ℤ self.found.score }
         ensures most { result ≤ℤ self.found.score }
         ensures least { self.found.score ≤ℤ (result +ℤ pos 1) }
@@ -115,7 +116,8 @@ fn best_ranked(weighed: Weighed, depth: u8, window: Window, first: bool) -> Scor
     ensures within { IsWithin 128000 result.score }
     ensures chosen { IfSome result.choice (Contains (choices (cells weighed.board))) }
 {
-    let list = ranking(weighed);
+    let mut list = ArrayVec::new();
+    rank(&mut list, weighed, depth);
     let all = list.as_slice();
     if all.is_empty() {
         return Scored::entered(final_value(weighed.board));
@@ -162,7 +164,7 @@ fn search_ranked(weighed: Weighed, depth: u8, window: Window) -> Counted
     ensures within { IsWithin 128000 result.score }
 {
     if depth < LEAST_ORDERED {
-        return search_below(weighed, depth, window);
+        return search_below(weighed, depth, window, false);
     }
     best_ranked(weighed, depth, window, false).counted()
 }

@@ -6,10 +6,11 @@ ghost use Rattle.othello_eval.specs.Values.{IsWithin, discs_value, weights};
 ghost use Rattle.othello_eval.specs.Minimax.{minimax, best_choice};
 ghost use Rattle.leaf_search.specs.Bounds.{IsBound};
 
+use super::leaf::{entered, leaf_score};
 use super::scored::{Counted, Scored};
 use super::window::{INF, Window};
 use othello_board::Board;
-use othello_eval::othello_moves::{Choices, DEEPEST, Mobility, plies};
+use othello_eval::othello_moves::{Choices, DEEPEST, plies};
 use othello_eval::{Weighed, final_value};
 
 /// Searches a board to a depth of 0 to 12 plies through a window (fail-soft alpha-beta: Fishburn 1983).
@@ -49,19 +50,6 @@ pub fn search_full(board: Board, depth: u8) -> Scored
     search(board, depth, -INF, INF)
 }
 
-/// The value of a position at depth 0.
-#[inline(always)]
-fn entered(weighed: Weighed) -> i32
-    ensures value { result ≡ minimax 0 (cells weighed.board) }
-    ensures within { IsWithin 128000 result }
-{
-    let mobility = Mobility::of(weighed.board);
-    if mobility.is_over() {
-        return final_value(weighed.board);
-    }
-    weighed.eval(mobility)
-}
-
 /// Searches the positions after the choices of a board in order, to a depth of 1 or more, until one has
 /// a score of at least beta, and says which choice was best.
 fn best_of(weighed: Weighed, depth: u8, window: Window) -> Scored
@@ -78,7 +66,8 @@ fn best_of(weighed: Weighed, depth: u8, window: Window) -> Scored
     let mut best = Scored::entered(-INF);
     while let Some(choice) = left.pop_first() {
         let rest = depth - plies(choice) as u8;
-        let child = search_below(weighed.after(choice), rest, window.of_child(best.score));
+        let seen = window.of_child(best.score);
+        let child = search_below(weighed.after(choice), rest, seen, true);
         best.take_in(choice, child);
         if best.score >= window.beta {
             return best;
@@ -91,19 +80,19 @@ fn best_of(weighed: Weighed, depth: u8, window: Window) -> Scored
 /// positions are leaves, which have none below them.
 #[cycle(search)]
 #[inline(always)]
-pub(crate) fn search_below(weighed: Weighed, depth: u8, window: Window) -> Counted
+pub(crate) fn search_below(weighed: Weighed, depth: u8, window: Window, whole: bool) -> Counted
     ensures bound { IsBound window.alpha window.beta result.score (minimax depth (cells weighed.board)) }
     ensures within { IsWithin 128000 result.score }
 {
     if depth > 0 {
-        return score_of(weighed.board, weighed.discs, depth, window);
+        return score_of(weighed.board, weighed.discs, depth, window, whole);
     }
-    Counted::entered(entered(weighed))
+    Counted::entered(leaf_score(weighed, window, whole))
 }
 
 /// As `best_of`, without the choice. The board and the value of its discs are handed on by themselves, in registers.
 #[cycle(search)]
-fn score_of(board: Board, discs: i32, depth: u8, window: Window) -> Counted
+fn score_of(board: Board, discs: i32, depth: u8, window: Window, whole: bool) -> Counted
     requires weighed { discs ≡ discs_value (cells board) weights }
     requires deep { 0 < depth }
     ensures bound { IsBound window.alpha window.beta result.score (minimax depth (cells board)) }
@@ -117,7 +106,8 @@ fn score_of(board: Board, discs: i32, depth: u8, window: Window) -> Counted
     let mut best = Counted::entered(-INF);
     while let Some(choice) = left.pop_first() {
         let below = depth - plies(choice) as u8;
-        let child = search_below(weighed.after(choice), below, window.of_child(best.score));
+        let seen = window.of_child(best.score);
+        let child = search_below(weighed.after(choice), below, seen, whole);
         best = best.with(child);
         if best.score >= window.beta {
             return best;

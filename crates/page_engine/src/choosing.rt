@@ -4,11 +4,11 @@ ghost use Rattle.std.specs.Option.{option_map};
 ghost use Rattle.othello_board.specs.Words.{cells};
 ghost use Rattle.othello_moves.specs.Choices.{choices};
 ghost use Rattle.page_engine.specs.leaf_search.othello_eval.Values.{IsWithin};
-ghost use Rattle.page_engine.specs.leaf_search.othello_eval.Minimax.{choice_value};
+ghost use Rattle.page_engine.specs.leaf_search.othello_eval.Minimax.{choice_value, minimax};
 ghost use Rattle.page_engine.specs.Codes.{after_code};
 
 use super::codes::choice_of;
-use leaf_search::search_ordered_full;
+use leaf_search::{INF, search_ordered, search_ordered_full};
 use othello_board::Board;
 use othello_moves::{Choice, DEEPEST, after, plies};
 
@@ -31,4 +31,39 @@ pub(crate) fn worth(board: Board, choice: Choice, depth: u8) -> i32
     ensures within { IsWithin 128000 result }
 {
     -search_ordered_full(after(board, choice), depth - plies(choice) as u8).score
+}
+
+/// The greatest value of a board.
+const GREATEST: i32 = 128_000;
+
+/// How far a guess may be off without a second search.
+const WIDTH: i32 = 20;
+
+/// The minimax value of a board, that is sought near a guess first, and where it isn't there, on the side where it is.
+fn value_near(board: Board, depth: u8, guess: i32) -> i32
+    requires shallow { depth ≤ DEEPEST }
+    requires near { IsWithin 128000 guess }
+    ensures value { result ≡ minimax depth (cells board) }
+    ensures within { IsWithin 128000 result }
+{
+    let found = search_ordered(board, depth, guess - WIDTH, guess + WIDTH).score;
+    if found <= guess - WIDTH {
+        return search_ordered(board, depth, -INF, found + 1).score;
+    }
+    if found >= guess + WIDTH {
+        return search_ordered(board, depth, found - 1, INF).score;
+    }
+    found
+}
+
+/// As [`worth`], sooner where the guess is near what the choice is worth.
+pub(crate) fn worth_near(board: Board, choice: Choice, depth: u8, guess: i32) -> i32
+    requires chosen { Contains (choices (cells board)) choice }
+    requires deep { 0 < depth }
+    requires shallow { depth ≤ DEEPEST }
+    ensures value { result ≡ choice_value depth (cells board) choice }
+    ensures within { IsWithin 128000 result }
+{
+    let seen = -guess.clamp(-GREATEST, GREATEST);
+    -value_near(after(board, choice), depth - plies(choice) as u8, seen)
 }

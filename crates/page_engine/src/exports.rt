@@ -9,7 +9,7 @@ ghost use Rattle.page_engine.specs.leaf_search.othello_eval.Values.{IsWithin};
 ghost use Rattle.page_engine.specs.leaf_search.othello_eval.Minimax.{minimax, best_choice, choice_value};
 ghost use Rattle.page_engine.specs.Codes.{after_code, analysis_code, choice_of_code, no_analysis, no_value, opp_bits, own_bits, turn_code};
 
-use super::choosing::{board_after, worth};
+use super::choosing::{board_after, worth, worth_near};
 use super::codes::{choice_of, code_of_best};
 use leaf_search::search_ordered_full;
 use othello_board::Board;
@@ -135,6 +135,27 @@ pub extern "C" fn choice_value(own: u64, opp: u64, depth: u32, choice: u32) -> i
         Some(board) => match choice_of(board, choice) {
             None => NO_VALUE,
             Some(chosen) => worth(board, chosen, depth as u8),
+        },
+    }
+}
+
+/// As [`choice_value`], whatever the guess; sooner where that is near.
+#[unsafe(no_mangle)]
+pub extern "C" fn choice_value_near(own: u64, opp: u64, depth: u32, choice: u32, guess: i32) -> i32
+    ensures value { bit_and own opp ≡ 0 → 0 < depth → depth ≤ greatest_depth → result ≡ option_map_or (choice_value depth (cells_of own opp)) (choice_of_code (cells_of own opp) choice) no_value }
+    ensures within { bit_and own opp ≡ 0 → 0 < depth → depth ≤ greatest_depth → IsSome (choice_of_code (cells_of own opp) choice) → IsWithin 128000 result }
+    ensures no_board { bit_and own opp ≢ 0 → result ≡ no_value }
+    ensures no_depth { depth ≡ 0 → result ≡ no_value }
+    ensures too_deep { greatest_depth < depth → result ≡ no_value }
+{
+    if depth == 0 || depth > u32::from(DEEPEST) {
+        return NO_VALUE;
+    }
+    match Board::new(own, opp) {
+        None => NO_VALUE,
+        Some(board) => match choice_of(board, choice) {
+            None => NO_VALUE,
+            Some(chosen) => worth_near(board, chosen, depth as u8, guess),
         },
     }
 }

@@ -19,4 +19,6 @@ mod choosing;
 mod codes;
 mod exports;
 
-pub use exports::{analyse, choice_value, is_choice, legal_squares, opp_after, own_after, turn};
+pub use exports::{
+    analyse, choice_value, choice_value_near, is_choice, legal_squares, opp_after, own_after, turn,
+};

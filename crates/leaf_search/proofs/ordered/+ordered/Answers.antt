@@ -9,7 +9,7 @@ pub best_ranked-returns-then-is_empty-clause-bound : goal.best_ranked-returns-th
 best_ranked-returns-then-is_empty-clause-bound t c =
     let board = cells c.args.weighed.board in
     let none : length c.as_slice-all.result.now ≡ 0 = eqb-true (length c.as_slice-all.result.now) 0 (sym c.is_empty.ensures ∙ c.if-is_empty.true) in
-    let over = none-from-length (choices board) (ranked-many board c.as_slice-all.result.now c.as_slice-all.ensures.value c.ranking-list.ensures ∙ none) in
+    let over = none-from-length (choices board) (ranked-many board c.as_slice-all.result.now c.as_slice-all.ensures.value c.rank.ensures ∙ none) in
     let score_is : final_value board ≡ c.entered.result.score = omega (arith, ints, ap (λ (s : Scored). s.score) c.entered.ensures, c.final_value.ensures.value) in
     exact-bound _ _ _ _ (minimax-over c.args.depth board over ∙ score_is)
 
@@ -17,7 +17,7 @@ pub best_ranked-returns-then-is_empty-clause-choice : goal.best_ranked-returns-t
 best_ranked-returns-then-is_empty-clause-choice t c wanted higher lower =
     let board = cells c.args.weighed.board in
     let none : length c.as_slice-all.result.now ≡ 0 = eqb-true (length c.as_slice-all.result.now) 0 (sym c.is_empty.ensures ∙ c.if-is_empty.true) in
-    let over = none-from-length (choices board) (ranked-many board c.as_slice-all.result.now c.as_slice-all.ensures.value c.ranking-list.ensures ∙ none) in
+    let over = none-from-length (choices board) (ranked-many board c.as_slice-all.result.now c.as_slice-all.ensures.value c.rank.ensures ∙ none) in
     ap (λ (s : Scored). s.choice) c.entered.ensures ∙ sym (best_choice-over c.args.depth board over)
 
 -- one turn
@@ -26,7 +26,7 @@ best_ranked-after-after-requires t c =
     let board = cells c.args.weighed.board in
     let all = c.as_slice-all.result.now in
     let here : c.loop-ranked.ranked-index < length all = omega arith in
-    let perm = ranked-all board all c.as_slice-all.ensures.value c.ranking-list.ensures in
+    let perm = ranked-all board all c.as_slice-all.ensures.value c.rank.ensures in
     IsRanking-next c.loop-ranked.invariant perm (ranked-next board all c.as_slice-all.ensures.value c.loop-ranked.ranked-index here)
 
 pub best_ranked-score_after-child-requires : goal.best_ranked-score_after-child-requires
@@ -35,7 +35,7 @@ best_ranked-score_after-child-requires t c =
     let all = c.as_slice-all.result.now in
     let r = ranked_at all c.loop-ranked.ranked-index in
     let here : c.loop-ranked.ranked-index < length all = omega arith in
-    let perm = ranked-all board all c.as_slice-all.ensures.value c.ranking-list.ensures in
+    let perm = ranked-all board all c.as_slice-all.ensures.value c.rank.ensures in
     let next = IsRanking-next c.loop-ranked.invariant perm (ranked-next board all c.as_slice-all.ensures.value c.loop-ranked.ranked-index here) in
     let deep = ap (λ p. c.args.depth - p) c.plies.ensures.value in
     let down = goes_down c.args.depth (c.args.depth - c.plies.result) board (cells c.after-after.result.board) r.choice next c.after-after.ensures c.requires deep in
@@ -49,7 +49,7 @@ best_ranked-returns-then-best-window t c =
     let all = c.as_slice-all.result.now in
     let r = ranked_at all c.loop-ranked.ranked-index in
     let here : c.loop-ranked.ranked-index < length all = omega arith in
-    let perm = ranked-all board all c.as_slice-all.ensures.value c.ranking-list.ensures in
+    let perm = ranked-all board all c.as_slice-all.ensures.value c.rank.ensures in
     let next = ranked-next board all c.as_slice-all.ensures.value c.loop-ranked.ranked-index here in
     let beta_is : c.of_child-seen.result.beta ≡ neg_ℤ (int_max c.args.window.alpha c.floor.result) =
     c.of_child-seen.ensures.beta ∙ ap (λ b. neg_ℤ (int_max c.args.window.alpha b)) (omega (arith, ints, s.least, s.greatest, c.floor.ensures.most, c.floor.ensures.least)) in
@@ -70,7 +70,7 @@ best_ranked-loop-ranked-preserved t c =
     let all = c.as_slice-all.result.now in
     let r = ranked_at all c.loop-ranked.ranked-index in
     let here : c.loop-ranked.ranked-index < length all = omega arith in
-    let perm = ranked-all board all c.as_slice-all.ensures.value c.ranking-list.ensures in
+    let perm = ranked-all board all c.as_slice-all.ensures.value c.rank.ensures in
     let next = ranked-next board all c.as_slice-all.ensures.value c.loop-ranked.ranked-index here in
     let beta_is : c.of_child-seen.result.beta ≡ neg_ℤ (int_max c.args.window.alpha c.floor.result) =
     c.of_child-seen.ensures.beta ∙ ap (λ b. neg_ℤ (int_max c.args.window.alpha b)) (omega (arith, ints, s.least, s.greatest, c.floor.ensures.most, c.floor.ensures.least)) in
@@ -86,9 +86,9 @@ best_ranked-returns t c =
     let board = cells c.args.weighed.board in
     let s = c.loop-ranked.invariant in
     let all = c.as_slice-all.result.now in
-    let perm = ranked-all board all c.as_slice-all.ensures.value c.ranking-list.ensures in
+    let perm = ranked-all board all c.as_slice-all.ensures.value c.rank.ensures in
     let some : 0 < length all = filled (length all) c.is_empty.result c.is_empty.ensures c.if-is_empty.false in
-    let many : 0 < length (choices board) = omega (arith, ranked-many board all c.as_slice-all.ensures.value c.ranking-list.ensures, some) in
+    let many : 0 < length (choices board) = omega (arith, ranked-many board all c.as_slice-all.ensures.value c.rank.ensures, some) in
     let none = ranked-end all c.loop-ranked.ranked-index (omega arith) in
     record {
       bound = rw (minimax-deeper c.args.depth board c.requires) (IsRanking-bound s perm none many (final_value board));

@@ -1,4 +1,4 @@
-use Rattle.leaf_search.proofs.Common.{rules, ◌≡◌, neg_ℤ, ◌-◌, sym, ◌∙◌, ap, arith, int_max, ints, clamps, cells, goes_down, final_value, minimax, Counted, minimax-deeper, minimax-over}
+use Rattle.leaf_search.proofs.Common.{rules, ◌≡◌, neg_ℤ, ◌-◌, ◌∙◌, ap, arith, int_max, ints, clamps, subst, IsBound, cells, goes_down, final_value, minimax, Counted, minimax-deeper, minimax-over}
 use Rattle.leaf_search.proofs.WindowLemmas.{child-of, Searched-turn, IsSearching-cut, IsSearching-bound, IsSearching-real, IsSearching-next, exact-bound, some-left, none-left}
 use Rattle.leaf_search.proofs.tree.+search.Goals as goal
 
@@ -18,7 +18,7 @@ score_of-returns-then-best-window t c =
     let board = cells c.args.board in
     let searching = c.loop-choice.invariant.searching in
     let e = c.search_below-child.ensures in
-    let child = child-of c.args.depth board c.in-Some.choice c.plies.ensures.value c.after.ensures c.of_child.ensures.alpha c.of_child.ensures.beta e.bound e.within in
+    let child = child-of c.args.depth board c.in-Some.choice c.plies.ensures.value c.after.ensures c.of_child-seen.ensures.alpha c.of_child-seen.ensures.beta e.bound e.within in
     let score = c.with-best.ensures.score in
     record {
       bound = rw (minimax-deeper c.args.depth board c.requires.deep)
@@ -29,10 +29,10 @@ score_of-returns-then-best-window t c =
 pub score_of-loop-choice-preserved : goal.score_of-loop-choice-preserved
 score_of-loop-choice-preserved t c =
     let searching = c.loop-choice.invariant.searching in
-    let beta_is : c.of_child.result.beta ≡ neg_ℤ (int_max c.args.window.alpha c.loop-choice.best.score) =
-    c.of_child.ensures.beta ∙ ap (λ b. neg_ℤ (int_max c.args.window.alpha b)) (omega (arith, ints, searching.least, searching.greatest)) in
+    let beta_is : c.of_child-seen.result.beta ≡ neg_ℤ (int_max c.args.window.alpha c.loop-choice.best.score) =
+    c.of_child-seen.ensures.beta ∙ ap (λ b. neg_ℤ (int_max c.args.window.alpha b)) (omega (arith, ints, searching.least, searching.greatest)) in
     Searched-turn c.loop-choice.invariant c.in-Some.ensures.cases
-    (child-of c.args.depth (cells c.args.board) c.in-Some.choice c.plies.ensures.value c.after.ensures c.of_child.ensures.alpha beta_is
+    (child-of c.args.depth (cells c.args.board) c.in-Some.choice c.plies.ensures.value c.after.ensures c.of_child-seen.ensures.alpha beta_is
     c.search_below-child.ensures.bound c.search_below-child.ensures.within)
     c.with-best.ensures.score (omega (arith, ints))
 
@@ -57,5 +57,6 @@ score_of-returns-then-is_empty-clause-bound t c =
 pub search_below-returns-clause-bound : goal.search_below-returns-clause-bound
 search_below-returns-clause-bound t c =
     let none : c.args.depth ≡ 0 = omega arith in
-    let score_is : c.entered.result ≡ c.entered-2.result.score = omega (arith, ints, ap (λ (s : Counted). s.score) c.entered-2.ensures) in
-    exact-bound _ _ _ _ (ap (λ d. minimax d (cells c.args.weighed.board)) none ∙ sym c.entered.ensures.value ∙ score_is)
+    let score_is : c.leaf_score.result ≡ c.entered.result.score =
+    omega (arith, ints, ap (λ (s : Counted). s.score) c.entered.ensures, c.leaf_score.ensures.within.0, c.leaf_score.ensures.within.1) in
+    rw (none) (subst (λ s. IsBound c.args.window.alpha c.args.window.beta s (minimax 0 (cells c.args.weighed.board))) score_is c.leaf_score.ensures.bound)

@@ -14,7 +14,7 @@ returns-then-best-window c =
     let board = cells c.args.weighed.board in
     let s = c.loop-choice.invariant in
     let e = c.search_below-child.ensures in
-    let child = child-of c.args.depth board c.in-Some.choice c.plies.ensures.value c.after.ensures c.of_child.ensures.alpha c.of_child.ensures.beta e.bound e.within in
+    let child = child-of c.args.depth board c.in-Some.choice c.plies.ensures.value c.after.ensures c.of_child-seen.ensures.alpha c.of_child-seen.ensures.beta e.bound e.within in
     let score = greater (taken-in c) in
     record {
       bound = rw (minimax-deeper c.args.depth board c.requires)
@@ -26,10 +26,10 @@ returns-then-best-window c =
 
 pub loop-choice-preserved : goal.loop-choice-preserved
 loop-choice-preserved c =
-    let beta_is : c.of_child.result.beta ≡ neg_ℤ (int_max c.args.window.alpha c.loop-choice.best.score) =
-    c.of_child.ensures.beta ∙ ap (λ b. neg_ℤ (int_max c.args.window.alpha b)) (omega (arith, ints, c.loop-choice.invariant.least, c.loop-choice.invariant.greatest)) in
+    let beta_is : c.of_child-seen.result.beta ≡ neg_ℤ (int_max c.args.window.alpha c.loop-choice.best.score) =
+    c.of_child-seen.ensures.beta ∙ ap (λ b. neg_ℤ (int_max c.args.window.alpha b)) (omega (arith, ints, c.loop-choice.invariant.least, c.loop-choice.invariant.greatest)) in
     IsSearching-turn c.loop-choice.invariant c.in-Some.ensures.cases
-    (child-of c.args.depth (cells c.args.weighed.board) c.in-Some.choice c.plies.ensures.value c.after.ensures c.of_child.ensures.alpha beta_is
+    (child-of c.args.depth (cells c.args.weighed.board) c.in-Some.choice c.plies.ensures.value c.after.ensures c.of_child-seen.ensures.alpha beta_is
     c.search_below-child.ensures.bound c.search_below-child.ensures.within)
     (record { better = c.take_in.ensures.better; kept = c.take_in.ensures.kept }) (omega (arith, ints))
 

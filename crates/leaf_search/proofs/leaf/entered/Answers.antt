@@ -1,5 +1,5 @@
 use Rattle.leaf_search.proofs.Common.{◌≡◌, ◌↔◌, Bool, IsTrue, true, false, [], sym, ◌∙◌, ap, arith, ints, Board, cells, choices, minimax, minimax-leaf-there, minimax-over}
-use Rattle.leaf_search.proofs.tree.entered.Goals as goal
+use Rattle.leaf_search.proofs.leaf.entered.Goals as goal
 
 -- where the game is over
 pub returns-then-is_over-clause-value : goal.returns-then-is_over-clause-value

@@ -1,6 +1,6 @@
 use Rattle.leaf_search.proofs.Common.{length, cells}
 use Rattle.leaf_search.proofs.ListLemmas.{IsListed}
-use Rattle.leaf_search.proofs.ranking.listed.Given as goal
+use Rattle.leaf_search.proofs.ranking.list.Given as goal
 
 abbrev pub invariant-loop-choice : goal.invariant-loop-choice
 invariant-loop-choice l = IsListed (cells l.weighed.board) l.ranked.items l.left

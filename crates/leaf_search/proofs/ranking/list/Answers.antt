@@ -1,6 +1,6 @@
 use Rattle.leaf_search.proofs.Common.{refl, sym, subst, rules, cells}
 use Rattle.leaf_search.proofs.ListLemmas.{IsListed, IsListed-next, IsListed-room, IsListed-turn}
-use Rattle.leaf_search.proofs.ranking.listed.Goals as goal
+use Rattle.leaf_search.proofs.ranking.list.Goals as goal
 
 pub after-requires : goal.after-requires
 after-requires c = IsListed-next c.loop-choice.invariant c.in-Some.ensures.cases

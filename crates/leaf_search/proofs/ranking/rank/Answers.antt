@@ -1,0 +1,8 @@
+use Rattle.leaf_search.proofs.Common.{cells}
+use Rattle.leaf_search.proofs.ListLemmas.{sorted-rearranged}
+use Rattle.leaf_search.proofs.ranking.rank.Goals as goal
+
+pub returns : goal.returns
+returns c =
+    sorted-rearranged (cells c.args.weighed.board) c.list.new.ranked.items _ c.sort_unstable_by_key.new.self c.as_mut_slice.ensures.value
+    c.sort_unstable_by_key.ensures.permutation c.list.ensures
