@@ -2,10 +2,10 @@
 pub use Rattle.std.proofs.Common.{Bool, Err, IfSome, IsOk, List, None, Ok, OnErr, Option, Result, Some, [], ap, append-nil, append_assoc, arith, cond, drop}
 pub use Rattle.std.proofs.Common.{eqb, false, get_or, inl, inr, length, length-append, length-set, map, nat_lt, not, refl, rules, set, slice_get, slice_index}
 pub use Rattle.std.proofs.Common.{subst, suc, sym, take, true, vec_capacity, vec_len, zero, ℕ, ◌++◌, ◌+◌, ◌-◌, ◌<◌, ◌||◌, ◌∙◌, ◌∷◌, ◌≡◌, ◌≢◌, ◌≤◌, ◌⊎◌}
-pub use Rattle.std.proofs.lemmas.Bool.{and_parts, and_right, cases_Bool, cases_eq, eq-eqb, eqb-true, false≢true, lt-ltb, ltb-false, ltb-true, ne_eqb, not-true}
+pub use Rattle.std.proofs.lemmas.Bool.{and_parts, cases_Bool, cases_eq, eq-eqb, eqb-true, false≢true, lt-ltb, ltb-false, ltb-true, ne_eqb, not-true}
 pub use Rattle.std.proofs.lemmas.Bool.{not_from_false, not_from_true, or_cases, or_parts, or_right, true≢false}
 pub use Rattle.std.proofs.lemmas.Grind.{common_steps}
-pub use Rattle.std.proofs.lemmas.List.{at_drop_more, drop-set-add, get_or-set_other, get_or-set_same, get_or_default, length-drop, length-map, map-append}
+pub use Rattle.std.proofs.lemmas.List.{at_drop_more, drop-set-add, get_or-set_other, get_or_default, length-drop, length-map, map-append}
 pub use Rattle.std.proofs.lemmas.List.{take-set, take_more}
 pub use Rattle.std.proofs.lemmas.List.Edits.{length-remove}
 pub use Rattle.std.proofs.lemmas.List.Elements.{filter-append, filter_more}
@@ -19,14 +19,14 @@ pub use Rattle.frame_table.specs.Frames.{frames_without, goes_under, has_frame, 
 pub use Rattle.frame_table.specs.Frames.{path_under, root_of, values_of, with_state}
 pub use Rattle.frame_table.specs.Places.{AllFromBy, IsPlaceFor, has_number}
 pub use Rattle.frame_table.specs.Readies.{AreTenantFrames, last_ready, put_ready, ready_in, with_ready, without_ready}
-pub use Rattle.frame_table.specs.SlotStores.{AllHere, AreApartKeys, AreKeys, AreThere, ChangesSlot, HasSerial, IsHere, IsKeyAt, IsSeenAt, IsSlotStore}
-pub use Rattle.frame_table.specs.SlotStores.{KnowsParent, Marks, NoneMarked, is_marked, marked_in, slots_in, swept_in, values_in, with_found}
-pub use Rattle.frame_table.specs.Slots.{AllAbove, AllCountsBelow, AreSoundSlots, IsLinked, Rises, child_slots, frame_of_slot, frames_from, gone_values, has_slot}
-pub use Rattle.frame_table.specs.Slots.{kept_slots, newest_in, ready_slots, serials_of, slot_values, slots_of, with_child, with_slot, without_child}
+pub use Rattle.frame_table.specs.SlotStores.{AllHere, AreApartKeys, AreKeys, ChangesSlot, HasSerial, IsHere, IsKeyAt, IsSeenAt, IsSlotStore}
+pub use Rattle.frame_table.specs.SlotStores.{KnowsParent, Leaves, gone_among, has_slot_under, left_under, slots_in, with_found}
+pub use Rattle.frame_table.specs.Slots.{AllAbove, AllCountsBelow, FollowsBy, IsCutAt, KeepsTree, Rises, child_slots, frames_from, gone_values, has_slot, restated}
+pub use Rattle.frame_table.specs.Slots.{kept_slots, recounted, serials_of, slot_values, slots_of, stays_under, with_child, with_slot, without_child}
 pub use Rattle.frame_table.specs.TreeLaws.{AllAboveSerial, AreAlike, AreSerialsRising, Each, if_kept, is_child_of, is_that, map_value, map_values}
 pub use Rattle.frame_table.specs.declared.names.FrameId.{FrameId}
 pub use Rattle.frame_table.specs.declared.names.State.{State}
-pub use Rattle.frame_table.specs.declared.names.State.TheVariants.{Computing, Ready, Returned, Running, Waiting}
+pub use Rattle.frame_table.specs.declared.names.State.TheVariants.{Ready}
 pub use Rattle.frame_table.specs.declared.ready.ReadyFrame.{ReadyFrame}
 pub use Rattle.frame_table.specs.declared.slot.Slot.{Slot}
 pub use Rattle.frame_table.specs.declared.slot_store.StoredSlot.{StoredSlot}

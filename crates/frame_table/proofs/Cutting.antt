@@ -1,24 +1,26 @@
 -- A slot store of which some slots went.
-use Rattle.frame_table.proofs.Common.{◌≡◌, ◌≢◌, ℕ, zero, suc, ◌+◌, ◌<◌, ◌≤◌, Bool, true, false, not, eqb, List, [], ◌∷◌, ◌++◌, Option, Some, None, get_or}
-use Rattle.frame_table.proofs.Common.{slice_index, take, length, append-nil, map, refl, ap, sym, ◌∙◌, arith, subst, StoredSlot, has_number, filter-append}
-use Rattle.frame_table.proofs.Common.{filter, remove, Slot as TenantSlot, Slab, get, slab_len, false≢true, eq-eqb, ne_eqb, not-true, or_right, eqb-true}
-use Rattle.frame_table.proofs.Common.{IsLinked, kept_slots, gone_values, child_slots, AllAbove, Rises, serials_of, with_found, slots_in, AreApartKeys, HasSerial}
-use Rattle.frame_table.proofs.Common.{KnowsParent, IsHere, AllHere, IsSlotStore, AreThere, is_marked, swept_in, values_in, Marks, AreKeys, IsKeyAt, Updates}
-use Rattle.frame_table.proofs.Forest.{stays_in, IsClosed, serial-read, abort-closed}
+use Rattle.frame_table.proofs.Places.{remove-rising}
+use Rattle.std.proofs.lemmas.List.Filters.{length-filter_both}
+use Rattle.frame_table.proofs.Common.{Leaves, cond, has_slot_under, length-append, length-map}
+use Rattle.std.proofs.Common.{is_some}
+use Rattle.frame_table.proofs.Common.{IsCutAt}
+use Rattle.frame_table.proofs.Forest.{IsClosed-from-follows}
+use Rattle.frame_table.proofs.SlotStores.{apart-before}
+use Rattle.frame_table.proofs.Common.{◌≡◌, ◌≢◌, ℕ, zero, suc, ◌+◌, ◌<◌, Bool, true, false, not, eqb, List, [], ◌∷◌, ◌++◌, Option, Some, None, get_or}
+use Rattle.frame_table.proofs.Common.{slice_index, take, length, append-nil, refl, ap, sym, ◌∙◌, arith, subst, StoredSlot, has_number, filter-append}
+use Rattle.frame_table.proofs.Common.{filter, remove, Slot as TenantSlot, Slab, get, slab_len, false≢true, eq-eqb, ne_eqb, or_right, eqb-true}
+use Rattle.frame_table.proofs.Common.{kept_slots, gone_values, child_slots, AllAbove, Rises, serials_of, with_found, slots_in, AreApartKeys, HasSerial}
+use Rattle.frame_table.proofs.Common.{KnowsParent, IsHere, AllHere, IsSlotStore, AreKeys, IsKeyAt, Updates}
+use Rattle.frame_table.proofs.Forest.{stays_in, IsClosed, serial-read}
 use Rattle.frame_table.proofs.Places.{length-filter-le, rises-by-filter}
-use Rattle.frame_table.proofs.SlotStores.{has_number-append, has_number-at, here-read, slots_in-length, slot-read, here-found, here-contains}
+use Rattle.frame_table.proofs.SlotStores.{has_number-append, has_number-at, here-read, slots_in-length, slot-read, here-found}
 use Rattle.frame_table.proofs.Keys.{key-found, knows-key}
-use Rattle.frame_table.proofs.Changes.{parent-below, remove-filter, leaf-closed}
-use Rattle.std.proofs.Math.Bool.{not-not}
+use Rattle.frame_table.proofs.Changes.{leaf-closed}
 
 -- the slot of a serial
 pub named-slot : {T : Type 0} (p : ℕ) (o : Option (StoredSlot T)) → HasSerial p o → (y : StoredSlot T) × (o ≡ Some y) × (y.slot.serial ≡ p)
 named-slot p None h = absurd h
 named-slot p (Some y) h = (y, refl, h)
-
-pub all-there : {T : Type 0} (slab : Slab (StoredSlot T)) (before keys : List ℕ) → AllHere slab before keys → AreThere slab keys
-all-there slab before [] h = tt
-all-there slab before (k ∷ keys) h = (here-contains slab before k h.0, all-there slab (before ++ k ∷ []) keys h.1)
 
 -- a filter leaves the keys that pass it
 module _ (keep : ℕ → Bool) where
@@ -50,13 +52,6 @@ AreAmong some all = (k : ℕ) → has_number some k ≡ true → has_number all 
 abbrev pub OfEach : {T : Type 0} → Slab (StoredSlot T) → List ℕ → (ℕ → StoredSlot T → Type 0) → Type 0
 OfEach slab keys P = (k : ℕ) (x : StoredSlot _) → has_number keys k ≡ true → get slab k ≡ Some x → P k x
 
--- which keys a sweep passes, and which it leaves
-abbrev pub is_gone : {T : Type 0} → Slab (StoredSlot T) → ℕ → Bool
-is_gone slab key = is_marked (get slab key)
-
-abbrev pub is_left : {T : Type 0} → Slab (StoredSlot T) → ℕ → Bool
-is_left slab key = not (is_gone slab key)
-
 -- another number than this
 abbrev pub is_not : ℕ → ℕ → Bool
 is_not n k = not (eqb k n)
@@ -64,7 +59,7 @@ is_not n k = not (eqb k n)
 -- which slots stay, by key and by serial, and how those are kept
 pub record Stays {T : Type 0} (old new : Slab (StoredSlot T)) (by_key by_serial : ℕ → Bool) (keys : List ℕ) : Type 0 where
   pub agree : OfEach old keys (λ k x. by_key k ≡ by_serial x.slot.serial)
-  pub renew : OfEach old keys (λ k x. by_key k ≡ true → get new k ≡ Some (record x { marked = false }))
+  pub renew : OfEach old keys (λ k x. by_key k ≡ true → get new k ≡ Some x)
 
 among-more : (some all : List ℕ) (k : ℕ) → AreAmong some all → has_number all k ≡ true → AreAmong (some ++ k ∷ []) all
 among-more some all k a there j has = grind (arith, has_number-append, eqb-true)
@@ -107,7 +102,7 @@ module _ {T : Type 0} {old new : Slab (StoredSlot T)} {by_key by_serial : ℕ �
       let agree = s.agree k x there found.1 in
       let renew = s.renew k x there found.1 in
       let knows : by_key k ≡ true → KnowsParent new (filter by_key before) x.slot.parent x.above =
-      λ stays. parent-stays before x.slot.parent x.above b (λ p is. closed.0 p is (sym agree ∙ stays)) here.1 in
+      λ stays. parent-stays before x.slot.parent x.above b (λ p is. closed.0 p is (sym agree ∙ stays)) here in
       let rest = here-filter (before ++ k ∷ []) keys (among-more before all k b there) (λ j has. w j (tail-key k j keys has)) closed.1 h.1 in
       let more = filter-append by_key before (k ∷ []) in
       grind (arith, renew, knows, rest, more, append-nil)
@@ -118,50 +113,44 @@ module _ {T : Type 0} {old new : Slab (StoredSlot T)} {by_key by_serial : ℕ �
   pub stays-slots : AllHere old [] all → slots_in new (filter by_key all) ≡ filter (λ slot. by_serial slot.serial) (slots_in old all)
   stays-slots h = slots-filter old new by_key by_serial all [] all s.agree (λ k x has is stays. rw (s.renew k x has is stays) refl) (λ k has. has) h
 
--- what an abort leaves of a slot store
-pub record HasCut {T : Type 0} (under : ℕ) (old marked new : Slab (StoredSlot T)) (order left : List ℕ) : Type 0 where
-  pub marks : Marks under (slots_in old order) order old marked
-  pub kept : left ≡ filter (is_left marked) order
-  pub swept : (key : ℕ) → get new key ≡ swept_in marked order key
+-- what an abort leaves of a slot store: the slots that stay, under their keys
+module _ {T : Type 0} {under : ℕ} {old new : Slab (StoredSlot T)} {order : List ℕ} (l : Leaves under (slots_in old order) order old new) where
+  cut-stays : Stays old new (has_slot_under new) (stays_in under (slots_in old order)) order
+  cut-stays = record {
+    agree = λ k x has is. ap is_some (l.left k) ∙ (rw (is, has) (either x (stays_in under (slots_in old order) x.slot.serial)));
+    renew = λ k x has is stays. l.left k ∙ (rw (is, has) (one (stays_in under (slots_in old order) x.slot.serial) x (rw (is, has) at (sym (ap is_some (l.left k)) ∙ stays))));
+  }
+    where
+      either : (x : StoredSlot T) (stay : Bool) → is_some (cond (not stay) None (Some x)) ≡ stay
+      either x true = refl
+      either x false = refl
 
--- what a cut leaves: the slots that don't stay are marked, and the others are as before
-module _ {T : Type 0} {under : ℕ} {old marked new : Slab (StoredSlot T)} {order left : List ℕ} (c : HasCut under old marked new order left) where
-  pub cut-marks : OfEach old order (λ k x. get marked k ≡ Some (record x { marked = not (stays_in under (slots_in old order) x.slot.serial) }))
-  cut-marks k x has is = c.marks k ∙ (rw (is, has) refl)
+      one : (stay : Bool) (x : StoredSlot T) → is_some (cond (not stay) None (Some x)) ≡ true → cond (not stay) None (Some x) ≡ Some x
+      one true x s = refl
+      one false x s = absurd (false≢true s)
 
-  pub cut-stays : Stays old new (is_left marked) (stays_in under (slots_in old order)) order
-  cut-stays = grind (arith, cut-marks, not-not, not-true)
+  pub cut-slots : AllHere old [] order → slots_in new (filter (has_slot_under new) order) ≡ kept_slots under (slots_in old order)
+  cut-slots h = stays-slots cut-stays h
 
-  -- the slots that stay
-  pub cut-slots : AllHere old [] order → slots_in new left ≡ kept_slots under (slots_in old order)
-  cut-slots h = ap (slots_in new) c.kept ∙ stays-slots cut-stays h
-
-  -- the values of those that went
-  pub cut-values : AllHere old [] order → values_in marked (filter (is_gone marked) order) ≡ gone_values under (slots_in old order)
-  cut-values h =
-      let goes : ℕ → Bool = λ serial. not (stays_in under (slots_in old order) serial) in
-      ap (map (λ slot. slot.value)) (slots-filter old marked (is_gone marked) goes order [] order
-      (λ k x has is. rw (cut-marks k x has is) refl) (λ k x has is goes. rw (cut-marks k x has is) refl) (λ k has. has) h)
-
-  -- the slot store
-  pub cut-store : {room places : ℕ} → IsSlotStore old order room places → IsLinked [] (slots_in old order) →
-      slab_len new + length order ≡ slab_len old + length left → new.capacity ≡ old.capacity → IsSlotStore new left room places
-  cut-store s l len capacity =
-      let fewer : length left ≤ length order = omega (arith, ap length c.kept, length-filter-le (is_left marked) order) in
+  pub cut-store : {room places : ℕ} (had values : List T) → IsSlotStore old order room places → IsCutAt under (slots_in old order) →
+      values ≡ had ++ gone_values under (slots_in old order) → slab_len new + length values ≡ slab_len old + length had → new.capacity ≡ old.capacity →
+      IsSlotStore new (filter (has_slot_under new) order) room places
+  cut-store had values s c written len capacity =
+      let keep = stays_in under (slots_in old order) in
+      let slots = slots_in old order in
+      let here = stays-here cut-stays (IsClosed-from-follows keep under slots c.follows) s.here in
+      let gone = length-map (filter (λ slot. not (keep slot.serial)) slots) (λ slot. slot.value) in
+      let parts = length-filter_both (λ (slot : TenantSlot T). keep slot.serial) (λ (slot : TenantSlot T). not (keep slot.serial)) (λ x. refl) slots in
+      let all = slots_in-length old [] order s.here in
+      let left = sym (slots_in-length new [] (filter (has_slot_under new) order) here) ∙ ap length (cut-slots s.here) in
       record {
-        here = rw c.kept (stays-here cut-stays (abort-closed under (slots_in old order) l) s.here);
-        apart = rw c.kept (apart-filter (is_left marked) order s.apart);
-        counted = omega (arith, len, s.counted);
-        within = omega (arith, fewer, s.within);
+        here = here;
+        apart = apart-filter (has_slot_under new) order s.apart;
+        counted = omega (arith, len, ap length written, length-append had (gone_values under slots), gone, parts, all, left, s.counted);
+        within = omega (arith, length-filter-le (has_slot_under new) order, s.within);
         slab_room = omega (arith, s.slab_room, capacity);
         order_room = s.order_room;
       }
-
--- each key has a slot, marked or not
-module _ {T : Type 0} (under : ℕ) (slots : List (TenantSlot T)) (all : List ℕ) (old marked : Slab (StoredSlot T)) (m : Marks under slots all old marked) where
-  pub marked-there : (keys : List ℕ) → AreThere old keys → AreThere marked keys
-  marked-there [] t = tt
-  marked-there (k ∷ keys) t = let is = m k in grind (arith, is, marked-there keys)
 
 -- what is there is one slot
 by-one : {T : Type 0} (o : Option (StoredSlot T)) (x y : StoredSlot T) → o ≡ Some x → o ≡ Some y → x.slot.serial ≡ y.slot.serial
@@ -190,12 +179,7 @@ pub has-taken : {T : Type 0} {old new : Slab (StoredSlot T)} {order : List ℕ} 
     key ≡ get_or order at key → get old key ≡ Some kept → Updates old new key None → HasTaken old new order at key kept
 has-taken within read was u = record { within = within; read = read; was = was; others = u.others }
 
--- no slot is marked
 module _ {T : Type 0} (slab : Slab (StoredSlot T)) where
-  pub unmarked : (before keys : List ℕ) → AllHere slab before keys → OfEach slab keys (λ k x. x.marked ≡ false)
-  unmarked before [] h k x has is = absurd (false≢true has)
-  unmarked before (j ∷ keys) h k x has is = grind (arith, unmarked (before ++ j ∷ []) keys)
-
   -- a serial above another, by its key
   above-key : (before keys : List ℕ) (n : ℕ) → AllHere slab before keys → AllAbove n (slots_in slab keys) → OfEach slab keys (λ k x. n < x.slot.serial)
   above-key before [] n h above k x has is = absurd (false≢true has)
@@ -215,7 +199,7 @@ module _ {T : Type 0} (slab : Slab (StoredSlot T)) where
 module _ {T : Type 0} {old new : Slab (StoredSlot T)} {order : List ℕ} {at key : ℕ} {kept : StoredSlot T} (t : HasTaken old new order at key kept)
     (h : AllHere old [] order) where
   pub taken-stays : Rises (slots_in old order) → Stays old new (is_not key) (is_not kept.slot.serial) order
-  taken-stays rise = grind (arith, has_number-at, by-one, eq-eqb, ne_eqb, same-key, false≢true, unmarked)
+  taken-stays rise = grind (arith, has_number-at, by-one, eq-eqb, ne_eqb, same-key, false≢true)
 
   within : at < length (slots_in old order)
   within = rw (slots_in-length old [] order h) t.within
@@ -232,7 +216,7 @@ module _ {T : Type 0} {old new : Slab (StoredSlot T)} {order : List ℕ} {at key
   pub taken-slots : AreApartKeys order → Rises (slots_in old order) → slots_in new (remove order at) ≡ remove (slots_in old order) at
   taken-slots a rise =
       let s = taken-stays rise in
-      ap (slots_in new) (left-keys a) ∙ (stays-slots s h ∙ sym (remove-filter (slots_in old order) at kept.slot.serial rise within named))
+      ap (slots_in new) (left-keys a) ∙ (stays-slots s h ∙ sym (remove-rising (λ x. x.serial) (slots_in old order) at kept.slot rise within taken-read))
 
   pub taken-store : {room places : ℕ} → IsSlotStore old order room places → Rises (slots_in old order) →
       child_slots (slice_index (serials_of (slots_in old order)) at) (slots_in old order) ≡ [] →
@@ -249,21 +233,22 @@ module _ {T : Type 0} {old new : Slab (StoredSlot T)} {order : List ℕ} {at key
         order_room = s.order_room;
       }
 
-  -- the parent of a slot that was taken away is known as before
-  pub taken-knows : IsLinked [] (slots_in old order) → AreKeys new (remove order at) → KnowsParent new (remove order at) kept.slot.parent kept.above
-  taken-knows linked are =
+  -- the parent of a slot that was taken away is known as before: its key stands before the slot's
+  pub taken-knows : AreApartKeys order → AreKeys new (remove order at) → KnowsParent new (remove order at) kept.slot.parent kept.above
+  taken-knows a are =
       let here : IsHere old (take at order) (Some kept) = subst (λ o. IsHere old (take at order) o) t.was (here-read old order at key h t.within t.read) in
-      still (take at order) kept.slot.parent kept.above (λ p is. (parent-below [] (slots_in old order) at kept.slot p linked within taken-read is).0) here.1
+      still kept.slot.parent kept.above here
     where
-      still : (before : List ℕ) (parent above : Option ℕ) → ((p : ℕ) → parent ≡ Some p → p < kept.slot.serial) → KnowsParent old before parent above →
-          KnowsParent new (remove order at) parent above
-      still before None None below k = tt
-      still before None (Some a) below k = absurd k
-      still before (Some p) None below k = absurd k
-      still before (Some p) (Some a) below k =
+      own : has_number (take at order) key ≡ false
+      own = ap (has_number (take at order)) t.read ∙ apart-before order at key a t.within
+
+      still : (parent above : Option ℕ) → KnowsParent old (take at order) parent above → KnowsParent new (remove order at) parent above
+      still None None k = tt
+      still None (Some a) k = absurd k
+      still (Some p) None k = absurd k
+      still (Some p) (Some a) k =
           let y = named-slot p (get old a) k.1 in
-          let other : a ≢ key = λ e. omega (arith, below p refl, y.2, by-one (get old a) y.0 kept y.1 (ap (get old) e ∙ t.was)) in
-          let found : get new a ≡ Some y.0 = t.others a other ∙ y.1 in
+          let found : get new a ≡ Some y.0 = t.others a (λ e. false≢true (sym own ∙ (ap (has_number (take at order)) (sym e) ∙ k.0))) ∙ y.1 in
           let place = key-found are found y.2 in
           knows-key new (remove order at) (Some p) p place.0 a refl are place.1
 
@@ -293,7 +278,6 @@ module _ {T : Type 0} (slab : Slab (StoredSlot T)) (keys : List ℕ) (parent abo
   no-parent-key h5 h6 = grind arith
 
 -- slots rise without the one at a place
-pub rises-remove : {T : Type 0} (xs : List (TenantSlot T)) (i : ℕ) → Rises xs → i < length xs → Rises (remove xs i)
-rises-remove xs i rise lt =
-    let n = slice_index (serials_of xs) i in
-    rw (remove-filter xs i n rise lt refl) (rises-by-filter (λ x. x.serial) (λ x. not (eqb x.serial n)) xs rise)
+pub rises-remove : {T : Type 0} (xs : List (TenantSlot T)) (i : ℕ) (x : TenantSlot T) → Rises xs → i < length xs → x ≡ get_or xs i x → Rises (remove xs i)
+rises-remove xs i x rise lt is =
+    rw (remove-rising (λ y. y.serial) xs i x rise lt is) (rises-by-filter (λ y. y.serial) (λ y. not (eqb y.serial x.serial)) xs rise)

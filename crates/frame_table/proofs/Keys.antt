@@ -1,20 +1,28 @@
 -- The serials of slots as their index, and the keys of an order: a key that is found stands in the order.
+use Rattle.frame_table.proofs.Forest.{count-at, slot_at-found}
+use Rattle.frame_table.proofs.SlotStores.{contains_read, roomy-len, roomy-store}
+use Rattle.frame_table.proofs.Common.{restated, recounted, with_slot, ◌+◌}
+use Rattle.frame_table.proofs.Finds.{has_slot-kept, keeps-rises}
+use Rattle.frame_table.proofs.Forest.{with_slot-none}
 use Rattle.std.proofs.Common.{◌≡◌, ℕ, zero, suc, ◌<◌, true, false, ◌||◌, eqb, List, [], ◌∷◌, ◌++◌, length, take, take-append-drop, drop, set, get_or}
 use Rattle.std.proofs.Common.{slice_index, cond, Option, is_some, IfSome, IfNone, refl, ap, sym, ◌∙◌, arith, ◌≤◌, Some, None, count_by, subst, inl, inr}
 use Rattle.frame_table.proofs.Common.{State, remove, has_number, StoredSlot, common_steps, AreAbove, AreRising, Slot, Slot as TenantSlot, get_or-set_other}
 use Rattle.frame_table.proofs.Common.{length-map, map-append, Slab, get, slab_len, ContainsKey, Updates, cases_eq, false≢true, eq-eqb, ne_eqb, AllAbove, Rises}
-use Rattle.frame_table.proofs.Common.{serials_of, has_slot, IsLinked, with_child, slots_in, AllHere, AreApartKeys, KnowsParent, IsSlotStore, AreKeys, IsKeyAt}
+use Rattle.frame_table.proofs.Common.{serials_of, has_slot, with_child, slots_in, AllHere, AreApartKeys, KnowsParent, IsSlotStore, AreKeys, IsKeyAt}
 use Rattle.frame_table.proofs.Common.{IsSeenAt, ChangesSlot}
-use Rattle.frame_table.proofs.Forest.{has_frame-frames_from, linked_rises, serial-read, has_slot-found}
+use Rattle.frame_table.proofs.Forest.{serial-read, has_slot-found}
 use Rattle.std.proofs.lemmas.List.Sums.{sum_by-set}
 use Rattle.std.proofs.Math.Seq.{map-set_same}
 use Rattle.std.proofs.lemmas.List.{take-map, drop-map}
 use Rattle.frame_table.proofs.SlotStores.{here-contains, AreLike, all-here-like, slots_in-put, slots_in-length, slot-read, knows-read, kept-read}
-use Rattle.frame_table.proofs.Changes.{recount-more}
 
 pub has_number-serials_of : {T : Type 0} (xs : List (Slot T)) (n : ℕ) → has_number (serials_of xs) n ≡ has_slot xs n
 has_number-serials_of [] n = refl
 has_number-serials_of (x ∷ xs) n = ap (λ b. eqb x.serial n || b) (has_number-serials_of xs n)
+
+pub serials_of-recounted : {T : Type 0} (which : Option ℕ) (change : ℕ → ℕ) (xs : List (Slot T)) → serials_of (with_slot which (recounted change) xs) ≡ serials_of xs
+serials_of-recounted which change [] = refl
+serials_of-recounted which change (x ∷ xs) = grind (arith, serials_of-recounted which change xs)
 
 pub serials_of-rises : {T : Type 0} (xs : List (Slot T)) → Rises xs → AreRising (λ n. n) (serials_of xs)
 serials_of-rises [] r = tt
@@ -44,8 +52,8 @@ module _ {T : Type 0} (xs : List (Slot T)) (serials : List ℕ) (is : serials �
   pub there-at : (n : ℕ) → has_slot xs n ≡ true → has_number serials n ≡ true
   there-at n there = rw is (has_number-serials_of xs n ∙ there)
 
-  pub index-rises : IsLinked [] xs → AreRising (λ n. n) serials
-  index-rises l = rw is (serials_of-rises xs (linked_rises [] xs l))
+  pub index-rises : Rises xs → AreRising (λ n. n) serials
+  index-rises rise = rw is (serials_of-rises xs rise)
 
   -- whether a search has found a slot
   pub found-there : (n : ℕ) (place : Option ℕ) → IfSome place (λ at. (at < length serials) × (slice_index serials at ≡ n)) →
@@ -53,7 +61,7 @@ module _ {T : Type 0} (xs : List (Slot T)) (serials : List ℕ) (is : serials �
   found-there n place h6 h7 = grind (arith, none-at, found-at, has_slot-found)
 
   pub added-index : (parent : Option ℕ) (slot : Slot T) → serials ++ slot.serial ∷ [] ≡ serials_of (with_child parent xs ++ slot ∷ [])
-  added-index parent slot = let same = (recount-more parent xs).serials in grind (arith, map-append, same)
+  added-index parent slot = let same = serials_of-recounted parent (λ n. n + 1) xs in grind (arith, map-append, same)
 
   pub index-set : (i : ℕ) (slot new : Slot T) → slot ≡ get_or xs i slot → new.serial ≡ slot.serial → serials ≡ serials_of (set xs i new)
   index-set i slot new read same = is ∙ sym (map-set_same (λ s. s.serial) xs i new slot (same ∙ ap (λ s. s.serial) read))
@@ -166,7 +174,7 @@ module _ {T : Type 0} (old new : Slab (StoredSlot T)) {keys : List ℕ} {room pl
   state-store capacity = put-store kept.1 (put kept.0 kept.1) refl refl keys room places s len capacity
 
   pub state-changes : ((kept : StoredSlot T) → get old key ≡ Some kept → was ≡ kept.slot.state) →
-      ChangesSlot (record { places = places; slots = slots_in old keys }) (record { places = places; slots = slots_in new keys }) serial (λ slot. record slot { state = state }) (λ slot. was ≡ slot.state)
+      ChangesSlot (record { places = places; slots = slots_in old keys }) (record { places = places; slots = slots_in new keys }) serial (restated state) (λ slot. was ≡ slot.state)
   state-changes told =
       let are = are-keys old keys room places s in
       record {
@@ -178,6 +186,9 @@ module _ {T : Type 0} (old new : Slab (StoredSlot T)) {keys : List ℕ} {room pl
       }
 
 -- a search of the index, and a key that stands in the order
-pub ruleset index_laws = (index-rises, there-at, found-there, has_frame-frames_from)
+pub ruleset index_laws = (index-rises, there-at, found-there, has_slot-kept, keeps-rises)
 
-pub ruleset key_laws = (serials_of-rises, there-at, none-at, index-long, are-keys)
+pub ruleset key_laws = (serials_of-rises, there-at, none-at, index-long, are-keys, with_slot-none)
+
+-- a key at a place has a slot
+pub ruleset store_laws = (contains_read, seen-at)

@@ -1,4 +1,5 @@
 -- Places in lists: by a number that rises, in those that pass a test, and in a list that begins at a place of another.
+use Rattle.frame_table.proofs.Common.{eq-eqb}
 use Rattle.std.proofs.Common.{◌≡◌, ◌≢◌, ℕ, zero, suc, ◌<◌, ◌≤◌, Bool, true, false, not, eqb, List, [], ◌∷◌, length, get_or, take, refl, ap, sym, subst, ◌∙◌}
 use Rattle.std.proofs.Common.{arith, nat_lt, ◌+◌, ◌++◌, cond, ◌-◌, drop, append_assoc, append-nil, add-suc}
 use Rattle.frame_table.proofs.Common.{common_steps, all-at, all-map, AreAbove, AreRising, inserted, has_number, AllFromBy, IsPlaceFor, filter, insert, remove}
@@ -87,13 +88,14 @@ module _ {X : Type 0} (number : X → ℕ) where
   filter-not-above n [] above = refl
   filter-not-above n (x ∷ xs) above = rw (ne_eqb (number x) n (λ e. omega (arith, above.0, e))) (ap (λ ys. x ∷ ys) (filter-not-above n xs above.1))
 
-  -- the element that stands at the place of its number goes
-  pub filter-not-remove : (xs : List X) (n at : ℕ) (x : X) → AreRising number xs → IsPlaceFor number xs n at → at < length xs → x ≡ get_or xs at x →
-      number x ≡ n → remove xs at ≡ filter (λ x. not (eqb (number x) n)) xs
-  filter-not-remove [] n at x rise p lt is same = absurd (omega arith)
-  filter-not-remove (y ∷ ys) n zero x rise p lt is same = grind (arith, filter-not-above)
-  filter-not-remove (y ∷ ys) n (suc at) x rise p lt is same =
-      rw (ne_eqb (number y) n (λ e. omega (arith, p.0, e))) (ap (λ zs. y ∷ zs) (filter-not-remove ys n at x rise.1 p.1 (omega arith) is same))
+  -- the element that stands at a place goes
+  pub remove-rising : (xs : List X) (i : ℕ) (x : X) → AreRising number xs → i < length xs → x ≡ get_or xs i x →
+      remove xs i ≡ filter (λ y. not (eqb (number y) (number x))) xs
+  remove-rising [] i x rise lt is = absurd (omega arith)
+  remove-rising (y ∷ ys) zero x rise lt is = let rest = filter-not-above (number y) ys rise.0 in grind (arith, rest, eq-eqb)
+  remove-rising (y ∷ ys) (suc i) x rise lt is =
+      let above : number y < number (get_or ys i x) = all-at (λ z. number y < number z) ys i x rise.0 (omega arith) in
+      rw (ne_eqb (number y) (number x) (λ e. omega (arith, above, ap number is, e))) (ap (λ zs. y ∷ zs) (remove-rising ys i x rise.1 (omega arith) is))
 
   -- nothing is left out where another stands at the place, or nothing
   pub filter-not-absent : (xs : List X) (n at : ℕ) → AreRising number xs → IsPlaceFor number xs n at →

@@ -1,12 +1,16 @@
 -- The ready frames among slots, and what each change of the slots does to them.
+use Rattle.frame_table.proofs.Changes.{leaf-slots}
+use Rattle.frame_table.proofs.Finds.{few-counts, kept-length}
+use Rattle.frame_table.proofs.Keys.{found-at}
+use Rattle.frame_table.proofs.Common.{Frame, KeepsTree, restated, recounted, with_slot, ◌+◌}
+use Rattle.frame_table.proofs.Finds.{keeps-rises, keeps-view}
 use Rattle.frame_table.proofs.Common.{◌≡◌, ℕ, zero, suc, ◌-◌, ◌<◌, ◌≤◌, nat_lt, List, [], ◌∷◌, ◌++◌, Option, Some, None, length, take, length-inserted, set}
 use Rattle.frame_table.proofs.Common.{slice_index, refl, ap, sym, ◌∙◌, arith, slice_get, filter, remove, lt-ltb, ltb-true, FrameId, State, Ready, Slot}
-use Rattle.frame_table.proofs.Common.{ReadyFrame, is_ready, serials_of, AreSoundSlots, ready_slots, AllAbove, Rises, with_child, newest_in, AreAbove, AreRising}
+use Rattle.frame_table.proofs.Common.{ReadyFrame, is_ready, serials_of, AllAbove, Rises, with_child, AreAbove, AreRising}
 use Rattle.frame_table.proofs.Common.{AreTenantFrames, with_ready, ready_in, without_ready, put_ready, last_ready, IsSeenAt}
 use Rattle.frame_table.specs.Windows.{PlacedList}
-use Rattle.frame_table.proofs.Forest.{above-at, linked_rises, seen-next}
-use Rattle.frame_table.proofs.Places.{rises-by-filter, filter-not-above, filter-below-above, length-filter-le}
-use Rattle.frame_table.proofs.Changes.{in_state, recount-more}
+use Rattle.frame_table.proofs.Forest.{above-at, seen-next}
+use Rattle.frame_table.proofs.Places.{rises-by-filter, filter-not-above, filter-below-above}
 
 -- the last frame is the newest
 pub last_ready-last : (frames : List ReadyFrame) → last_ready frames ≡ slice_get frames (length frames - 1)
@@ -14,10 +18,15 @@ last_ready-last [] = refl
 last_ready-last (x ∷ []) = refl
 last_ready-last (x ∷ y ∷ xs) = grind (arith, last_ready-last (y ∷ xs))
 
--- as many frames as ready slots
-pub ready_in-length : {T : Type 0} (xs : List (Slot T)) → length (ready_in xs) ≡ length (ready_slots xs)
-ready_in-length [] = refl
-ready_in-length (x ∷ xs) = grind (arith, ready_in-length xs)
+-- no more are ready than there are slots
+pub few-ready_in : {T : Type 0} (xs : List (Slot T)) → length (ready_in xs) ≤ length xs
+few-ready_in [] = omega arith
+few-ready_in (x ∷ xs) = grind (arith, few-ready_in xs)
+
+-- a count of children makes no difference
+pub ready_in-recounted : {T : Type 0} (which : Option ℕ) (change : ℕ → ℕ) (xs : List (Slot T)) → ready_in (with_slot which (recounted change) xs) ≡ ready_in xs
+ready_in-recounted which change [] = refl
+ready_in-recounted which change (x ∷ xs) = grind (arith, ready_in-recounted which change xs)
 
 -- they are above what the slots are above, and rise as those do
 pub ready_in-above : {T : Type 0} (n : ℕ) (xs : List (Slot T)) → AllAbove n xs → AreAbove (λ frame. frame.serial) n (ready_in xs)
@@ -35,21 +44,6 @@ with_ready-append serial state xs ys = grind arith
 pub ready_in-append : {T : Type 0} (xs ys : List (Slot T)) → ready_in (xs ++ ys) ≡ ready_in xs ++ ready_in ys
 ready_in-append [] ys = refl
 ready_in-append (x ∷ xs) ys = ap (with_ready x.serial x.state) (ready_in-append xs ys) ∙ with_ready-append x.serial x.state (ready_in xs) (ready_in ys)
-
--- the name and home of a ready frame
-abbrev pub named : ℕ → Option ReadyFrame → Option (FrameId × ℕ)
-named tenant None = None
-named tenant (Some frame) = Some (record { tenant = tenant; serial = frame.serial }, frame.home)
-
--- the newest ready frame is the last of the ready ones
-module _ {T : Type 0} (tenant : ℕ) where
-  pub newest_in-ready : (xs : List (Slot T)) → newest_in tenant xs ≡ named tenant (last_ready (ready_in xs))
-  newest_in-ready [] = refl
-  newest_in-ready (x ∷ xs) = grind (arith, newest_in-ready xs)
-
-  pub newest-by : (xs : List (Slot T)) (frames : List ReadyFrame) (newest is : Option ReadyFrame) → frames ≡ ready_in xs → newest ≡ last_ready frames →
-      newest ≡ is → named tenant is ≡ newest_in tenant xs
-  newest-by xs frames newest is ready found e = ap (named tenant) (sym e ∙ (found ∙ ap last_ready ready)) ∙ sym (newest_in-ready xs)
 
 -- ready frames rise without one of them too
 pub without_ready-rises : (serial : ℕ) (was : State) (frames : List ReadyFrame) → AreRising (λ frame. frame.serial) frames →
@@ -76,7 +70,7 @@ module _ (serial : ℕ) where
   put-other n state now frames lt = grind (arith, lt-ltb)
 
 pub ready_in-state : {T : Type 0} (xs : List (Slot T)) (i n : ℕ) (slot : Slot T) (state : State) → Rises xs → IsSeenAt xs n i slot →
-    put_ready n state (without_ready n slot.state (ready_in xs)) ≡ ready_in (set xs i (in_state state slot))
+    put_ready n state (without_ready n slot.state (ready_in xs)) ≡ ready_in (set xs i (restated state slot))
 ready_in-state [] i n slot state rise seen = absurd (omega (arith, seen.within))
 ready_in-state (x ∷ xs) zero n slot state rise seen = grind (arith, ready_in-above, leave-here, put-here)
 ready_in-state (x ∷ xs) (suc i) n slot state rise seen =
@@ -102,22 +96,27 @@ ready_in-take (x ∷ xs) (suc i) n rise lt at = grind (arith, ready_in-take xs i
 -- one more slot at the end, ready
 pub added-ready : {T : Type 0} (xs : List (Slot T)) (parent : Option ℕ) (slot : Slot T) (home : ℕ) (frames : List ReadyFrame) → frames ≡ ready_in xs →
     slot.state ≡ Ready home → frames ++ record { serial = slot.serial; home = home } ∷ [] ≡ ready_in (with_child parent xs ++ slot ∷ [])
-added-ready xs parent slot home frames e state = let same = (recount-more parent xs).ready in grind (arith, same, ready_in-append)
+added-ready xs parent slot home frames e state = let same = ready_in-recounted parent (λ n. n + 1) xs in grind (arith, same, ready_in-append)
 
--- a tenant, from slots that are sound by any count, their serials and the ready frames among them
-module _ {T : Type 0} (slots : List (Slot T)) where
-  pub is-tenant : (count places : ℕ) (serials : PlacedList ℕ) (ready : PlacedList ReadyFrame) → AreSoundSlots slots count → serials.list ≡ serials_of slots →
-      ready.list ≡ ready_in slots → length slots ≤ places → places ≤ 4096 → places ≤ serials.places → places ≤ ready.places →
-      AreTenantFrames slots places serials ready
-  is-tenant count places serials ready s i e within few same_serials same = grind (arith, ready_in-length)
+-- a tenant, from slots that keep a tree, their serials and the ready frames among them
+module _ {T : Type 0} {slots : List (Slot T)} {places : ℕ} {serials : PlacedList ℕ} {ready : PlacedList ReadyFrame} where
+  pub is-tenant : {frames : List (Frame T)} → KeepsTree slots frames → serials.list ≡ serials_of slots → ready.list ≡ ready_in slots → length slots ≤ places →
+      places ≤ 4096 → places ≤ serials.places → places ≤ ready.places → AreTenantFrames slots places serials ready
+  is-tenant k i e within few same_serials same = record {
+    sound = rw (keeps-view k) k;
+    index = i;
+    ready_frames = e;
+    within = within;
+    few = few;
+    serial_places = same_serials;
+    ready_places = same;
+  }
 
-  -- no more are ready than there are slots
-  pub few-ready_in : length (ready_in slots) ≤ length slots
-  few-ready_in = omega (arith, ready_in-length slots, length-filter-le (λ x. is_ready x.state) slots)
-
-  pub tenant-rises : (places : ℕ) (serials : PlacedList ℕ) (ready : PlacedList ReadyFrame) → AreTenantFrames slots places serials ready →
-      AreRising (λ frame. frame.serial) ready.list
-  tenant-rises places serials ready t = rw t.ready_frames (ready_in-rises slots (linked_rises [] slots t.sound.linked))
+  pub tenant-rises : AreTenantFrames slots places serials ready → AreRising (λ frame. frame.serial) ready.list
+  tenant-rises t = rw t.ready_frames (ready_in-rises slots (keeps-rises t.sound))
 
 -- the list of ready frames: that it rises, and its last
 pub ruleset ready_laws = (without_ready-rises, last_ready-last, length-inserted)
+
+-- the lists of a tenant: their room, and a leaf among them
+pub ruleset tenant_laws = (few-ready_in, few-counts, kept-length, found-at, leaf-slots)

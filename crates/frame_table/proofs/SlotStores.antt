@@ -1,12 +1,13 @@
 -- Slots under keys: reading, writing and adding them.
-use Rattle.std.proofs.Common.{◌≡◌, ◌≢◌, ℕ, zero, suc, ◌+◌, ◌<◌, ◌≤◌, Bool, true, false, ◌||◌, eqb, List, [], ◌∷◌, ◌++◌, Option, Some, None, length, take}
-use Rattle.std.proofs.Common.{get_or, set, refl, ap, sym, ◌∙◌, arith, append_assoc, append-nil, subst, not, IsSome, drop, map, length-append}
-use Rattle.frame_table.proofs.Common.{filter, none-some, StoredSlot, has_number, eqb-true, filter_more, common_steps, Slot as TenantSlot, take_more, map-append}
-use Rattle.frame_table.proofs.Common.{Slab, get, slab_len, ContainsKey, Updates, false≢true, eq-eqb, or_right, IsLinked}
-use Rattle.frame_table.specs.SlotStores.{slots_in, AreApartKeys, HasSerial, KnowsParent, IsHere, AllHere, IsSlotStore, StandsUnder, HasLink, is_taken_by}
-use Rattle.frame_table.specs.SlotStores.{is_taken_in, Marks, AreThere, NoneMarked, is_marked, swept_in, values_in}
-use Rattle.frame_table.proofs.Forest.{stays_in, serial-read, stays_by, follows-at, abort-follows}
-use Rattle.std.proofs.lemmas.List.Filters.{FiltersInPlace, FiltersInPlace-more_set, FiltersInPlace-more_no}
+use Rattle.frame_table.proofs.Common.{Leaves, cond, gone_among, left_under}
+use Rattle.frame_table.proofs.Common.{IsCutAt, stays_under}
+use Rattle.std.proofs.Common.{◌≡◌, ◌≢◌, ℕ, zero, suc, ◌+◌, ◌<◌, ◌≤◌, true, false, ◌||◌, eqb, List, [], ◌∷◌, ◌++◌, Option, Some, None, length, take}
+use Rattle.std.proofs.Common.{get_or, set, refl, ap, sym, ◌∙◌, arith, append_assoc, append-nil, subst, not, length-append}
+use Rattle.frame_table.proofs.Common.{none-some, StoredSlot, has_number, filter_more, Slot as TenantSlot, take_more, map-append}
+use Rattle.frame_table.proofs.Common.{Slab, get, slab_len, ContainsKey, Updates, false≢true, eq-eqb, or_right}
+use Rattle.frame_table.specs.SlotStores.{slots_in, AreApartKeys, HasSerial, KnowsParent, IsHere, AllHere, IsSlotStore, StandsUnder, is_taken_by}
+use Rattle.frame_table.specs.SlotStores.{is_taken_in}
+use Rattle.frame_table.proofs.Forest.{stays_in, serial-read, follows-at}
 
 -- what is here is a slot
 module _ {T : Type 0} (slab : Slab (StoredSlot T)) (before : List ℕ) where
@@ -102,10 +103,10 @@ module _ {T : Type 0} (slab : Slab (StoredSlot T)) where
       let same = serial-read (slots_in slab keys) at kept.0.slot s.0 (sym (slot-read keys at key kept.0 kept.0.slot h lt is kept.1)) in
       (ap (has_number keys) is ∙ has_number-at keys at key lt, rw kept.1 (sym same ∙ s.1))
 
--- a slot of the same name, parent and mark
+-- a slot of the same name and parent
 abbrev pub IsLike : {T : Type 0} → StoredSlot T → Option (StoredSlot T) → Type 0
 IsLike x None = ⊥
-IsLike x (Some y) = (y.slot.serial ≡ x.slot.serial) × (y.slot.parent ≡ x.slot.parent) × (y.above ≡ x.above) × (y.marked ≡ x.marked)
+IsLike x (Some y) = (y.slot.serial ≡ x.slot.serial) × (y.slot.parent ≡ x.slot.parent) × (y.above ≡ x.above)
 
 -- each slot has one like it in the new slab
 abbrev pub AreLike : {T : Type 0} → Slab (StoredSlot T) → Slab (StoredSlot T) → Type 0
@@ -127,7 +128,7 @@ module _ {T : Type 0} (old new : Slab (StoredSlot T)) where
   here-like keys (Some x) None all like h = absurd (like x refl)
   here-like keys (Some x) (Some y) all like h =
       let a = like x refl in
-      (a.3 ∙ h.0, rw (a.1, a.2) (knows-like keys x.slot.parent x.above all h.1))
+      rw (a.1, a.2) (knows-like keys x.slot.parent x.above all h)
 
   pub all-here-like : (before keys : List ℕ) → AreLike old new → AllHere old before keys → AllHere new before keys
   all-here-like before [] like h = tt
@@ -151,23 +152,13 @@ module _ {T : Type 0} (old new : Slab (StoredSlot T)) where
 
 -- a slot store on which a slot was pushed
 module _ {T : Type 0} {old new : Slab (StoredSlot T)} {key : ℕ} {slot : TenantSlot T} {above : Option ℕ} (keys : List ℕ) (vacant : get old key ≡ None)
-    (u : Updates old new key (Some (record { slot = slot; above = above; marked = false }))) where
+    (u : Updates old new key (Some (record { slot = slot; above = above }))) where
   pushed-like : AreLike old new
-  pushed-like k x is = rw (u.others k (λ e. none-some x (sym vacant ∙ (ap (get old) (sym e) ∙ is))) ∙ is) (refl, refl, refl, refl)
+  pushed-like k x is = rw (u.others k (λ e. none-some x (sym vacant ∙ (ap (get old) (sym e) ∙ is))) ∙ is) (refl, refl, refl)
 
   pub push-store : (room places : ℕ) → IsSlotStore old keys room places → length keys < places → KnowsParent old keys slot.parent above →
       slab_len new ≡ slab_len old + 1 → new.capacity ≡ old.capacity → IsSlotStore new (keys ++ key ∷ []) room places
-  push-store room places s less knows len capacity =
-      let here : IsHere new keys (get new key) = rw u.changed (refl, knows-like old new keys slot.parent above pushed-like knows) in
-      let long = length-append keys (key ∷ []) in
-      record {
-        here = all-here-append new [] keys key (all-here-like old new [] keys pushed-like s.here) here;
-        apart = apart-append keys key s.apart (vacant-absent old [] keys key s.here vacant);
-        counted = omega (arith, len, s.counted, long);
-        within = omega (arith, less, long);
-        slab_room = omega (arith, s.slab_room, capacity);
-        order_room = s.order_room;
-      }
+  push-store room places s less knows len capacity = grind (arith, knows-like, pushed-like, length-append, all-here-append, all-here-like, apart-append, vacant-absent)
 
   pub push-slots : AllHere old [] keys → slots_in new (keys ++ key ∷ []) ≡ slots_in old keys ++ slot ∷ []
   push-slots here = grind (arith, vacant-absent, slots_in-same, slots_in-append)
@@ -188,169 +179,77 @@ module _ {T : Type 0} (old new : Slab (StoredSlot T)) (same : new ≡ record old
   pub roomy-len : slab_len new ≡ slab_len old
   roomy-len = ap (λ (k : Slab (StoredSlot T)). slab_len k) same
 
--- The pass of an abort that marks slots.
+-- The passes of an abort: slots go, and then their keys.
 
--- a slot is there, and its parent's too
-module _ {T : Type 0} (under : ℕ) (slots : List (TenantSlot T)) where
-  pub link-marked : (keys before : List ℕ) (old now : Slab (StoredSlot T)) (key : ℕ) → Marks under slots keys old now → IsHere old before (get old key) →
-      HasLink now (get now key)
-  link-marked keys before old now key m h = grind arith
+-- whether an abort takes a slot, where those before it that it takes are gone
+taken-by : {T : Type 0} (under : ℕ) (slots : List (TenantSlot T)) (before : List ℕ) (old now : Slab (StoredSlot T)) (serial : ℕ) (parent above : Option ℕ) →
+    stays_in under slots serial ≡ stays_under (stays_in under slots) under parent → Leaves under slots before old now → KnowsParent old before parent above →
+    is_taken_by now under parent above ≡ not (stays_in under slots serial)
+taken-by under slots before old now serial None None f l k = rw f refl
+taken-by under slots before old now serial None (Some above) f l k = absurd k
+taken-by under slots before old now serial (Some p) None f l k = absurd k
+taken-by under slots before old now serial (Some p) (Some above) f l k = let left = l.left above in grind (arith, left, f, k)
 
-  -- whether an abort takes a slot, by the marks of those before it
-  taken-by : (before : List ℕ) (old now : Slab (StoredSlot T)) (serial : ℕ) (parent above : Option ℕ) →
-      stays_in under slots serial ≡ stays_by (stays_in under slots) under parent → Marks under slots before old now → KnowsParent old before parent above →
-      is_taken_by now under parent above ≡ not (stays_in under slots serial)
-  taken-by before old now serial parent above h9 h10 h11 = grind arith
-
--- what is read at a key, whether the abort takes it, and what marks that key too, after which more keys are marked
-pub record IsRead {T : Type 0} (under : ℕ) (slots : List (TenantSlot T)) (more : List ℕ) (key : ℕ) (old now : Slab (StoredSlot T)) (x : StoredSlot T) : Type 0 where
-  pub is : get now key ≡ Some x
-  pub unmarked : x.marked ≡ false
-  pub taken : is_taken_in now under (get now key) ≡ not (stays_in under slots x.slot.serial)
-  pub next : (new : Slab (StoredSlot T)) → get new key ≡ Some (record x { marked = not (stays_in under slots x.slot.serial) }) →
-      ((k : ℕ) → k ≢ key → get new k ≡ get now k) → Marks under slots more old new
-
--- one key more
-module _ {T : Type 0} (under : ℕ) (slots : List (TenantSlot T)) (keys : List ℕ) (i key : ℕ) (old now : Slab (StoredSlot T))
-    (m : Marks under slots (take i keys) old now) (lt : i < length keys) (is : key ≡ get_or keys i key) where
-  marks-next : (new : Slab (StoredSlot T)) (x : StoredSlot T) → get old key ≡ Some x →
-      get new key ≡ Some (record x { marked = not (stays_in under slots x.slot.serial) }) →
-      ((k : ℕ) → k ≢ key → get new k ≡ get now k) → Marks under slots (take (i + 1) keys) old new
-  marks-next new x was here others k =
-      let more : take (i + 1) keys ≡ take i keys ++ key ∷ [] = take_more keys i key lt ∙ ap (λ j. take i keys ++ j ∷ []) (sym is) in
-      let has = ap (λ ks. has_number ks k) more ∙ has_number-append (take i keys) (key ∷ []) k in
-      let before = m k in
-      let rest = others k in
-      grind (arith, has, before, rest)
-
-  pub read-key : slots ≡ slots_in old keys → AllHere old [] keys → AreApartKeys keys → IsLinked [] slots →
-      (x : StoredSlot T) × IsRead under slots (take (i + 1) keys) key old now x
-  read-key same h a l =
-      let keep = stays_in under slots in
-      let found = kept-read old keys i key h lt is in
-      let x = found.0 in
-      let here : IsHere old (take i keys) (Some x) = subst (λ o. IsHere old (take i keys) o) found.1 (here-read old keys i key h lt is) in
-      let absent : has_number (take i keys) key ≡ false = ap (has_number (take i keys)) is ∙ apart-before keys i key a lt in
-      let now_is : get now key ≡ Some x = m key ∙ (rw (found.1, absent) refl) in
-      let at_place : x.slot ≡ get_or slots i x.slot = rw same (sym (slot-read old keys i key x x.slot h lt is found.1)) in
-      let within : i < length slots = rw same (rw (slots_in-length old [] keys h) lt) in
-      let follows = follows-at keep under slots i x.slot (abort-follows under slots l) within at_place in (
-        x,
-        record {
-          is = now_is;
-          unmarked = here.0;
-          taken = rw now_is (taken-by under slots (take i keys) old now x.slot.serial x.slot.parent x.above follows m here.1);
-          next = λ new here others. marks-next new x found.1 here others;
-        },
-      )
-
-module _ {T : Type 0} {under : ℕ} {slots : List (TenantSlot T)} {more : List ℕ} {key : ℕ} {old now : Slab (StoredSlot T)} {x : StoredSlot T}
-    (r : IsRead under slots more key old now x) where
-  -- a slot that the abort takes is marked
-  pub marks-taken : {new : Slab (StoredSlot T)} → is_taken_in now under (get now key) ≡ true →
-      ((kept : StoredSlot T) → get now key ≡ Some kept → Updates now new key (Some (record kept { marked = true }))) → Marks under slots more old new
-  marks-taken {new} took put = let u = put x r.is in r.next new (rw (sym r.taken ∙ took) u.changed) u.others
-
-  -- and one that stays is as it was
-  pub marks-stays : is_taken_in now under (get now key) ≡ false → Marks under slots more old now
-  marks-stays not_taken =
-      let mark : x.marked ≡ not (stays_in under slots x.slot.serial) = r.unmarked ∙ (sym not_taken ∙ r.taken) in
-      r.next now (r.is ∙ ap (λ b. Some (record x { marked = b })) mark) (λ k differs. refl)
-
--- The pass of an abort that removes the marked slots.
-
--- after the first keys: those that stay stand in front, the slots of the others are gone, and their values were written down
-pub record HasSwept {T : Type 0} (old now : Slab (StoredSlot T)) (all order : List ℕ) (had values : List T) (kept at : ℕ) : Type 0 where
-  pub moved : FiltersInPlace (λ key. not (is_marked (get old key))) all order kept at
-  pub slots : (key : ℕ) → get now key ≡ swept_in old (take at all) key
-  pub written : values ≡ had ++ values_in old (filter (λ key. is_marked (get old key)) (take at all))
-  pub counted : slab_len now + at ≡ slab_len old + kept
+-- after the first keys: the slots of those that the abort takes are gone, and their values were written down
+pub record HasLeft {T : Type 0} (under : ℕ) (old now : Slab (StoredSlot T)) (order : List ℕ) (had values : List T) (at : ℕ) : Type 0 where
+  pub left : Leaves under (slots_in old order) (take at order) old now
+  pub written : values ≡ had ++ gone_among under (slots_in old order) (take at (slots_in old order))
+  pub counted : slab_len now + length values ≡ slab_len old + length had
   pub room : length values ≤ length had + at
   pub capacity : now.capacity ≡ old.capacity
 
--- where none of the first keys is marked, they were passed
-pub swept-early : {T : Type 0} (old : Slab (StoredSlot T)) (all : List ℕ) (had : List T) (from : ℕ) → from ≤ length all → NoneMarked old (take from all) →
-    HasSwept old old all all had had from from
-swept-early old all had from le none = record {
-  moved = record { front = sym (stay old (take from all) none); rest = refl; behind = omega arith; within = le; long = refl };
-  slots = λ key. same old (take from all) key none;
-  written = rw (go old (take from all) none) (sym (append-nil had));
-  counted = refl;
-  room = omega arith;
-  capacity = refl;
-}
-  where
-    stay : {T : Type 0} (slab : Slab (StoredSlot T)) (keys : List ℕ) → NoneMarked slab keys → filter (λ key. not (is_marked (get slab key))) keys ≡ keys
-    stay slab [] none = refl
-    stay slab (k ∷ keys) none = rw none.0 (ap (λ ks. k ∷ ks) (stay slab keys none.1))
-
-    go : {T : Type 0} (slab : Slab (StoredSlot T)) (keys : List ℕ) → NoneMarked slab keys → filter (λ key. is_marked (get slab key)) keys ≡ []
-    go slab [] none = refl
-    go slab (k ∷ keys) none = rw none.0 (go slab keys none.1)
-
-    same : {T : Type 0} (slab : Slab (StoredSlot T)) (keys : List ℕ) (key : ℕ) → NoneMarked slab keys → get slab key ≡ swept_in slab keys key
-    same slab [] key none = refl
-    same slab (k ∷ keys) key none = grind (arith, same slab keys key, eqb-true)
-
-there-at : {T : Type 0} (slab : Slab (StoredSlot T)) (keys : List ℕ) (i d : ℕ) → AreThere slab keys → i < length keys → ContainsKey slab (get_or keys i d)
-there-at slab [] i d t lt = absurd (omega arith)
-there-at slab (k ∷ keys) zero d t lt = t.0
-there-at slab (k ∷ keys) (suc i) d t lt = there-at slab keys i d t.1 (omega arith)
-
--- the key that is read, and what stands under it
-module _ {T : Type 0} {old now : Slab (StoredSlot T)} {all order : List ℕ} {had values : List T} {kept at key : ℕ}
-    (h : HasSwept old now all order had values kept at) (a : AreApartKeys all) (lt : at < length all) (read : key ≡ get_or order at key) where
-  -- it is that of all
-  own : key ≡ get_or all at key
-  own = read ∙ (sym (get_or-drop order at) ∙ (ap (λ xs. get_or xs 0 key) h.moved.rest ∙ get_or-drop all at))
-    where
-      get_or-drop : (xs : List ℕ) (i : ℕ) → get_or (drop i xs) 0 key ≡ get_or xs i key
-      get_or-drop xs i = grind (arith, common_steps)
+-- one key more
+module _ {T : Type 0} {under : ℕ} {old now : Slab (StoredSlot T)} {order : List ℕ} {had values : List T} {at : ℕ} (h : HasLeft under old now order had values at)
+    (here : AllHere old [] order) (apart : AreApartKeys order) (l : IsCutAt under (slots_in old order)) (lt : at < length order) (key : ℕ)
+    (is : key ≡ get_or order at key) where
+  pub read-slot : (kept : StoredSlot T) × (get old key ≡ Some kept)
+  read-slot = kept-read old order at key here lt is
 
   -- the slot is as it was
-  pub slot-is : get now key ≡ get old key
-  slot-is =
-      let absent : has_number (take at all) key ≡ false = ap (has_number (take at all)) own ∙ apart-before all at key a lt in
-      h.slots key ∙ (rw absent refl)
+  pub as-before : get now key ≡ Some read-slot.0
+  as-before =
+      let absent : has_number (take at order) key ≡ false = ap (has_number (take at order)) is ∙ apart-before order at key apart lt in
+      h.left.left key ∙ (rw (read-slot.1, absent) refl)
 
-  pub slot-contains : AreThere old all → ContainsKey now key
-  slot-contains t = subst (λ o. IsSome o) (sym slot-is) (subst (λ k. ContainsKey old k) (sym own) (there-at old all at key t lt))
+  slot-at : read-slot.0.slot ≡ get_or (slots_in old order) at read-slot.0.slot
+  slot-at = sym (slot-read old order at key read-slot.0 read-slot.0.slot here lt is read-slot.1)
 
-  -- one key more
-  has-more : (k : ℕ) → has_number (take (at + 1) all) k ≡ (has_number (take at all) k || (eqb key k || false))
-  has-more k = ap (λ ks. has_number ks k) (take_more all at key lt ∙ ap (λ j. take at all ++ j ∷ []) (sym own)) ∙ has_number-append (take at all) (key ∷ []) k
+  within : at < length (slots_in old order)
+  within = rw (slots_in-length old [] order here) lt
+
+  -- it is taken exactly where it doesn't stay
+  pub takes : is_taken_in now under (get now key) ≡ not (stays_in under (slots_in old order) read-slot.0.slot.serial)
+  takes = grind (arith, read-slot, here-read, follows-at, within, slot-at, as-before, taken-by)
+
+  has-more : (k : ℕ) → has_number (take (at + 1) order) k ≡ (has_number (take at order) k || (eqb key k || false))
+  has-more k = ap (λ ks. has_number ks k) (take_more order at key lt ∙ ap (λ j. take at order ++ j ∷ []) (sym is)) ∙ has_number-append (take at order) (key ∷ []) k
+
+  left-more : (new : Slab (StoredSlot T)) → get new key ≡ left_under under (slots_in old order) (key ∷ []) key (get old key) → ((k : ℕ) → k ≢ key → get new k ≡ get now k) →
+      Leaves under (slots_in old order) (take (at + 1) order) old new
+  left-more new own others = record { left = λ k. (let before = h.left.left k in let has = has-more k in let rest = others k in grind (arith, before, has, rest, own)) }
+
+  written-more : (more : List T) → (cond (not (stays_in under (slots_in old order) read-slot.0.slot.serial)) (read-slot.0.slot.value ∷ []) [] ≡ more) →
+      values ++ more ≡ had ++ gone_among under (slots_in old order) (take (at + 1) (slots_in old order))
+  written-more more e =
+      let next = filter_more (λ slot. not (stays_in under (slots_in old order) slot.serial)) (slots_in old order) at read-slot.0.slot within in
+      grind (arith, h.written, next, slot-at, e, map-append, append_assoc)
 
   -- a slot that stays
-  pub swept-stays : is_marked (get old key) ≡ false → HasSwept old now all (set order kept key) had values (kept + 1) (at + 1)
-  swept-stays stays =
-      let marked : ℕ → Bool = λ k. is_marked (get old k) in
-      let more : filter marked (take (at + 1) all) ≡ filter marked (take at all) = filter_more marked all at key lt ∙ (rw (← own, stays) (append-nil _)) in
+  pub left-stays : is_taken_in now under (get now key) ≡ false → HasLeft under old now order had values (at + 1)
+  left-stays not_taken =
+      let stays = sym takes ∙ not_taken in
       record {
-        moved = FiltersInPlace-more_set h.moved (omega (arith, h.moved.long)) (rw stays refl) read;
-        slots = λ k. (let before = h.slots k in let has = has-more k in grind (arith, before, has));
-        written = h.written ∙ ap (λ ks. had ++ values_in old ks) (sym more);
-        counted = omega (arith, h.counted);
+        left = left-more now (as-before ∙ (rw (read-slot.1, eq-eqb key key refl, stays) refl)) (λ k differs. refl);
+        written = sym (append-nil values) ∙ written-more [] (rw stays refl);
+        counted = h.counted;
         room = omega (arith, h.room);
         capacity = h.capacity;
       }
 
   -- a slot that goes
-  pub swept-goes : (new : Slab (StoredSlot T)) (gone : StoredSlot T) → is_marked (get old key) ≡ true → get now key ≡ Some gone → Updates now new key None →
-      slab_len new + 1 ≡ slab_len now → new.capacity ≡ now.capacity → HasSwept old new all order had (values ++ gone.slot.value ∷ []) kept (at + 1)
-  swept-goes new gone goes found u len capacity =
-      let marked : ℕ → Bool = λ k. is_marked (get old k) in
-      let passed = filter marked (take at all) in
-      let more : filter marked (take (at + 1) all) ≡ passed ++ key ∷ [] = filter_more marked all at key lt ∙ (rw (← own, goes) refl) in
-      let one_more : values_in old (passed ++ key ∷ []) ≡ values_in old passed ++ gone.slot.value ∷ [] =
-      ap (map (λ s. s.value)) (slots_in-append old passed (key ∷ [])) ∙ (map-append (λ s. s.value) (slots_in old passed) (slots_in old (key ∷ [])) ∙ (rw (sym slot-is ∙ found) refl)) in
-      record {
-        moved = FiltersInPlace-more_no h.moved (omega (arith, h.moved.long)) (rw goes refl) read;
-        slots = λ k. (let before = h.slots k in let has = has-more k in let rest = u.others k in grind (arith, before, has, rest, u.changed));
-        written = ap (λ vs. vs ++ gone.slot.value ∷ []) h.written ∙ (append_assoc had _ (gone.slot.value ∷ []) ∙ ap (λ vs. had ++ vs) (sym (ap (values_in old) more ∙ one_more)));
-        counted = omega (arith, h.counted, len);
-        room = omega (arith, h.room, length-append values (gone.slot.value ∷ []));
-        capacity = capacity ∙ h.capacity;
-      }
+  pub left-goes : {new : Slab (StoredSlot T)} {gone : StoredSlot T} → is_taken_in now under (get now key) ≡ true → get now key ≡ Some gone → Updates now new key None →
+      slab_len new + 1 ≡ slab_len now → new.capacity ≡ now.capacity → HasLeft under old new order had (values ++ gone.slot.value ∷ []) (at + 1)
+  left-goes {new} {gone} taken found u len capacity = grind (arith, takes, read-slot, as-before, length-append, left-more, eq-eqb, written-more)
 
 -- a key that is read, and the slot under it
 pub ruleset read_laws = (slots_in-length, contains_read, slot-read)

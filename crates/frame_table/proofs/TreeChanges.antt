@@ -108,7 +108,7 @@ pub aborted-leaf : {T : Type 0} (p : ℕ) (xs : List (Frame T)) → IsTree xs �
 aborted-leaf p xs t = grind (arith, children-by-paths, tree-aborted, filter-filter, found-each, tree-rising, not_from_true, child-under-parent)
 
 -- a leaf that is removed leaves a tree
-no-child-found : {T : Type 0} (q : Frame T → Bool) (xs : List (Frame T)) (s : ℕ) (x : Frame T) → filter q xs ≡ [] → frame_at xs s ≡ Some x → q x ≡ false
+pub no-child-found : {T : Type 0} (q : Frame T → Bool) (xs : List (Frame T)) (s : ℕ) (x : Frame T) → filter q xs ≡ [] → frame_at xs s ≡ Some x → q x ≡ false
 no-child-found {T} q xs s x none at = each-found (λ y. q y ≡ false) xs s x (all xs none) at
   where
     all : (ys : List (Frame T)) → filter q ys ≡ [] → Each (λ y. q y ≡ false) ys

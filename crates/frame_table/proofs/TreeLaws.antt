@@ -1,4 +1,5 @@
 -- A tree, frame by frame: each frame stands under its parent, and what follows for look-ups, paths and children.
+use Rattle.frame_table.proofs.Common.{subst}
 use Rattle.frame_table.proofs.Common.{◌≡◌, ◌≢◌, ℕ, zero, suc, ◌<◌, ◌≤◌, ◌⊎◌, inl, inr, Bool, true, false, ◌||◌, eqb, List, [], ◌∷◌, ◌++◌, Option, Some, None}
 use Rattle.frame_table.proofs.Common.{refl, ap, sym, ◌∙◌, arith, append_assoc, filter, cases_Bool, cases_eq, false≢true, true≢false, eq-eqb, ne_eqb, eqb-true}
 use Rattle.frame_table.proofs.Common.{or_cases, Frame, frame_at, has_frame, has_parent, path_in, AllBelow, parent_of, path_under, goes_under, is_one_more}
@@ -28,6 +29,9 @@ module _ {T : Type 0} where
   pub found-serial : (frames : List (Frame T)) (serial : ℕ) (frame : Frame T) → frame_at frames serial ≡ Some frame → frame.serial ≡ serial
   found-serial [] serial frame at = absurd cc
   found-serial (x ∷ xs) serial frame at = grind (arith, found-serial xs serial frame)
+
+  pub found-own : (frames : List (Frame T)) (serial : ℕ) (frame : Frame T) → frame_at frames serial ≡ Some frame → frame_at frames frame.serial ≡ Some frame
+  found-own frames serial frame at = subst (λ (s : ℕ). frame_at frames s ≡ Some frame) (sym (found-serial frames serial frame at)) at
 
   pub frame_at-left : (xs ys : List (Frame T)) (serial : ℕ) → has_frame xs serial ≡ true → frame_at (xs ++ ys) serial ≡ frame_at xs serial
   frame_at-left [] ys serial there = absurd (false≢true there)
@@ -212,13 +216,17 @@ child-under {T} frames s f x t at u =
 
 -- filters by tests that agree on each frame, and by one that none passes
 module _ {T : Type 0} (p : Frame T → Bool) where
-  filter-alike : (q : Frame T → Bool) (frames : List (Frame T)) → Each (λ x. p x ≡ q x) frames → filter p frames ≡ filter q frames
+  pub filter-alike : (q : Frame T → Bool) (frames : List (Frame T)) → Each (λ x. p x ≡ q x) frames → filter p frames ≡ filter q frames
   filter-alike q [] each = refl
   filter-alike q (x ∷ xs) each = grind (arith, filter-alike q xs)
 
-  filter-none : (frames : List (Frame T)) → Each (λ x. p x ≡ false) frames → filter p frames ≡ []
+  pub filter-none : (frames : List (Frame T)) → Each (λ x. p x ≡ false) frames → filter p frames ≡ []
   filter-none [] each = refl
   filter-none (x ∷ xs) each = rw each.0 (filter-none xs each.1)
+
+  pub filter-every : (frames : List (Frame T)) → Each (λ x. p x ≡ true) frames → filter p frames ≡ frames
+  filter-every [] each = refl
+  filter-every (x ∷ xs) each = rw each.0 (ap (λ ys. x ∷ ys) (filter-every xs each.1))
 
 -- the children of a frame are those whose paths say so
 module _ {T : Type 0} (frames : List (Frame T)) (s : ℕ) where
@@ -227,11 +235,7 @@ module _ {T : Type 0} (frames : List (Frame T)) (s : ℕ) where
   not-child-missing x lacks (inr u) = grind (arith, ne_eqb, true≢false, found-there)
 
   pub children-by-paths : IsTree frames → children_of frames s ≡ filter (λ x. is_child_of s x.path) frames
-  children-by-paths t =
-      elim (cases_Bool (has_frame frames s)) [
-        | inl there ↦ grind (arith, there-found, filter-alike, found-each, tree-rising, placed, child-top, found-ends, child-under)
-        | inr lacks ↦ grind (arith, missing, filter-none, found-each, tree-rising, not-child-missing, placed)
-      ]
+  children-by-paths t = grind (arith, cases_Bool, there-found, filter-alike, found-each, tree-rising, placed, child-top, found-ends, child-under, missing, filter-none, not-child-missing)
 
   -- the same, part by part
   pub top-path : (frame : Frame T) → IsTree frames → frame_at frames s ≡ Some frame → parent_of frame.path ≡ None → frame.path ≡ s ∷ []

@@ -1,8 +1,9 @@
 -- A tree with one frame more, with another state in a frame, and with other values: what is found, the children, and that it is a tree.
+use Rattle.frame_table.proofs.TreeLaws.{found-own}
 use Rattle.frame_table.proofs.Common.{State, filter, filter-append, is_child_of, map_value, map_values, AreAlike, ◌≡◌, ◌≢◌, ℕ, Bool, true, not, List, [], ◌∷◌}
 use Rattle.frame_table.proofs.Common.{◌++◌, Option, Some, None, refl, ap, sym, ◌∙◌, arith, append_assoc, append-nil, map, Frame, frame_at, has_frame, has_parent}
 use Rattle.frame_table.proofs.Common.{path_in, AllBelow, parent_of, path_under, goes_under, is_one_more, children_of, frames_under, aborted, frames_without}
-use Rattle.frame_table.proofs.Common.{with_state, values_of, IsNextFrame, IsTree, IsTreeAfter, new_frame, subst}
+use Rattle.frame_table.proofs.Common.{with_state, values_of, IsNextFrame, IsTree, IsTreeAfter, new_frame}
 use Rattle.std.specs.Prelude.{option_map}
 use Rattle.frame_table.specs.Frames.{root_of, children_under}
 use Rattle.frame_table.proofs.Forest.{parent_of-append, root_of-append}
@@ -46,14 +47,13 @@ pub root-there : {T : Type 0} (xs : List (Frame T)) (s : ℕ) (f : Frame T) → 
     path_in xs (root_of f.path) ≡ root_of f.path ∷ []
 root-there {T} xs s f t is =
     let P : Frame T → Type 0 = λ x. frame_at xs x.serial ≡ Some x → path_in xs (root_of x.path) ≡ root_of x.path ∷ [] in
-    let found : frame_at xs f.serial ≡ Some f = subst (λ (k : ℕ). frame_at xs k ≡ Some f) (sym (found-serial xs s f is)) is in
-    tree-induction P xs t (λ x top own. rw top.1 (found-path xs x.serial x own ∙ top.1)) (λ x u above own. under x u above) s f is found
+    tree-induction P xs t (λ x top own. rw top.1 (found-path xs x.serial x own ∙ top.1)) (λ x u above own. under x u above) s f is (found-own xs s f is)
   where
     under : (x : Frame T) (u : IsUnder xs x) → (frame_at xs u.above.serial ≡ Some u.above → path_in xs (root_of u.above.path) ≡ root_of u.above.path ∷ []) →
         path_in xs (root_of x.path) ≡ root_of x.path ∷ []
     under x u above =
         let same : root_of x.path ≡ root_of u.above.path = ap root_of u.path ∙ root_of-append u.above.path x.serial u.parent (found-ends xs u.parent u.above t u.there) in
-        rw same (above (subst (λ (k : ℕ). frame_at xs k ≡ Some u.above) (sym (found-serial xs u.parent u.above u.there)) u.there))
+        rw same (above (found-own xs u.parent u.above u.there))
 
 -- a frame that is no root is under the root of its path
 pub under-root : (path : List ℕ) (p : ℕ) → parent_of path ≡ Some p → goes_under (root_of path) path ≡ true

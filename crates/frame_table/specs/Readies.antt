@@ -6,7 +6,7 @@ use Rattle.frame_table.specs.declared.slot.Slot.{Slot}
 use Rattle.frame_table.specs.declared.ready.ReadyFrame.{ReadyFrame}
 use Rattle.frame_table.specs.Frames.{first_of_two, is_ready}
 use Rattle.numbered_list.specs.Places.{inserted}
-use Rattle.frame_table.specs.Slots.{AreSoundSlots, serials_of}
+use Rattle.frame_table.specs.Slots.{KeepsTree, frames_from, serials_of}
 use Rattle.frame_table.specs.Windows.{PlacedList}
 
 -- these ready frames, with the one of this serial in front if its state is Ready
@@ -39,10 +39,10 @@ abbrev pub last_ready : List ReadyFrame → Option ReadyFrame
 last_ready [] = None
 last_ready (frame ∷ frames) = first_of_two (last_ready frames) (Some frame)
 
--- the invariant of TenantFrames (src/tree.rt): serials and ready are those of the slots, which are sound and no more
--- than places, and all lists have room for as many
+-- the invariant of TenantFrames (src/tree.rt): the slots keep the tree of frames that they stand for, and are no more than
+-- places; serials and ready are those of the slots; and all lists have room for as many as places
 pub record AreTenantFrames {T : Type 0} (slots : List (Slot T)) (places : ℕ) (serials : PlacedList ℕ) (ready : PlacedList ReadyFrame) : Type 0 where
-  pub sound : AreSoundSlots slots (length ready.list)
+  pub sound : KeepsTree slots (frames_from [] slots)
   pub index : serials.list ≡ serials_of slots
   pub ready_frames : ready.list ≡ ready_in slots
   pub within : length slots ≤ places

@@ -1,5 +1,5 @@
 -- Representation: how a tenant's slots are kept: in a slab, with an index of their keys by rising serial.
-use Rattle.std.specs.Prelude.{◌≡◌, ℕ, ◌<◌, ◌≤◌, Bool, true, false, not, if◌then◌else◌, ◌||◌, ◌&&◌, ◌==◌, List, [], ◌∷◌, ◌++◌, Option, Some, None, IsSome, length, slice_index, get_or, set, map, drop}
+use Rattle.std.specs.Prelude.{◌≡◌, ℕ, ◌<◌, ◌≤◌, Bool, true, false, not, if◌then◌else◌, ◌||◌, ◌&&◌, ◌==◌, List, [], ◌∷◌, ◌++◌, Option, Some, None, length, slice_index, get_or, set, map, filter, is_some, drop}
 use Rattle.std.specs.Borrow.{Bor}
 use Rattle.slab.specs.Slab.{Slab, get, slab_len}
 use Rattle.frame_table.specs.declared.slot.Slot.{Slot as TenantSlot}
@@ -41,19 +41,18 @@ KnowsParent slab keys None (Some above) = ⊥
 KnowsParent slab keys (Some parent) None = ⊥
 KnowsParent slab keys (Some parent) (Some above) = (has_number keys above ≡ true) × HasSerial parent (get slab above)
 
--- a slot was found, it isn't marked, and it keeps the right key of its parent, which is one of these keys
+-- a slot was found, and it keeps the right key of its parent, which is one of these keys
 abbrev pub IsHere : {T : Type 0} → Slab (StoredSlot T) → List ℕ → Option (StoredSlot T) → Type 0
 IsHere slab keys None = ⊥
-IsHere slab keys (Some kept) = (kept.marked ≡ false) × KnowsParent slab keys kept.slot.parent kept.above
+IsHere slab keys (Some kept) = KnowsParent slab keys kept.slot.parent kept.above
 
--- each key has an unmarked slot, and the key of its parent, if it has one, stands before it
+-- each key has a slot, and the key of its parent, if it has one, stands before it
 abbrev pub AllHere : {T : Type 0} → Slab (StoredSlot T) → List ℕ → List ℕ → Type 0
 AllHere slab before [] = Unit {0}
 AllHere slab before (key ∷ keys) = IsHere slab before (get slab key) × AllHere slab (before ++ key ∷ []) keys
 
 -- the invariant of a slot store (src/slot_store.rt): order has the key of each slot once, those of parents before
--- their children's, and no slot is marked (as an abort marks those that it is about to remove); there are no more than
--- places, and the slab and the order (of so much room) can hold as many
+-- their children's; there are no more than places, and the slab and the order (of so much room) can hold as many
 pub record IsSlotStore {T : Type 0} (slab : Slab (StoredSlot T)) (order : List ℕ) (room places : ℕ) : Type 0 where
   pub here : AllHere slab [] order
   pub apart : AreApartKeys order
@@ -69,59 +68,33 @@ StandsUnder slots None (Some at) = ⊥
 StandsUnder slots (Some parent) None = ⊥
 StandsUnder slots (Some parent) (Some at) = (at < length slots) × (slice_index (serials_of slots) at ≡ parent)
 
--- a slot is there under the key of a parent, if there is one
-abbrev pub HasAbove : {T : Type 0} → Slab (StoredSlot T) → Option ℕ → Type 0
-HasAbove slab None = Unit {0}
-HasAbove slab (Some above) = IsSome (get slab above)
+-- whether a slot is there under this key
+abbrev pub has_slot_under : {T : Type 0} → Slab (StoredSlot T) → ℕ → Bool
+has_slot_under slab key = is_some (get slab key)
 
--- a slot was found, and its parent's is there, if it has one
-abbrev pub HasLink : {T : Type 0} → Slab (StoredSlot T) → Option (StoredSlot T) → Type 0
-HasLink slab None = ⊥
-HasLink slab (Some kept) = HasAbove slab kept.above
-
--- whether a slot is there and marked
-abbrev pub is_marked : {T : Type 0} → Option (StoredSlot T) → Bool
-is_marked None = false
-is_marked (Some kept) = kept.marked
-
--- whether an abort at under removes a slot with this parent, kept under this key: it is that frame, or marked
+-- whether an abort at under removes a slot with this parent, kept under this key: it is that frame, or gone
 abbrev pub is_taken_by : {T : Type 0} → Slab (StoredSlot T) → ℕ → Option ℕ → Option ℕ → Bool
 is_taken_by slab under None above = false
 is_taken_by slab under (Some parent) None = false
-is_taken_by slab under (Some parent) (Some above) = (parent == under) || is_marked (get slab above)
+is_taken_by slab under (Some parent) (Some above) = (parent == under) || not (has_slot_under slab above)
 
--- whether a slot was found that an abort at under removes: its parent is that frame, or is marked
+-- whether a slot was found that an abort at under removes: its parent is that frame, or is gone
 abbrev pub is_taken_in : {T : Type 0} → Slab (StoredSlot T) → ℕ → Option (StoredSlot T) → Bool
 is_taken_in slab under None = false
 is_taken_in slab under (Some kept) = is_taken_by slab under kept.slot.parent kept.above
 
--- what marking leaves under a key: what was there, and if the key is one of these, marked exactly where an abort at
--- under removes the frame
-abbrev pub marked_in : {T : Type 0} → ℕ → List (TenantSlot T) → List ℕ → ℕ → Option (StoredSlot T) → Option (StoredSlot T)
-marked_in under slots keys key None = None
-marked_in under slots keys key (Some kept) = Some (record kept { marked = if has_number keys key then not (is_kept under (frames_from [] slots) kept.slot.serial) else kept.marked })
+-- what is under a key once the slots under these keys that an abort at under removes are gone
+abbrev pub left_under : {T : Type 0} → ℕ → List (TenantSlot T) → List ℕ → ℕ → Option (StoredSlot T) → Option (StoredSlot T)
+left_under under slots keys key None = None
+left_under under slots keys key (Some kept) = if has_number keys key && not (is_kept under (frames_from [] slots) kept.slot.serial) then None else Some kept
 
--- now is old with the slots under these keys marked exactly where an abort at under removes them
-abbrev pub Marks : {T : Type 0} → ℕ → List (TenantSlot T) → List ℕ → Slab (StoredSlot T) → Slab (StoredSlot T) → Type 0
-Marks under slots keys old now = (key : ℕ) → get now key ≡ marked_in under slots keys key (get old key)
+-- now is old without the slots under these keys that an abort at under removes
+pub record Leaves {T : Type 0} (under : ℕ) (slots : List (TenantSlot T)) (keys : List ℕ) (old now : Slab (StoredSlot T)) : Type 0 where
+  pub left : (key : ℕ) → get now key ≡ left_under under slots keys key (get old key)
 
--- no slot under these keys is marked
-abbrev pub NoneMarked : {T : Type 0} → Slab (StoredSlot T) → List ℕ → Type 0
-NoneMarked slab [] = Unit {0}
-NoneMarked slab (key ∷ keys) = (is_marked (get slab key) ≡ false) × NoneMarked slab keys
-
--- each key has a slot
-abbrev pub AreThere : {T : Type 0} → Slab (StoredSlot T) → List ℕ → Type 0
-AreThere slab [] = Unit {0}
-AreThere slab (key ∷ keys) = IsSome (get slab key) × AreThere slab keys
-
--- what is under a key once the marked slots under these keys are removed
-abbrev pub swept_in : {T : Type 0} → Slab (StoredSlot T) → List ℕ → ℕ → Option (StoredSlot T)
-swept_in slab keys key = if has_number keys key && is_marked (get slab key) then None else get slab key
-
--- the values of the slots under these keys
-abbrev pub values_in : {T : Type 0} → Slab (StoredSlot T) → List ℕ → List T
-values_in slab keys = map (λ slot. slot.value) (slots_in slab keys)
+-- of some of these slots, the values of those that an abort at under removes
+abbrev pub gone_among : {T : Type 0} → ℕ → List (TenantSlot T) → List (TenantSlot T) → List T
+gone_among under slots some = map (λ slot. slot.value) (filter (λ slot. not (is_kept under (frames_from [] slots) slot.serial)) some)
 
 -- the slots of a slot store from a place on; none where there is none
 abbrev pub slots_after : {T : Type 0} → ℕ → Option (Bor (SlotStoreOf T)) → List (TenantSlot T)
@@ -142,7 +115,7 @@ pub record ChangesSlot {T : Type 0} (old new : SlotStoreOf T) (serial : ℕ) (ch
   pub changed : new ≡ record old { slots = set old.slots at (change slot) }
   pub told : Told slot
 
--- these are the keys of all slots of a slab, of which none is marked, each once, those of parents before their children's
+-- these are the keys of all slots of a slab, each once, those of parents before their children's
 pub record AreKeys {T : Type 0} (slab : Slab (StoredSlot T)) (keys : List ℕ) : Type 0 where
   pub here : AllHere slab [] keys
   pub apart : AreApartKeys keys

@@ -2,7 +2,7 @@
 //!
 //! Seen as the list of slots by rising serial, and a number of places. What makes that true: each key
 //! of the index is of a slot of its own, each slot of the slab has its key in the index, a slot
-//! that has a parent keeps the key of the parent's slot, which stands before it, and none is marked.
+//! that has a parent keeps the key of the parent's slot, which stands before it.
 //! A slot is looked for first under the key that its serial is guessed to have, which stays its key while
 //! it is there: else by a search of the serials. It is found by its serial alone, so one that is used
 //! again never answers for an old name.
@@ -11,11 +11,11 @@ ghost use Rattle.slab.specs.Slab.{get, slab_len, ContainsKey, Updates};
 ghost use Rattle.frame_table.specs.declared.slot_store.StoredSlot.{StoredSlot};
 ghost use Rattle.frame_table.specs.declared.slot.Slot.{Slot};
 ghost use Rattle.std.specs.List.{remove};
-ghost use Rattle.frame_table.specs.Slots.{serials_of, IsLinked, kept_slots, gone_values, slot_values, child_slots, Rises, has_slot, has_parent_slot, AllCountsBelow, with_child, root_at, root_under, without_child, CountsAtParent};
+ghost use Rattle.frame_table.specs.Slots.{serials_of, IsCutAt, kept_slots, gone_values, slot_values, child_slots, Rises, has_slot, has_parent_slot, AllCountsBelow, with_child, restated, root_in, slot_at, root_under, without_child, CountsAtParent};
 ghost use Rattle.frame_table.specs.Readies.{ready_in};
 ghost use Rattle.numbered_list.specs.Places.{AreRising};
 ghost use Rattle.frame_table.specs.Places.{has_number};
-ghost use Rattle.frame_table.specs.SlotStores.{slots_in, AllHere, AreApartKeys, AreKeys, IsKeyAt, IsSeenAt, ChangesSlot, KnowsParent, new_slot, HasLink, is_taken_in, Marks, AreThere, NoneMarked, is_marked, swept_in, values_in};
+ghost use Rattle.frame_table.specs.SlotStores.{slots_in, AllHere, AreApartKeys, AreKeys, IsKeyAt, IsSeenAt, ChangesSlot, KnowsParent, new_slot, is_taken_in, Leaves, gone_among, has_slot_under};
 
 use crate::names::State;
 use crate::ready::{ReadyFrame, ReadyFrames};
@@ -32,14 +32,12 @@ use std::marker::Model;
 /// table is seldom worth it, as it is zeroed at each admission.
 const FEWEST: usize = 64;
 
-/// One slot as the slab keeps it, with what an abort needs.
+/// One slot as the slab keeps it.
 #[derive(Clone, Copy)]
 pub(crate) struct StoredSlot<T> {
     pub(crate) slot: Slot<T>,
     /// The key of the parent's slot; None for a root.
     pub(crate) above: Option<usize>,
-    /// Whether the abort under way removes it; false between aborts.
-    pub(crate) marked: bool,
 }
 
 /// The slots of one tenant, in a slab: `order` has their keys by rising serial, and `guesses` the key that a
@@ -190,12 +188,12 @@ impl<T: Copy, A: Allocator> SlotStore<T, A> {
     /// Puts the slot with this serial, which is there, into another state, and returns the state that it was
     /// in.
     #[inline(always)]
-    #[tactic(auto, using(crate::proofs::Keys::key_laws))]
+    #[tactic(auto, using(crate::proofs::Keys::key_laws, crate::proofs::Keys::store_laws))]
     pub(crate) fn set_state(&mut self, serials: &Serials<A>, serial: u64, state: State) -> State
         requires index { serials.now.list ≡ serials_of self.old.slots }
         requires rise { Rises self.old.slots }
         requires there { has_slot self.old.slots serial ≡ true }
-        ensures { ChangesSlot self.old self.new serial (λ slot. record slot { state = state }) (λ slot. result ≡ slot.state) }
+        ensures { ChangesSlot self.old self.new serial (restated state) (λ slot. result ≡ slot.state) }
     {
         match guessed_key(&self.slab, &self.order, &self.guesses, serial) {
             Some(key) => put_state(&mut self.slab, key, state),
@@ -243,26 +241,26 @@ impl<T: Copy, A: Allocator> SlotStore<T, A> {
                 value,
             },
             above,
-            marked: false,
         });
         self.order.push(key);
         self.guesses.put(serial, key);
     }
 
     /// Removes all slots below the one with serial `under`, which is at place `at` and stays, and appends their
-    /// values to `removed`: one pass from that place on marks them, and a second removes the marked.
+    /// values to `removed`: one pass from that place on removes them from the slab, and a second their keys.
     #[tactic(auto, using(crate::proofs::SlotStores::read_laws))]
     pub(crate) fn cut(&mut self, at: usize, under: u64, removed: &mut Vec<T, A>)
         requires within { at < length self.old.slots }
         requires named { slice_index (serials_of self.old.slots) at ≡ under }
-        requires linked { IsLinked [] self.old.slots }
+        requires parents { IsCutAt under self.old.slots }
+        requires rise { Rises self.old.slots }
         requires room { vec_len removed.old + length self.old.slots ≤ vec_capacity removed.old }
         ensures kept { self.new ≡ record self.old { slots = kept_slots under self.old.slots } }
         ensures values { removed.new.items ≡ removed.old.items ++ gone_values under self.old.slots }
         ensures capacity { vec_capacity removed.new ≡ vec_capacity removed.old }
     {
-        mark_under(&mut self.slab, self.order.as_slice(), at, under);
-        sweep(&mut self.slab, &mut self.order, at, removed);
+        take_under(&mut self.slab, self.order.as_slice(), at, under, removed);
+        close_up(&self.slab, &mut self.order, at);
     }
 
     /// Removes all slots, and appends their values to `removed`.
@@ -294,7 +292,7 @@ impl<T: Copy, A: Allocator> SlotStore<T, A> {
     #[tactic(auto, using(crate::proofs::SlotStores::read_laws))]
     pub(crate) fn take(&mut self, at: usize) -> Slot<T>
         requires within { at < length self.old.slots }
-        requires linked { IsLinked [] self.old.slots }
+        requires rise { Rises self.old.slots }
         requires leaf { child_slots (slice_index (serials_of self.old.slots) at) self.old.slots ≡ [] }
         requires counted { (slot : Slot T) → slot ≡ get_or self.old.slots at slot → CountsAtParent (remove self.old.slots at) slot.parent }
         ensures left { self.new ≡ record self.old { slots = without_child result.parent (remove self.old.slots at) } }
@@ -408,6 +406,7 @@ fn adopt<T: Copy, A: Allocator>(
 
 /// Counts one more child at the frame whose slot has this key, and returns that frame's root.
 #[inline(always)]
+#[tactic(auto, using(crate::proofs::Keys::store_laws))]
 fn enroll<T: Copy, A: Allocator>(
     slab: &mut Slab<StoredSlot<T>, A>,
     order: &ListWindow<usize, A>,
@@ -420,7 +419,7 @@ fn enroll<T: Copy, A: Allocator>(
     requires named { (at : ℕ) × IsKeyAt slab.old order.now.list name at key }
     ensures keys { AreKeys slab.new order.now.list }
     ensures slots { slots_in slab.new order.now.list ≡ with_child (Some name) (slots_in slab.old order.now.list) }
-    ensures root { result ≡ root_at (slots_in slab.old order.now.list) name }
+    ensures root { result ≡ root_in (slot_at (slots_in slab.old order.now.list) name) }
     ensures above { KnowsParent slab.new order.now.list (Some name) (Some key) }
     ensures capacity { slab.new.capacity ≡ slab.old.capacity }
 {
@@ -431,6 +430,7 @@ fn enroll<T: Copy, A: Allocator>(
 
 /// Counts one child less at a parent, whose slot has the key `above`; nothing changes where there is no parent.
 #[inline(always)]
+#[tactic(auto, using(crate::proofs::Keys::store_laws))]
 fn disown<T: Copy, A: Allocator>(
     slab: &mut Slab<StoredSlot<T>, A>,
     order: &ListWindow<usize, A>,
@@ -493,86 +493,65 @@ fn count_less<T: Copy, A: Allocator>(slab: &mut Slab<StoredSlot<T>, A>, key: usi
     slab[key].slot.children = children - 1;
 }
 
-/// Marks the slot under a key, for the abort under way to remove.
-fn mark<T: Copy, A: Allocator>(slab: &mut Slab<StoredSlot<T>, A>, key: usize)
-    requires { ContainsKey slab.old key }
-    ensures marked { (kept : StoredSlot T) → get slab.old key ≡ Some kept → Updates slab.old slab.new key (Some (record kept { marked = true })) }
-    ensures len { slab_len slab.new ≡ slab_len slab.old }
-    ensures capacity { slab.new.capacity ≡ slab.old.capacity }
-{
-    let kept = slab[key];
-    slab[key] = StoredSlot {
-        marked: true,
-        ..kept
-    };
-}
-
-/// Whether an abort at the frame `under` removes the slot under this key: its parent is that frame, or is
-/// marked.
+/// Whether an abort at the frame `under` removes the slot under this key, where those before it that it removes are
+/// gone: its parent is that frame, or is gone.
 fn is_taken<T: Copy, A: Allocator>(slab: &Slab<StoredSlot<T>, A>, under: u64, key: usize) -> bool
-    requires { HasLink slab.now (get slab.now key) }
+    requires { ContainsKey slab.now key }
     ensures { result ≡ is_taken_in slab.now under (get slab.now key) }
 {
     let kept = slab[key];
     match (kept.slot.parent, kept.above) {
-        (Some(parent), Some(above)) => parent == under || slab[above].marked,
+        (Some(parent), Some(above)) => parent == under || !slab.contains(above),
         _ => false,
     }
 }
 
-/// Marks what an abort at the frame `under` removes, in one pass by rising serial from a place on: each slot
-/// whose parent is that frame, or is marked. Slots before the place aren't looked at.
-fn mark_under<T: Copy, A: Allocator>(
+/// Removes from the slab what an abort at the frame `under` removes, in one pass by rising serial from a place on, and
+/// appends their values to `removed`: each slot whose parent is that frame, or is gone. Slots before the place aren't
+/// looked at.
+fn take_under<T: Copy, A: Allocator>(
     slab: &mut Slab<StoredSlot<T>, A>,
     order: &[usize],
     from: usize,
     under: u64,
+    removed: &mut Vec<T, A>,
 )
     requires here { AllHere slab.old [] order.now }
     requires apart { AreApartKeys order.now }
-    requires linked { IsLinked [] (slots_in slab.old order.now) }
+    requires parents { IsCutAt under (slots_in slab.old order.now) }
     requires within { from ≤ length order.now }
-    requires early { Marks under (slots_in slab.old order.now) (take from order.now) slab.old slab.old }
-    ensures marked { Marks under (slots_in slab.old order.now) order.now slab.old slab.new }
-    ensures len { slab_len slab.new ≡ slab_len slab.old }
+    requires early { Leaves under (slots_in slab.old order.now) (take from order.now) slab.old slab.old }
+    requires none { gone_among under (slots_in slab.old order.now) (take from (slots_in slab.old order.now)) ≡ [] }
+    requires room { vec_len removed.old + length order.now ≤ vec_capacity removed.old }
+    ensures left { Leaves under (slots_in slab.old order.now) order.now slab.old slab.new }
+    ensures values { removed.new.items ≡ removed.old.items ++ gone_values under (slots_in slab.old order.now) }
+    ensures len { slab_len slab.new + length removed.new.items ≡ slab_len slab.old + length removed.old.items }
     ensures capacity { slab.new.capacity ≡ slab.old.capacity }
+    ensures removed_room { vec_capacity removed.new ≡ vec_capacity removed.old }
 {
     for at in from..order.len() {
         let key = order[at];
         if is_taken(slab, under, key) {
-            mark(slab, key);
+            let gone = slab.remove(key);
+            removed.push_reserved(gone.slot.value);
         }
     }
 }
 
-/// Removes the marked slots in one pass from a place on, and adds their values to `removed`. None
-/// before the place is marked.
-fn sweep<T: Copy, A: Allocator>(
-    slab: &mut Slab<StoredSlot<T>, A>,
+/// Removes the keys that have no slot any more, in one pass from a place on; those before it have theirs.
+fn close_up<T: Copy, A: Allocator>(
+    slab: &Slab<StoredSlot<T>, A>,
     order: &mut ListWindow<usize, A>,
     from: usize,
-    removed: &mut Vec<T, A>,
 )
-    requires there { AreThere slab.old order.old.list }
-    requires apart { AreApartKeys order.old.list }
     requires within { from ≤ length order.old.list }
-    requires early { NoneMarked slab.old (take from order.old.list) }
-    requires room { vec_len removed.old + length order.old.list ≤ vec_capacity removed.old }
-    ensures kept { order.new.list ≡ filter (λ key. not (is_marked (get slab.old key))) order.old.list }
-    ensures slots { (key : ℕ) → get slab.new key ≡ swept_in slab.old order.old.list key }
-    ensures values { removed.new.items ≡ removed.old.items ++ values_in slab.old (filter (λ key. is_marked (get slab.old key)) order.old.list) }
-    ensures len { slab_len slab.new + length order.old.list ≡ slab_len slab.old + length order.new.list }
-    ensures capacity { slab.new.capacity ≡ slab.old.capacity }
-    ensures order_places { order.new.places ≡ order.old.places }
-    ensures removed_room { vec_capacity removed.new ≡ vec_capacity removed.old }
+    requires early { filter (has_slot_under slab.now) (take from order.old.list) ≡ take from order.old.list }
+    ensures { order.new ≡ record order.old { list = filter (has_slot_under slab.now) order.old.list } }
 {
     let mut kept = from;
     for at in from..order.len() {
         let key = order.at(at);
-        if slab[key].marked {
-            let gone = slab.remove(key);
-            removed.push_reserved(gone.slot.value);
-        } else {
+        if slab.contains(key) {
             order.put(kept, key);
             kept += 1;
         }

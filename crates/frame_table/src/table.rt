@@ -135,6 +135,7 @@ impl<T: Copy, A: Allocator> FrameTable<T, A> {
 
     /// Whether `add` may be called with this name under this parent (None: as a root): the serial is above
     /// those of the tenant's frames, the parent is one of them, and a place is left.
+    #[tactic(auto, using(crate::proofs::Tenants::change_laws))]
     pub fn can_add(&self, f: FrameId, parent: Option<FrameId>) -> bool
         ensures above { IsTrue result → AllBelow f.serial (frames_of self.now f.tenant) }
         ensures parent { IsTrue result → IsParentIn (frames_of self.now f.tenant) f.tenant parent }
@@ -300,7 +301,7 @@ impl<T: Copy, A: Allocator> FrameTable<T, A> {
     }
 
     /// Raises the number of places of a tenant that has some to this. Where memory is refused no place has changed.
-    #[tactic(auto, using(crate::proofs::Tenants::tree_by_places))]
+    #[tactic(auto, using(crate::proofs::Tenants::change_laws))]
     fn reserve_more(&mut self, tenant: u64, segments: usize) -> Result<(), AllocError>
     where
         A: Clone,
@@ -336,7 +337,7 @@ impl<T: Copy, A: Allocator> FrameTable<T, A> {
     /// Adds a frame under this parent, or as a root, ready at this home (a worker, or 0 for the hall). What `can_add`
     /// tests must be true. Takes no memory.
     #[inline(always)]
-    #[tactic(auto, using(crate::proofs::Tenants::tree_by_places))]
+    #[tactic(auto, using(crate::proofs::Tenants::change_laws))]
     pub fn add(&mut self, f: FrameId, parent: Option<FrameId>, home: u8, value: T)
         requires above { AllBelow f.serial (frames_of self.old f.tenant) }
         requires parent { IsParentIn (frames_of self.old f.tenant) f.tenant parent }
@@ -355,7 +356,7 @@ impl<T: Copy, A: Allocator> FrameTable<T, A> {
 
     /// Puts a frame into this state.
     #[inline(always)]
-    #[tactic(auto, using(crate::proofs::Tenants::tree_by_frame))]
+    #[tactic(auto, using(crate::proofs::Tenants::change_laws))]
     pub fn set_state(&mut self, f: FrameId, state: State)
         requires { IsTrue (has_frame (frames_of self.old f.tenant) f.serial) }
         ensures frames { frames_of self.new f.tenant ≡ with_state f.serial state (frames_of self.old f.tenant) }
@@ -368,7 +369,7 @@ impl<T: Copy, A: Allocator> FrameTable<T, A> {
 
     /// Removes all frames below this one (its children, theirs, and so on); the frame itself stays. Returns the
     /// removed frames' values, by rising serial. Takes no memory.
-    #[tactic(auto, using(crate::proofs::Tenants::tree_by_frame))]
+    #[tactic(auto, using(crate::proofs::Tenants::change_laws))]
     pub fn remove_under(&mut self, f: FrameId) -> &[T]
         requires { IsTrue (has_frame (frames_of self.old f.tenant) f.serial) }
         ensures* ends { sem 𝓛 (EndsAborted T.row A.row A.Allocator self.entry f) }
@@ -384,7 +385,7 @@ impl<T: Copy, A: Allocator> FrameTable<T, A> {
 
     /// Removes all frames of a tenant; it has as many places as before. Returns the removed frames' values, by rising
     /// serial. Takes no memory.
-    #[tactic(auto, using(crate::proofs::Tenants::tree_by_places))]
+    #[tactic(auto, using(crate::proofs::Tenants::change_laws))]
     pub fn remove_all(&mut self, tenant: u64) -> &[T]
         requires { 0 < places_of self.old tenant }
         ensures* ends { sem 𝓛 (EndsEmptied T.row A.row A.Allocator self.entry tenant) }
@@ -400,7 +401,7 @@ impl<T: Copy, A: Allocator> FrameTable<T, A> {
 
     /// Removes a frame that has no child, and returns its value.
     #[inline(always)]
-    #[tactic(auto, using(crate::proofs::Tenants::tree_by_frame))]
+    #[tactic(auto, using(crate::proofs::Tenants::change_laws))]
     pub fn remove(&mut self, f: FrameId) -> T
         requires there { IsTrue (has_frame (frames_of self.old f.tenant) f.serial) }
         requires leaf { children_of (frames_of self.old f.tenant) f.serial ≡ [] }

@@ -1,11 +1,10 @@
 //! The frames of one tenant, in the places that were reserved for them.
 //!
 //! Seen as a tenant, a number of places and a list of frames by rising serial, each with its path.
-//! What makes that true: slots rise, each names a parent that stands before it and the root above it,
-//! the counts of children are those of the slots, and so are the serials and the ready frames that are
-//! listed beside them.
+//! What makes that true: the slots are those of the frames, each with the count of the frame's children,
+//! and so are the serials and the ready frames that are listed beside them.
 ghost use Rattle.std.specs.Prelude.{◌≡◌, ◌+◌, ◌<◌, ◌≤◌, ◌↔◌, ◌++◌, [], ◌∷◌, true, false, length, vec_len, vec_capacity, IsTrue, IfOk, OnOk, OnErr, IfSome};
-ghost use Rattle.frame_table.specs.Slots.{frames_from, IsLinked};
+ghost use Rattle.frame_table.specs.Slots.{KeepsTree};
 ghost use Rattle.frame_table.specs.Frames.{frame_at, has_frame, path_in, root_of, children_of, aborted, frames_under, frames_without, values_of, with_state, ready_frames, AllBelow, entry_of_frame, newest_ready_of, new_frame, one_if_ready, HasValue, has_parent, IsReadyAt, IsTree};
 
 use crate::names::{Entry, FrameId, State};
@@ -117,15 +116,14 @@ impl<T: Copy, A: Allocator> TenantFrames<T, A> {
 
     /// The slots of its frames.
     pub(crate) fn store(&self) -> &SlotStore<T, A>
-        ensures frames { frames_from [] result.now.slots ≡ self.now.frames }
-        ensures linked { IsLinked [] result.now.slots }
+        ensures { KeepsTree result.now.slots self.now.frames }
     {
         &self.store
     }
 
     /// The parent, state and value of a frame; `None` where there is no such frame.
     #[inline(always)]
-    #[tactic(auto, using(crate::proofs::Finds::of_frames, crate::proofs::Forest::linked_rises))]
+    #[tactic(auto, using(crate::proofs::Finds::of_frames))]
     pub fn find(&self, serial: u64) -> Option<Entry<T>>
         ensures entry { result ≡ entry_of_frame self.now.tenant (frame_at self.now.frames serial) }
         ensures tree { IsTree self.now.frames }
@@ -148,7 +146,7 @@ impl<T: Copy, A: Allocator> TenantFrames<T, A> {
 
     /// Whether a frame has a child, by a count kept with the frame; false also where there is no such frame.
     #[inline(always)]
-    #[tactic(auto, using(crate::proofs::Forest::linked_rises))]
+    #[tactic(auto, using(crate::proofs::Finds::of_frames))]
     pub fn has_child(&self, serial: u64) -> bool
         ensures child { IsTrue result ↔ (0 < length (children_of self.now.frames serial)) }
         ensures leaf { result ≡ false → children_of self.now.frames serial ≡ [] }
@@ -197,7 +195,7 @@ impl<T: Copy, A: Allocator> TenantFrames<T, A> {
     /// Adds a frame under this parent, or as a root, ready at this home (a worker, or 0 for the hall). Its serial is
     /// above those of all frames, the parent is there, and a place is free. Takes no memory.
     #[inline(always)]
-    #[tactic(auto, using(crate::proofs::Forest::linked_rises, crate::proofs::Finds::of_frames, crate::proofs::Finds::has_parent_laws))]
+    #[tactic(auto, using(crate::proofs::Finds::of_frames, crate::proofs::Readies::tenant_laws))]
     pub fn add(&mut self, serial: u64, parent: Option<u64>, home: u8, value: T)
         requires above { AllBelow serial self.old.frames }
         requires parent { has_parent self.old.frames parent ≡ true }
@@ -211,7 +209,7 @@ impl<T: Copy, A: Allocator> TenantFrames<T, A> {
 
     /// Puts a frame into this state, and returns the state that it was in before.
     #[inline(always)]
-    #[tactic(auto, using(crate::proofs::Finds::of_frames, crate::proofs::Forest::linked_rises))]
+    #[tactic(auto, using(crate::proofs::Finds::of_frames))]
     pub fn set_state(&mut self, serial: u64, state: State) -> State
         requires { IsTrue (has_frame self.old.frames serial) }
         ensures frames { self.new ≡ record self.old { frames = with_state serial state self.old.frames } }
@@ -267,7 +265,7 @@ impl<T: Copy, A: Allocator> TenantFrames<T, A> {
 
     /// Removes a frame that has no child, and returns its state and its value.
     #[inline(always)]
-    #[tactic(auto, using(crate::proofs::Keys::index_laws))]
+    #[tactic(auto, using(crate::proofs::Keys::index_laws, crate::proofs::Readies::tenant_laws))]
     pub fn remove(&mut self, serial: u64) -> (State, T)
         requires there { IsTrue (has_frame self.old.frames serial) }
         requires leaf { children_of self.old.frames serial ≡ [] }

@@ -1,13 +1,12 @@
 -- An act, done: the stores, and then what comes after them.
-use Rattle.sched_core.proofs.Common.{or_parts, ◌≡◌, ℕ, ◌+◌, Bool, false, List, [], ◌∷◌, Option, Some, None, Ok, refl, ◌∙◌, ap, arith, IsSome, nat_tests, charge, FrameId, frame_at, tree-rising, found-serial, Act, Continuation, Grow, Advance, DidOf, Functions, Tenant, has_child, stored, with_frame_words, charged_for, is_outside, is_root, holding, counted, segments_for, then_done, on_tenant, named, CoreState, with_tenant, without_tenant, with_outcome, IsShaped, AreShaped, shaped-in, length-stored, children_of-with_frame_words, length-with_frame_words, charged-with_frame_words, TenantHasStepLeft, words_under, GoesOn, FollowsResult, IsCome, F, not-false}
+use Rattle.sched_core.proofs.Common.{[], ◌≡◌, ℕ, ◌+◌, Bool, false, List, ◌∷◌, Option, Some, None, Ok, refl, arith, IsSome, nat_tests, FrameId, frame_at, tree-rising, found-serial, Act, Continuation, Grow, Advance, DidOf, Functions, Tenant, stored, with_frame_words, charged_for, is_outside, is_root, holding, counted, segments_for, then_done, on_tenant, named, CoreState, with_tenant, without_tenant, with_outcome, IsShaped, AreShaped, shaped-in, length-stored, children_of-with_frame_words, length-with_frame_words, charged-with_frame_words, TenantHasStepLeft, words_under, GoesOn, FollowsResult, IsCome, F}
 use Rattle.std.specs.Prelude.{length}
-use Rattle.sched_core.proofs.TakenStep.{IsWith, with_tenant-twice, begins, then-changed, step-left}
-use Rattle.sched_core.proofs.Ending.{named-words}
+use Rattle.sched_core.proofs.TakenStep.{IsWith, with_tenant-twice, begins, then-changed}
 use Rattle.sched_core.proofs.Acting.{IsSetOut, held-at}
 
 module _ (n : ℕ) (t : Tenant) where
   without-with : (es : List (ℕ × Tenant)) → without_tenant n (with_tenant n t es) ≡ without_tenant n es
-  without-with [] = grind (arith, nat_tests)
+  without-with [] = grind arith
   without-with (e ∷ es) = grind (arith, without-with es, nat_tests)
 
   outcome-with : (outcome : Option Tenant) (es : List (ℕ × Tenant)) → with_outcome n outcome (with_tenant n t es) ≡ with_outcome n outcome es
@@ -20,14 +19,10 @@ segments-as frame words (Grow more) same = rw same refl
 segments-as frame words _ same = refl
 
 module _ (serial : ℕ) (words : List ℕ) {tenant : Tenant} (shape : IsShaped tenant) where
-  child-as : has_child (with_frame_words serial words tenant.frames) serial ≡ has_child tenant.frames serial
-  child-as = grind (arith, children_of-with_frame_words, length-with_frame_words)
-
   charged-as : (frame : F) → frame_at tenant.frames serial ≡ Some frame → length words ≡ length frame.value →
       charged_for (with_frame_words serial words tenant.frames) ≡ charged_for tenant.frames
   charged-as frame found same =
-      let sum = charged-with_frame_words serial words tenant.frames frame (tree-rising tenant.frames shape.tree) found in
-      cancel (charged_for (with_frame_words serial words tenant.frames)) (charged_for tenant.frames) (ap charge same) sum
+      let sum = charged-with_frame_words serial words tenant.frames frame (tree-rising tenant.frames shape.tree) found in grind arith
     where
       cancel : (a b : ℕ) {c d : ℕ} → d ≡ c → a + c ≡ b + d → a ≡ b
       cancel a b e sum = omega arith
@@ -37,16 +32,16 @@ module _ {I A : Type 0} {functions : Functions I A} {shared : CoreState} {worker
     (t : IsSetOut functions shared worker name tenant frame act) where
   -- a step is left to it
   pub has-step-left : TenantHasStepLeft shared name.tenant
-  has-step-left = step-left (begins name.tenant tenant shared t.owner) t.passes.1.0
+  has-step-left = grind (arith, begins)
 
   module _ {now : CoreState} (is : now ≡ on_tenant name.tenant counted shared) where
     -- the tenant with the step counted
     counted-is : IsWith shared name.tenant (counted tenant) now
-    counted-is = then-changed _ _ _ shared now counted (begins name.tenant tenant shared t.owner) is
+    counted-is = then-changed counted (begins name.tenant shared t.owner) is
 
     -- its frame has the same words after the count
     own-words : words_under now name ≡ frame.value
-    own-words = named-words now name (counted tenant) frame counted-is.there t.found
+    own-words = grind (arith, counted-is)
 
     -- and is still there
     pub counted-there : IsSome (named now name)
@@ -54,30 +49,18 @@ module _ {I A : Type 0} {functions : Functions I A} {shared : CoreState} {worker
 
     -- no store is outside it
     pub counted-inside : is_outside act.stores (words_under now name) ≡ false
-    counted-inside = rw own-words (or_parts (is_outside act.stores frame.value) _ t.passes.1.1.0).0
+    counted-inside = grind (arith, own-words)
 
     module _ {next : CoreState} (stores : next ≡ on_tenant name.tenant (holding name.serial (stored act.stores (words_under now name))) now)
         (shaped : AreShaped shared.tenants) where
       -- and with the stores
       stored-is : IsWith shared name.tenant (counted (holding name.serial (stored act.stores frame.value) tenant)) next
-      stored-is = then-changed _ _ _ now next (holding name.serial (stored act.stores frame.value)) counted-is (rw own-words at stores)
+      stored-is = then-changed (holding name.serial (stored act.stores frame.value)) counted-is (rw own-words at stores)
 
       -- after the stores the frame goes on
       pub goes-on : GoesOn next name worker act.after (counted (holding name.serial (stored act.stores frame.value) tenant))
           (record frame { value = stored act.stores frame.value })
-      goes-on =
-          let words = stored act.stores frame.value in
-          let shape = shaped-in name.tenant shared.tenants tenant shaped t.owner in
-          let same : length words ≡ length frame.value = length-stored act.stores frame.value in
-          let can = (or_parts (is_outside act.stores frame.value) _ t.passes.1.1.0).1 in
-          record {
-            owner = stored-is.there;
-            found = held-at name.serial words tenant frame t.found;
-            runs = not-false _ t.passes.0;
-            can = rw (same, child-as name.serial words shape, ← found-serial tenant.frames name.serial frame t.found) can;
-            node = t.passes.1.1.1.0;
-            segments = rw (segments-as frame words act.after same, charged-as name.serial words shape frame t.found same) t.passes.1.1.1.1.0;
-          }
+      goes-on = grind (arith, shaped-in, length-stored, stored-is, held-at, found-serial, segments-as, charged-as, children_of-with_frame_words, length-with_frame_words)
 
       -- where what comes after the stores had its outcome (IsCome), the Advance is answered as step_result says
       pub step_result-advance : {root : Bool} {did : DidOf I} {after : CoreState} → root ≡ is_root frame.path →
@@ -86,5 +69,4 @@ module _ {I A : Type 0} {functions : Functions I A} {shared : CoreState} {worker
           FollowsResult functions shared (Advance worker name) (Ok did) after
       step_result-advance root came =
           let come = came _ _ goes-on root in
-          let among = rw (found-serial tenant.frames name.serial frame t.found) at t.among in
-          record { told = rw (among, come.told) refl; left = come.left ∙ rw (stored-is.is, outcome-with name.tenant _ _ shared.tenants, among) refl }
+          let among = rw (found-serial tenant.frames name.serial frame t.found) at t.among in grind (arith, stored-is, outcome-with)

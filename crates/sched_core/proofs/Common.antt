@@ -1,33 +1,31 @@
 -- The names that the proofs take of the library, of the crates below and of this crate's definitions, from one place.
 pub use Rattle.std.proofs.Common.{drop, take, vec_len, ◌==◌}
-pub use Rattle.std.proofs.Math.Bool.{or-false, or-true}
-pub use Rattle.std.proofs.lemmas.Bool.{true≢false}
+pub use Rattle.std.proofs.Math.Bool.{or-false}
 pub use Rattle.std.proofs.lemmas.Bool.Decides.{nat_tests}
 pub use Rattle.std.proofs.lemmas.List.{take_more}
 pub use Rattle.std.proofs.lemmas.Result.{err_from_is_err_and}
-pub use Rattle.std.specs.Prelude.{IfSome, IsSome, MatchResult, OnErr, OnOk, if◌then◌else◌, is_err, is_some, not, option_and_then, option_map, replicate, ◌&&◌}
+pub use Rattle.std.specs.Prelude.{IfSome, IsSome, MatchResult, OnErr, OnOk, if◌then◌else◌, is_err, is_some, not, option_and_then, replicate, ◌&&◌}
 pub use Rattle.std.specs.Prelude.{◌||◌}
 pub use Rattle.std.specs.Result.{result_err}
 pub use Rattle.std.specs.Vec.{vec_capacity}
-pub use Rattle.cactus_stack.specs.Nodes.{charge}
 pub use Rattle.frame_table.proofs.TreeChanges.{child-under-parent}
 pub use Rattle.frame_table.proofs.TreeLaws.{tree-induction}
 pub use Rattle.frame_table.specs.Frames.{name_of}
 pub use Rattle.frame_table.specs.declared.names.State.TheVariants.{Waiting}
-pub use Rattle.sched_laws.proofs.Common.{Act, Admit, AdmitMore, Admitted, Advance, AllFit, Answer, AreAnswersTo, AreLiveRootsThere, AreNumbersGiven, AreShaped}
+pub use Rattle.sched_laws.proofs.Common.{[], Act, Admit, AdmitMore, Admitted, Advance, AllFit, Answer, AreAnswersTo, AreLiveRootsThere, AreNumbersGiven, AreShaped}
 pub use Rattle.sched_laws.proofs.Common.{BadAct, Bool, Busy, Cancel, Cancelled, Compute, Computing, Continuation, CoreFits, CoreState, DidOf, Done, Each, Err}
-pub use Rattle.sched_laws.proofs.Common.{EveryFrameFits, Finish, Fitting, Frame, FrameId, Functions, Go, Grow, Inlet, InletAct, IsAnswerTo, IsShaped, IsTop}
-pub use Rattle.sched_laws.proofs.Common.{IsTree, IsUnder, Job, List, Live, Lower, NoSteps, NoTenant, None, NotReturned, NotRunning, NotSpent, Ok, Option}
+pub use Rattle.sched_laws.proofs.Common.{EveryFrameFits, Finish, Fitting, FrameId, Functions, Go, Grow, Inlet, InletAct, IsAnswerTo, IsShaped, IsTop}
+pub use Rattle.sched_laws.proofs.Common.{IsTree, IsUnder, Job, List, Live, NoSteps, NoTenant, None, NotReturned, NotRunning, NotSpent, Ok, Option}
 pub use Rattle.sched_laws.proofs.Common.{Outcome, Quota, Ready, Refusal, Result, Return, Returned, RootFits, Rooting, RootsFit, Running, Some, Spawn, Spend}
-pub use Rattle.sched_laws.proofs.Common.{Spent, State, Steal, StepOf, Submit, Take, Tenant, Tree, Wait, [], aborted, aborted-itself, aborted-leaf, above}
-pub use Rattle.sched_laws.proofs.Common.{act_by_sight, act_tests, admit_tests, admitted_with, advance_tests, advanced, after_answer, after_answers, answer_of}
-pub use Rattle.sched_laws.proofs.Common.{answer_tests, answered, ap, append-nil, append_assoc, applies, arith, at_frame, below-found, cases_Bool, charged_for}
+pub use Rattle.sched_laws.proofs.Common.{Spent, State, Steal, StepOf, Submit, Take, Tenant, Tree, Wait, aborted, aborted-itself, aborted-leaf, above}
+pub use Rattle.sched_laws.proofs.Common.{act_by_sight, act_tests, advance_tests, advanced, after_answer, after_answers}
+pub use Rattle.sched_laws.proofs.Common.{answer_tests, answered, ap, append-nil, append_assoc, arith, below-found, charged_for}
 pub use Rattle.sched_laws.proofs.Common.{counted, does_wait, ended, eq-eqb, false, finish_tests, finished, found-each, found-serial, found-there, frame_at}
 pub use Rattle.sched_laws.proofs.Common.{frame_at-other-without, frames_without, goes_under, has_child, has_frame, holding, in_state, inl, inlet_tests, inr}
-pub use Rattle.sched_laws.proofs.Common.{is_admission, is_bad_then, is_beyond, is_busy_in, is_child_of, is_computed_by, is_lower, is_ok, is_outside, is_ready}
+pub use Rattle.sched_laws.proofs.Common.{is_admission, is_beyond, is_busy_in, is_computed_by, is_ok, is_outside, is_ready}
 pub use Rattle.sched_laws.proofs.Common.{is_returned, is_root, is_run_by, is_spendable, job_at, job_under, kept_words, left, length, lone, mark_of_state}
-pub use Rattle.sched_laws.proofs.Common.{meets_busy, newest_ready_of, not-false, number_from, only, opened, or_parts, origins_after, origins_of, parent_of, raised, refl}
-pub use Rattle.sched_laws.proofs.Common.{refusal_in, reservations_in, reserved_by, root_of, segments_for, shared-after-taken, shared_after, shared_by_nobody}
+pub use Rattle.sched_laws.proofs.Common.{meets_busy, newest_ready_of, not-false, number_from, only, opened, origins_after, origins_of, parent_of, raised, refl}
+pub use Rattle.sched_laws.proofs.Common.{refusal_in, reservations_in, reserved_by, root_of, segments_for, shared-after-taken, shared_by_nobody}
 pub use Rattle.sched_laws.proofs.Common.{shared_with, sight, spent, staying, steal_tests, step-taken, step_result, stored, submit_tests, submitted, sym}
 pub use Rattle.sched_laws.proofs.Common.{take_tests, taken_by, taken_in, taken_steps, tenant_in, then_done, there-found, tree-rising, true, under-below}
 pub use Rattle.sched_laws.proofs.Common.{under-there, unless, unless_busy, with_frame_words, with_outcome, with_tenant, without_tenant, words_in, ℕ, ◌++◌, ◌+◌}
@@ -39,14 +37,14 @@ pub use Rattle.sched_laws.proofs.Holds.{F, charged-with_frame_words, children_of
 pub use Rattle.sched_laws.proofs.Holds.{length-with_frame_words, no-frame}
 pub use Rattle.sched_laws.proofs.Latest.{newest-found}
 pub use Rattle.sched_laws.proofs.Shaped.{AllPass}
-pub use Rattle.sched_laws.proofs.Sums.{free-whole, left-nodes, left-segments, left-steps, reserved-answer}
+pub use Rattle.sched_laws.proofs.Sums.{free-whole, left-nodes, left-steps, reserved-answer}
 pub use Rattle.sched_rules.proofs.Isolation.{headline, right-answer}
 pub use Rattle.sched_rules.proofs.StoreLemmas.{length-stored}
 pub use Rattle.sched_rules.proofs.Tenants.{tenant_in-new, tenant_in-with_tenant}
 pub use Rattle.sched_rules.specs.Changes.{ending_job, on_tenant, with_change, with_job, with_reserve, without_frame, without_under}
 pub use Rattle.sched_rules.specs.Cores.{is_busy_elsewhere, shared_refusal}
 pub use Rattle.sched_rules.specs.Headline.{IsHeadline, IsOneStep}
-pub use Rattle.sched_rules.specs.Lone.{aborted_beside, is_ready_at, is_waiting, no_step}
+pub use Rattle.sched_rules.specs.Lone.{aborted_beside, is_ready_at, is_waiting}
 pub use Rattle.sched_rules.specs.Trees.{is_held_by}
 pub use Rattle.sched_rules.specs.Views.{frame_in_core, job_of, left_in_core, named, newest_ready_in}
 pub use Rattle.sched_rules.specs.declared.refusal.Refusal.TheVariants.{Mismatch, NoFrame, NotComputing, NotHere, NotReady, OutOfMemory}

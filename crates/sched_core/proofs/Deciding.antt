@@ -1,5 +1,5 @@
 -- The tests of a step, read off its definition.
-use Rattle.sched_core.proofs.Common.{◌≡◌, ◌≢◌, ℕ, ◌==◌, Bool, true, false, List, [], ◌∷◌, ◌++◌, Option, Some, None, Result, Ok, Err, refl, sym, ◌∙◌, ap, arith, ◌||◌, not, is_err, is_some, MatchResult, nat_tests, or-false, FrameId, Running, frame_at, has_frame, is_ready, found-serial, Refusal, NoTenant, NoFrame, NotReady, NotHere, NotRunning, NotComputing, NotReturned, Mismatch, NoSteps, BadAct, Busy, Act, StepOf, Take, Steal, Advance, Answer, Finish, Functions, Tenant, left, is_busy_in, is_outside, is_root, has_child, Outcome, unless, lone, refusal_in, is_ready_at, is_run_by, is_computed_by, is_returned, taken_by, finished, no_step, act_by_sight, act_tests, advanced, applies, is_spendable, CoreState, tenant_in, is_busy_elsewhere, meets_busy, unless_busy, shared_refusal, Seen, is_busy_among, AreAfter, AreTenantsRising, frames_in_core, sight_of, words_under, IsSeen, IsRunning, missing_in, missing, F, cases_Bool, inl, inr}
+use Rattle.sched_core.proofs.Common.{[], ◌≡◌, ◌≢◌, ℕ, ◌==◌, Bool, true, false, List, ◌∷◌, ◌++◌, Option, Some, None, Result, Ok, Err, refl, sym, ◌∙◌, ap, arith, ◌||◌, not, is_err, is_some, MatchResult, nat_tests, or-false, FrameId, Running, frame_at, has_frame, is_ready, found-serial, Refusal, NoTenant, NoFrame, NotReady, NotHere, NotRunning, NotComputing, NotReturned, Mismatch, NoSteps, BadAct, Busy, Act, StepOf, Take, Steal, Advance, Answer, Finish, Functions, Tenant, left, is_busy_in, is_outside, is_root, has_child, Outcome, unless, lone, refusal_in, is_ready_at, is_run_by, is_computed_by, is_returned, taken_by, finished, act_tests, is_spendable, CoreState, tenant_in, is_busy_elsewhere, meets_busy, unless_busy, shared_refusal, Seen, is_busy_among, AreAfter, AreTenantsRising, frames_in_core, sight_of, words_under, IsSeen, IsRunning, missing_in, missing, F}
 use Rattle.frame_table.proofs.TreeLaws.{missing as unfound}
 
 -- a step that names a frame which isn't there is refused, by its tenant's want or its own
@@ -10,7 +10,7 @@ module _ {I : Type 0} (refusal : Refusal) where
   lost-in busy None serial alone nobody nothing is = rw nobody is
   lost-in busy (Some tenant) serial alone nobody nothing is =
       elim (has_frame tenant.frames serial) as (λ b. has_frame tenant.frames serial ≡ b → refusal_in (unless_busy busy (alone (Some tenant))) ≡ Some refusal) [
-        | true ↦ λ there. absurd (let no : None ≡ Some refusal = rw there at is in cc)
+        | true ↦ grind arith
         | false ↦ λ lacks. rw (nothing tenant (unfound tenant.frames serial lacks)) (rw lacks at is)
       ] refl
 
@@ -38,34 +38,20 @@ busy-later : (worker number : ℕ) (entries : List (ℕ × Tenant)) → AreAfter
 busy-later worker number [] after = refl
 busy-later worker number (entry ∷ entries) after = grind (arith, busy-later worker number entries after.1, nat_tests)
 
-or-swap : (own first elsewhere : Bool) → (own || (first || elsewhere)) ≡ (first || (own || elsewhere))
-or-swap own first elsewhere = grind arith
-
 pub some-is : {X : Type 0} (x y : X) → Some x ≡ Some y → x ≡ y
 some-is x y e = cc
 
 pub busy-among : (worker number : ℕ) (entries : List (ℕ × Tenant)) (tenant : Tenant) → AreTenantsRising entries → tenant_in entries number ≡ Some tenant →
     (is_busy_in worker tenant.frames || is_busy_elsewhere worker number entries) ≡ is_busy_among worker entries
 busy-among worker number [] tenant rising is = absurd cc
-busy-among worker number (entry ∷ entries) tenant rising is = elim (cases_Bool (entry.0 == number)) [
-  | inl same ↦ grind (arith, some-is, nat_tests, busy-later)
-  | inr other ↦ (let rest = busy-among worker number entries tenant rising.1 (rw other at is) in
-      let first = is_busy_in worker entry.1.frames in
-      rw other (or-swap (is_busy_in worker tenant.frames) first (is_busy_elsewhere worker number entries) ∙ ap (λ b. first || b) rest))
-]
+busy-among worker number (entry ∷ entries) tenant rising is = grind (arith, some-is, busy-later, busy-among worker number entries tenant rising.1)
 
 -- the tests with the worker's business anywhere as the last one
-pub busy-anywhere : {I : Type 0} (tests : List (Bool × Refusal)) (shared : CoreState) (worker number : ℕ) (tenant : Tenant) (effect : Outcome I) →
+pub busy-anywhere : {I : Type 0} (tests : List (Bool × Refusal)) (shared : CoreState) (worker number : ℕ) {tenant : Tenant} (effect : Outcome I) →
     AreTenantsRising shared.tenants → tenant_in shared.tenants number ≡ Some tenant →
     refusal_in (unless (tests ++ (is_busy_among worker shared.tenants, Busy) ∷ []) (tt {0}))
     ≡ refusal_in (unless_busy (is_busy_elsewhere worker number shared.tenants) (unless (tests ++ (is_busy_in worker tenant.frames, Busy) ∷ []) effect))
-busy-anywhere tests shared worker number tenant effect rising is = grind (arith, busy-last, busy-among)
-
--- the refusal of tests is that of their effect's want
-pub no-effect : {X : Type 0} (tests : List (Bool × Refusal)) (effect : X) → refusal_in (unless tests (tt {0})) ≡ refusal_in (unless tests effect)
-no-effect [] effect = refl
-no-effect ((true, refusal) ∷ tests) effect = refl
-no-effect ((false, refusal) ∷ tests) effect = no-effect tests effect
+busy-anywhere tests shared worker number effect rising is = grind (arith, busy-last, busy-among)
 
 -- and where no other tenant matters
 pub not-elsewhere : {I : Type 0} (answer : Result (Outcome I) Refusal) → refusal_in (unless_busy false answer) ≡ refusal_in answer
@@ -86,7 +72,7 @@ module _ {I A : Type 0} (functions : Functions I A) {shared : CoreState} (worker
   take-decided =
       let here = not (is_ready_at worker frame.state) in
       let tests : List (Bool × Refusal) = (not (is_ready frame.state), NotReady) ∷ (here, NotHere) ∷ ((left tenant).steps == 0, NoSteps) ∷ [] in
-      rw (is.state, is.left, is.owner, is.found) (busy-anywhere {I = I} tests shared worker name.tenant tenant (taken_by tenant worker frame) rising is.owner)
+      rw (is.state, is.left, is.owner, is.found) (busy-anywhere {I = I} tests shared worker name.tenant (taken_by tenant worker frame) rising is.owner)
 
   -- Steal
   pub steal-decided : (from : ℕ) → refusal_in (unless ((not (is_ready seen.state), NotReady) ∷ (not (is_ready_at from seen.state) || (from == worker), NotHere)
@@ -94,20 +80,14 @@ module _ {I A : Type 0} (functions : Functions I A) {shared : CoreState} (worker
   steal-decided from =
       let here = not (is_ready_at from frame.state) || (from == worker) in
       let tests : List (Bool × Refusal) = (not (is_ready frame.state), NotReady) ∷ (here, NotHere) ∷ ((left tenant).steps == 0, NoSteps) ∷ [] in
-      rw (is.state, is.left, is.owner, is.found) (busy-anywhere {I = I} tests shared worker name.tenant tenant (taken_by tenant worker frame) rising is.owner)
+      rw (is.state, is.left, is.owner, is.found) (busy-anywhere {I = I} tests shared worker name.tenant (taken_by tenant worker frame) rising is.owner)
 
   -- Finish
   pub finish-decided : refusal_in (unless ((not (is_returned seen.state) || not (is_root frame.path), NotReturned) ∷ (seen.left.steps == 0, NoSteps)
       ∷ (is_busy_among worker shared.tenants, Busy) ∷ []) (tt {0})) ≡ shared_refusal functions shared (Finish worker name)
   finish-decided =
       let tests : List (Bool × Refusal) = (not (is_returned frame.state) || not (is_root frame.path), NotReturned) ∷ ((left tenant).steps == 0, NoSteps) ∷ [] in
-      rw (is.state, is.left, is.owner, is.found) (busy-anywhere {I = I} tests shared worker name.tenant tenant (finished tenant frame) rising is.owner)
-
-  -- by its tests, whichever way they were made
-  pub finish-told : (unfinished busy : Bool) (told : Result (Unit {0}) Refusal) → unfinished ≡ (not (is_returned seen.state) || not (is_root frame.path)) →
-      busy ≡ is_busy_among worker shared.tenants → told ≡ unless ((unfinished, NotReturned) ∷ (seen.left.steps == 0, NoSteps) ∷ (busy, Busy) ∷ []) (tt {0}) →
-      refusal_in told ≡ shared_refusal functions shared (Finish worker name)
-  finish-told unfinished busy told u b same = grind (arith, finish-decided)
+      rw (is.state, is.left, is.owner, is.found) (busy-anywhere {I = I} tests shared worker name.tenant (finished tenant frame) rising is.owner)
 
 -- Advance
 module _ {I A : Type 0} (functions : Functions I A) {shared : CoreState} (worker : ℕ) {name : FrameId} {tenant : Tenant} {frame : F} {seen : Seen}
@@ -115,22 +95,10 @@ module _ {I A : Type 0} (functions : Functions I A) {shared : CoreState} (worker
   pub advance-decided : (act : Act) → act ≡ functions.next (sight_of shared name) →
       refusal_in (unless ((not (is_run_by worker seen.state), NotRunning) ∷ (seen.left.steps == 0, NoSteps) ∷ act_tests tenant frame act) (tt {0}))
       ≡ shared_refusal functions shared (Advance worker name)
-  advance-decided act same =
-      let next = act_by_sight functions tenant frame in
-      rw (same, is.state, is.left, is.owner, is.found)
-      (no-effect ((not (is_run_by worker frame.state), NotRunning) ∷ no_step tenant ∷ act_tests tenant frame next)
-      (advanced functions tenant worker name frame next) ∙ sym (not-elsewhere _))
-
-  -- Answer
-  pub answer-decided : (answer : A) →
-      refusal_in (unless ((not (is_computed_by worker seen.state), NotComputing)
-      ∷ (not (functions.same (functions.asked answer) (functions.input (words_under shared name))), Mismatch) ∷ (seen.left.steps == 0, NoSteps)
-      ∷ (is_outside (functions.accept (words_under shared name) answer) (words_under shared name), BadAct) ∷ []) (tt {0}))
-      ≡ shared_refusal functions shared (Answer worker name answer)
-  answer-decided answer = grind (arith, no-effect, not-elsewhere)
+  advance-decided act same = grind (arith, not-elsewhere)
 
 -- a refusal that is passed on
-module _ {X : Type 0} (answer : Result X Refusal) (told refusal : Refusal) (is : answer ≡ Err told) (same : told ≡ refusal) where
+module _ {X : Type 0} {answer : Result X Refusal} {told refusal : Refusal} (is : answer ≡ Err told) (same : told ≡ refusal) where
   pub passed-on : (right : Option Refusal) → right ≡ Some refusal → refusal_in answer ≡ right
   passed-on right e = rw (is, same, e) refl
 
@@ -144,11 +112,11 @@ module _ {shared : CoreState} {name : FrameId} {tenant : Tenant} {frame : F} {se
   seen-words = rw (is.owner, is.found) refl
 
   pub seen-child : has_child tenant.frames frame.serial ≡ has_child (frames_in_core shared name.tenant) name.serial
-  seen-child = rw (found-serial tenant.frames name.serial frame is.found, is.owner) refl
+  seen-child = grind (arith, found-serial)
 
 -- Advance, where the worker runs the frame and a step is left, by the tests of the act
-module _ {I A : Type 0} (functions : Functions I A) (shared : CoreState) (worker : ℕ) (name : FrameId) (tenant : Tenant) (frame : F) (seen : Seen)
-    (act : Act) (answer : Result (Unit {0}) Refusal) (same : act ≡ functions.next (sight_of shared name))
+module _ {I A : Type 0} (functions : Functions I A) {shared : CoreState} (worker : ℕ) {name : FrameId} {tenant : Tenant} {frame : F} {seen : Seen}
+    {act : Act} {answer : Result (Unit {0}) Refusal} (same : act ≡ functions.next (sight_of shared name))
     (told : answer ≡ unless (act_tests tenant frame act) (tt {0})) where
   pub advance-goes : (runs : Bool) → IsSeen shared name tenant frame seen → runs ≡ is_run_by worker seen.state →
       Ok (tt {0}) ≡ unless ((not runs, NotRunning) ∷ (seen.left.steps == 0, NoSteps) ∷ []) (tt {0}) →
@@ -160,41 +128,28 @@ module _ {I A : Type 0} (functions : Functions I A) (shared : CoreState) (worker
       ∙ advance-decided functions worker is act same
 
   pub advance-told : IsRunning shared name worker tenant frame seen → refusal_in answer ≡ shared_refusal functions shared (Advance worker name)
-  advance-told is =
-      advance-goes true is.seen_so (sym is.runs) (rw is.some refl)
+  advance-told is = grind (arith, nat_tests, advance-goes)
 
 -- a frame with no parent is a root
 pub root-is : (top : Bool) (seen : Seen) (path : List ℕ) → is_some seen.parent ≡ not top → is_some seen.parent ≡ not (is_root path) → top ≡ is_root path
 root-is top seen path is root = grind arith
 
 -- Answer, by its tests
-pub answer-told : {I A : Type 0} (functions : Functions I A) (shared : CoreState) (worker : ℕ) (name : FrameId) (answer : A) (tenant : Tenant)
-    (frame : F) (seen : Seen) (computes other outside : Bool) (told : Result (Unit {0}) Refusal) →
+pub answer-told : {I A : Type 0} (functions : Functions I A) {shared : CoreState} (worker : ℕ) {name : FrameId} (answer : A) {tenant : Tenant}
+    {frame : F} {seen : Seen} {computes other outside : Bool} {told : Result (Unit {0}) Refusal} →
     IsSeen shared name tenant frame seen → computes ≡ is_computed_by worker seen.state →
     other ≡ not (functions.same (functions.asked answer) (functions.input (words_under shared name))) →
     outside ≡ is_outside (functions.accept (words_under shared name) answer) (words_under shared name) →
     told ≡ unless ((not computes, NotComputing) ∷ (other, Mismatch) ∷ (seen.left.steps == 0, NoSteps) ∷ (outside, BadAct) ∷ []) (tt {0}) →
     refusal_in told ≡ shared_refusal functions shared (Answer worker name answer)
-answer-told functions shared worker name answer tenant frame seen computes other outside told is c o u same = grind (arith, answer-decided)
-
--- a test that applies is a refusal
-applies-is : (tests : List (Bool × Refusal)) → is_err (unless tests (tt {0})) ≡ applies tests
-applies-is [] = refl
-applies-is ((true, refusal) ∷ tests) = refl
-applies-is ((false, refusal) ∷ tests) = applies-is tests
+answer-told functions worker answer is c o u same = grind (arith, not-elsewhere)
 
 -- the job of a frame that runs may be given up where its next act can't be done
-pub spend-running : {I A : Type 0} (functions : Functions I A) (shared : CoreState) (name : FrameId) (tenant : Tenant) (frame : F) (seen : Seen)
-    (act : Act) (holder : ℕ) (answer : Result (Unit {0}) Refusal) → IsSeen shared name tenant frame seen → seen.state ≡ Running holder →
+pub spend-running : {I A : Type 0} (functions : Functions I A) {shared : CoreState} {name : FrameId} {tenant : Tenant} {frame : F} {seen : Seen}
+    (act : Act) {holder : ℕ} {answer : Result (Unit {0}) Refusal} → IsSeen shared name tenant frame seen → seen.state ≡ Running holder →
     seen.left.steps ≢ 0 → act ≡ functions.next (sight_of shared name) →
     answer ≡ unless (act_tests tenant frame act) (tt {0}) → is_err answer ≡ is_spendable functions tenant frame
-spend-running functions shared name tenant frame seen act holder answer is runs some same told =
-    let steps : ((left tenant).steps == 0) ≡ false = rw is.left at (none-left seen.left.steps some) in
-    let next : act ≡ act_by_sight functions tenant frame = rw (is.owner, is.found) at same in
-    rw (steps, sym is.state ∙ runs, told, next) (applies-is (act_tests tenant frame (act_by_sight functions tenant frame)) ∙ sym (or-false _))
-  where
-    none-left : (n : ℕ) → n ≢ 0 → (n == 0) ≡ false
-    none-left n some = grind (arith, nat_tests)
+spend-running functions {tenant} {frame} {seen} act is runs some same told = grind (arith, or-false)
 
 -- what is seen of a frame
 pub ruleset seen_so = (seen-words, seen-child)

@@ -1,7 +1,7 @@
 -- A job that ends, with all its frames.
-use Rattle.sched_core.proofs.Common.{◌≡◌, ℕ, false, List, [], ◌∷◌, Option, Some, None, Ok, refl, arith, IsSome, not, FrameId, frame_at, root_of, IsTree, aborted-leaf, Live, Cancelled as CancelledJob, NotSpent, Finish, Spend, Cancel, Functions, Tenant, has_child, job_at, ended, spent, finished, finish_tests, is_spendable, on_tenant, without_under, named, job_of, CoreState, tenant_in, step_result, shared_refusal, AreShaped, shaped-in, live-root, root-above, frames_in_core, words_under, F, Bool, Refusal}
+use Rattle.sched_core.proofs.Common.{[], ◌≡◌, ℕ, false, ◌∷◌, Some, None, Ok, refl, arith, IsSome, not, FrameId, frame_at, root_of, IsTree, aborted-leaf, Live, Cancelled as CancelledJob, NotSpent, Finish, Spend, Cancel, Functions, Tenant, has_child, job_at, ended, spent, finished, finish_tests, is_spendable, on_tenant, without_under, named, job_of, CoreState, tenant_in, step_result, shared_refusal, AreShaped, shaped-in, live-root, root-above, frames_in_core, words_under, F}
 use Rattle.sched_rules.specs.declared.step.DidOf.TheVariants.{Cancelled}
-use Rattle.sched_core.proofs.TakenStep.{IsWith, IsGoing, going, with_change-there}
+use Rattle.sched_core.proofs.TakenStep.{IsWith, IsGoing, with_change-there}
 use Rattle.sched_laws.proofs.FitSteps.{root-found}
 
 -- the tenant and the frame of a name
@@ -11,28 +11,16 @@ pub record IsNamed (shared : CoreState) (name : FrameId) : Type 0 where
   pub owner : tenant_in shared.tenants name.tenant ≡ Some tenant
   pub found : frame_at tenant.frames name.serial ≡ Some frame
 
-pub named-there : (shared : CoreState) (name : FrameId) → IsSome (named shared name) → IsNamed shared name
-named-there shared name some = by-owner (tenant_in shared.tenants name.tenant) refl
-  where
-    by-frame : (tenant : Tenant) → tenant_in shared.tenants name.tenant ≡ Some tenant → (found : Option F) →
-        frame_at tenant.frames name.serial ≡ found → IsNamed shared name
-    by-frame tenant owner None lost = absurd (let no = rw (owner, lost) at some in cc)
-    by-frame tenant owner (Some frame) found = record { tenant = tenant; frame = frame; owner = owner; found = found }
-
-    by-owner : (owner : Option Tenant) → tenant_in shared.tenants name.tenant ≡ owner → IsNamed shared name
-    by-owner None lost = absurd (let no = rw lost at some in cc)
-    by-owner (Some tenant) owner = by-frame tenant owner (frame_at tenant.frames name.serial) refl
+pub named-there : {shared : CoreState} {name : FrameId} → IsSome (named shared name) → IsNamed shared name
+named-there {shared} {name} some = grind arith
 
 -- a frame of the tenant as it is now
-module _ (name : FrameId) (tenant : Tenant) (frame : F) (found : frame_at tenant.frames name.serial ≡ Some frame) where
-  pub with-named : (before now : CoreState) → IsWith before name.tenant tenant now → IsSome (named now name)
-  with-named before now is = let there = is.there in rw (there, found) refl
-
-  pub found-named : (shared : CoreState) → tenant_in shared.tenants name.tenant ≡ Some tenant → IsSome (named shared name)
-  found-named shared owner = rw (owner, found) refl
+module _ (name : FrameId) (tenant : Tenant) {frame : F} (found : frame_at tenant.frames name.serial ≡ Some frame) where
+  pub with-named : {before now : CoreState} → IsWith before name.tenant tenant now → IsSome (named now name)
+  with-named is = grind arith
 
 -- the tenant is there
-module _ (before now : CoreState) (number : ℕ) (tenant : Tenant) where
+module _ {before now : CoreState} {number : ℕ} (tenant : Tenant) where
   pub with-there : IsWith before number tenant now → IsSome (tenant_in now.tenants number)
   with-there is = let there = is.there in rw there refl
 
@@ -55,41 +43,31 @@ pub record IsLive {I A : Type 0} (functions : Functions I A) (shared : CoreState
 
 module _ (shared : CoreState) (number job root : ℕ) where
   pub cancel-going : {I A : Type 0} (functions : Functions I A) → job_of shared number job ≡ Some (Live root) → IsLive functions shared number job root
-  cancel-going functions is = by-owner (tenant_in shared.tenants number) refl
-    where
-      by-owner : (owner : Option Tenant) → tenant_in shared.tenants number ≡ owner → IsLive functions shared number job root
-      by-owner None lost = absurd (let no = rw lost at is in cc)
-      by-owner (Some tenant) owner =
-          let at : job_at tenant.jobs job ≡ Some (Live root) = rw owner at is in
-          record { tenant = tenant; owner = owner; job_is = at; among = rw (owner, at) refl }
+  cancel-going functions is = grind arith
 
   -- its root is there
   pub cancel-root : (tenant : Tenant) → AreShaped shared.tenants → tenant_in shared.tenants number ≡ Some tenant → job_at tenant.jobs job ≡ Some (Live root) →
       IsSome (named shared (record { tenant = number; serial = root }))
   cancel-root tenant shaped owner is =
-      let found = root-found tenant.frames root (live-root tenant job root (shaped-in number shared.tenants tenant shaped owner) is) in
-      found-named (record { tenant = number; serial = root }) tenant found.0 found.1 shared owner
+      let found = root-found tenant.frames root (live-root tenant job root (shaped-in number shared.tenants tenant shaped owner) is) in grind arith
 
 -- Finish and Spend
 module _ {I A : Type 0} (functions : Functions I A) (shared : CoreState) (name : FrameId) where
   pub finish-going : (worker : ℕ) → None ≡ shared_refusal functions shared (Finish worker name) →
       IsGoing functions shared (Finish worker name) name (λ tenant. finish_tests tenant worker) finished
-  finish-going worker none = going functions shared (Finish worker name) name _ (λ tenant. finish_tests tenant worker) finished refl refl (λ tenant. refl) none
+  finish-going worker none = grind arith
 
   pub spend-going : None ≡ shared_refusal functions shared (Spend name) →
       IsGoing functions shared (Spend name) name (λ tenant frame. (not (is_spendable functions tenant frame), NotSpent) ∷ []) spent
-  spend-going none =
-      let tests : Tenant → F → List (Bool × Refusal) = λ tenant frame. (not (is_spendable functions tenant frame), NotSpent) ∷ [] in
-      going functions shared (Spend name) name false tests spent refl refl (λ tenant. refl) none
+  spend-going none = grind arith
 
 -- the root above a frame is there
-module _ (shared : CoreState) (name : FrameId) (tenant : Tenant) (frame : F) (owner : tenant_in shared.tenants name.tenant ≡ Some tenant)
+module _ (shared : CoreState) (name : FrameId) {tenant : Tenant} {frame : F} (owner : tenant_in shared.tenants name.tenant ≡ Some tenant)
     (found : frame_at tenant.frames name.serial ≡ Some frame) where
   pub spend-root : AreShaped shared.tenants → IsSome (named shared (record { tenant = name.tenant; serial = root_of frame.path }))
   spend-root shaped =
       let shape = shaped-in name.tenant shared.tenants tenant shaped owner in
-      let root = root-found tenant.frames (root_of frame.path) (root-above tenant name.serial frame shape found) in
-      found-named (record { tenant = name.tenant; serial = root_of frame.path }) tenant root.0 root.1 shared owner
+      let root = root-found tenant.frames (root_of frame.path) (root-above tenant name.serial frame shape found) in grind arith
 
   -- the words of a frame
   pub named-words : words_under shared name ≡ frame.value

@@ -1,5 +1,5 @@
 -- What is seen of a core whose frames all fit.
-use Rattle.sched_core.proofs.Common.{◌≡◌, ℕ, Bool, true, [], ◌∷◌, Some, Result, refl, arith, is_ok, Quota, FrameId, frame_at, IsTree, IsUnder, IsTop, tree-induction, Refusal, StepOf, DidOf, Functions, Tree, Tenant, sight, Fitting, Rooting, mark_of_state, AllFit, EveryFrameFits, CoreState, shared_by_nobody, IsOneStep, RootFits, origins_after, F, kids, fits-holds, IsLawful, sight-top, sight-under, FitsSomehow, sight_of, words_under, Seen, IsKeptFitting, IsFitting, IsSeen, IsReturnedUnder}
+use Rattle.sched_core.proofs.Common.{[], ◌≡◌, ℕ, Bool, true, ◌∷◌, Some, Result, refl, arith, is_ok, Quota, FrameId, frame_at, IsTree, IsUnder, IsTop, tree-induction, Refusal, StepOf, DidOf, Functions, Tree, Tenant, sight, Fitting, Rooting, mark_of_state, AllFit, EveryFrameFits, CoreState, shared_by_nobody, IsOneStep, RootFits, origins_after, F, kids, fits-holds, IsLawful, sight-top, sight-under, FitsSomehow, sight_of, words_under, Seen, IsKeptFitting, IsFitting, IsSeen, IsReturnedUnder}
 use Rattle.sched_core.proofs.Parents.{parent-of}
 use Rattle.sched_core.proofs.Stepping.{kept-still, fits-still}
 
@@ -28,19 +28,17 @@ module _ (fits : Fitting) (rooted : Rooting) {shared : CoreState} {name : FrameI
   tenant-fits = (core.1.tenants name.tenant tenant is.owner).frames
 
   pub own-fits : AllFit fits (words_under shared name ∷ [])
-  own-fits =
-      rw (is.owner, is.found) (found-fits fits tenant.frames tenant-fits name.serial frame is.found, tt)
+  own-fits = grind (arith, found-fits, tenant-fits)
 
   pub seen-fits : AllFit fits (sight_of shared name)
-  seen-fits =
-      rw (is.owner, is.found) (sight-fits fits tenant.frames tenant-fits name.serial frame is.tree is.found)
+  seen-fits = grind (arith, sight-fits, tenant-fits)
 
 -- and its parent
 module _ (fits : Fitting) (rooted : Rooting) where
-  pub parent-fits : (shared : CoreState) (name above : FrameId) (tenant : Tenant) (frame : F) (seen : Seen) → IsFitting fits rooted shared →
+  pub parent-fits : {shared : CoreState} {name above : FrameId} {tenant : Tenant} {frame : F} {seen : Seen} → IsFitting fits rooted shared →
       IsReturnedUnder shared name above tenant frame seen → AllFit fits (words_under shared above ∷ words_under shared name ∷ [])
-  parent-fits shared name above tenant frame seen core is =
-      let p = parent-of shared name tenant frame seen above is.seen_so is.above in
+  parent-fits {shared} {name} {above} {tenant} {frame} {seen} core is =
+      let p = parent-of is.seen_so is.above in
       let fit = found-fits fits tenant.frames (tenant-fits fits rooted core is.seen_so) p.serial p.parent p.found in
       (rw (p.is, is.seen_so.owner, p.found) fit, own-fits fits rooted core is.seen_so)
 
@@ -48,7 +46,7 @@ module _ (fits : Fitting) (rooted : Rooting) where
   pub nobody-kept : (totals : Quota) → IsKeptFitting fits rooted true (shared_by_nobody totals)
   nobody-kept totals =
       record {
-        kept = record { shaped = tt; known = tt; within = record { segments = omega arith; nodes = omega arith } };
+        kept = grind arith;
         fit = λ so. ((λ number. []), record { tenants = λ number tenant is. absurd cc; unused = λ number above. refl });
       }
 
@@ -58,7 +56,7 @@ module _ {I A : Type 0} (functions : Functions I A) (fits : Fitting) (rooted : R
   pub kept-fitting : IsLawful functions fits rooted → IsKeptFitting fits rooted was before → IsOneStep functions before step answer after →
       (is ≡ true → was ≡ true) → (is ≡ true → is_ok answer ≡ true → RootFits fits rooted step) → IsKeptFitting fits rooted is after
   kept-fitting lawful core one earlier root = record {
-    kept = kept-still functions before step after answer core.kept one;
+    kept = kept-still answer core.kept one;
     fit = λ so. (let origins = core.fit (earlier so) in
-        (origins_after origins.0 step answer, fits-still before lawful step answer after core.kept one origins.0 origins.1 (root so)));
+        (origins_after origins.0 step answer, fits-still lawful core.kept one origins.0 origins.1 (root so)));
   }

@@ -1,5 +1,5 @@
 -- A returned frame is taken in by its parent.
-use Rattle.sched_core.proofs.Common.{◌≡◌, if◌then◌else◌, ◌≢◌, ℕ, ◌<◌, ◌==◌, Bool, true, false, List, [], ◌∷◌, Option, Some, None, Result, Ok, Err, refl, sym, ◌∙◌, ap, arith, ◌||◌, ◌&&◌, not, IsSome, nat_tests, eq-eqb, FrameId, State, Ready, Returned, frame_at, name_of, parent_of, goes_under, aborted, frames_without, IsTree, is_child_of, Each, tree-rising, found-each, found-serial, there-found, under-there, under-below, child-under-parent, aborted-itself, frame_at-other-without, Refusal, NoTenant, NoFrame, NotReturned, BadAct, Busy, InletAct, Inlet, TakenIn, Functions, Tenant, Tree, words_in, is_outside, has_child, stored, Outcome, unless, lone, refusal_in, inlet_tests, taken_in, staying, aborted_beside, does_wait, is_waiting, is_returned, holding, counted, in_state, on_tenant, named, CoreState, tenant_in, is_busy_elsewhere, unless_busy, step_result, shared_refusal, AreShaped, shaped-in, returned-leaf, is_busy_among, AreTenantsRising, words_under, frames_in_core, TenantHasStepLeft, Seen, MayBeTakenIn, IsReturnedUnder, FollowsResult, staying_with, AllPass, F, not-false, cases_Bool, inl, inr}
+use Rattle.sched_core.proofs.Common.{[], ◌≡◌, if◌then◌else◌, ◌≢◌, ℕ, ◌<◌, ◌==◌, Bool, true, false, List, ◌∷◌, Some, None, Ok, refl, sym, ◌∙◌, arith, ◌||◌, ◌&&◌, not, IsSome, eq-eqb, FrameId, State, Ready, frame_at, name_of, parent_of, goes_under, aborted, frames_without, IsTree, Each, tree-rising, found-each, found-serial, there-found, under-there, under-below, child-under-parent, aborted-itself, frame_at-other-without, BadAct, Busy, InletAct, Inlet, TakenIn, Functions, Tenant, Tree, words_in, is_outside, has_child, stored, unless, inlet_tests, taken_in, staying, aborted_beside, does_wait, is_waiting, holding, counted, in_state, on_tenant, named, CoreState, tenant_in, step_result, shared_refusal, AreShaped, shaped-in, returned-leaf, is_busy_among, AreTenantsRising, words_under, frames_in_core, TenantHasStepLeft, Seen, MayBeTakenIn, IsReturnedUnder, FollowsResult, staying_with, AllPass, F}
 use Rattle.sched_core.proofs.Deciding.{some-is}
 use Rattle.sched_core.proofs.Parents.{inlet-told}
 use Rattle.sched_core.proofs.TakenStep.{all-pass, IsWith, begins, then-changed, step-left}
@@ -17,39 +17,28 @@ pub record IsInlet {I A : Type 0} (functions : Functions I A) (shared : CoreStat
   pub among : step_result functions shared (Inlet worker name)
       ≡ Ok (taken_in tenant worker name parent (functions.inlet (words_in tenant.frames parent) frame.value))
 
-pub inlet-going : {I A : Type 0} (functions : Functions I A) (shared : CoreState) (worker : ℕ) (name : FrameId) →
+-- the frame, and that it has a parent
+record HasParent (shared : CoreState) (name : FrameId) : Type 0 where
+  tenant : Tenant
+  frame : F
+  parent : ℕ
+  owner : tenant_in shared.tenants name.tenant ≡ Some tenant
+  found : frame_at tenant.frames name.serial ≡ Some frame
+  path : parent_of frame.path ≡ Some parent
+
+module _ {I A : Type 0} (functions : Functions I A) (shared : CoreState) (worker : ℕ) (name : FrameId) (none : None ≡ shared_refusal functions shared (Inlet worker name)) where
+  has-parent : HasParent shared name
+  has-parent = grind arith
+
+  inlet-at : (tenant : Tenant) (frame : F) (parent : ℕ) → tenant_in shared.tenants name.tenant ≡ Some tenant → frame_at tenant.frames name.serial ≡ Some frame →
+      parent_of frame.path ≡ Some parent → IsInlet functions shared worker name
+  inlet-at tenant frame parent owner found path = grind (arith, all-pass)
+
+pub inlet-going : {I A : Type 0} {functions : Functions I A} {shared : CoreState} {worker : ℕ} {name : FrameId} →
     None ≡ shared_refusal functions shared (Inlet worker name) → IsInlet functions shared worker name
-inlet-going {I = I} {A = A} functions shared worker name none = by-owner (tenant_in shared.tenants name.tenant) refl
-  where
-    refused : (refusal : Refusal) (alone : Result (Outcome I) Refusal) → alone ≡ Err refusal →
-        None ≡ refusal_in (unless_busy (is_busy_elsewhere worker name.tenant shared.tenants) alone) → ⊥
-    refused refusal alone is right = let wrong : None ≡ Some refusal = rw is at right in cc
-
-    by-parent : (tenant : Tenant) (frame : F) → tenant_in shared.tenants name.tenant ≡ Some tenant → frame_at tenant.frames name.serial ≡ Some frame →
-        (parent : Option ℕ) → parent_of frame.path ≡ parent → IsInlet functions shared worker name
-    by-parent tenant frame owner found None path =
-        absurd (refused NotReturned (lone functions (tenant_in shared.tenants name.tenant) (Inlet worker name)) (rw (owner, found, path) refl) none)
-    by-parent tenant frame owner found (Some parent) path =
-        let act = functions.inlet (words_in tenant.frames parent) frame.value in
-        let effect : Outcome I = taken_in tenant worker name parent act in
-        let tests = inlet_tests tenant worker frame parent act in
-        let is : lone functions (tenant_in shared.tenants name.tenant) (Inlet worker name) ≡ unless tests effect = rw (owner, found, path) refl in
-        let passed = all-pass {I = I} (is_busy_elsewhere worker name.tenant shared.tenants) tests effect (sym (rw is at none)) in
-        record { tenant = tenant; frame = frame; parent = parent; owner = owner; found = found; path = path; passes = passed.1; among = rw is passed.0 }
-
-    by-frame : (tenant : Tenant) → tenant_in shared.tenants name.tenant ≡ Some tenant → (found : Option F) → frame_at tenant.frames name.serial ≡ found →
-        IsInlet functions shared worker name
-    by-frame tenant owner None lost =
-        absurd (refused NoFrame (lone functions (tenant_in shared.tenants name.tenant) (Inlet worker name)) (rw (owner, lost) refl) none)
-    by-frame tenant owner (Some frame) found = by-parent tenant frame owner found (parent_of frame.path) refl
-
-    by-owner : (owner : Option Tenant) → tenant_in shared.tenants name.tenant ≡ owner → IsInlet functions shared worker name
-    by-owner None lost = absurd (refused NoTenant (lone functions (tenant_in shared.tenants name.tenant) (Inlet worker name)) (rw lost refl) none)
-    by-owner (Some tenant) owner = by-frame tenant owner (frame_at tenant.frames name.serial) refl
-
--- the parent that is named
-pub parent-is : (number parent : ℕ) (above : FrameId) → name_of number (Some parent) ≡ Some above → above ≡ record { tenant = number; serial = parent }
-parent-is number parent above is = cc
+inlet-going {functions = functions} {shared = shared} {worker = worker} {name = name} none =
+    let h = has-parent functions shared worker name none in
+    inlet-at functions shared worker name none h.tenant h.frame h.parent h.owner h.found h.path
 
 -- an inlet that may be done: no test applies, and this comes of it
 pub record IsTakingIn {I A : Type 0} (functions : Functions I A) (shared : CoreState) (worker : ℕ) (name above : FrameId) (tenant : Tenant)
@@ -62,28 +51,25 @@ pub record IsTakingIn {I A : Type 0} (functions : Functions I A) (shared : CoreS
   pub passes : AllPass (inlet_tests tenant worker frame parent act)
   pub among : step_result functions shared (Inlet worker name) ≡ Ok (taken_in tenant worker name parent act)
 
-module _ {I A : Type 0} (functions : Functions I A) (shared : CoreState) (worker : ℕ) (name above : FrameId) (tenant : Tenant) (frame : F)
-    (act : InletAct) (does : act ≡ functions.inlet (words_under shared above) (words_under shared name)) where
+module _ {I A : Type 0} (functions : Functions I A) {shared : CoreState} {worker : ℕ} {name above : FrameId} {tenant : Tenant} {frame : F}
+    {act : InletAct} (does : act ≡ functions.inlet (words_under shared above) (words_under shared name)) where
   takes-in-as : (t : IsInlet functions shared worker name) → tenant_in shared.tenants name.tenant ≡ Some tenant →
       frame_at tenant.frames name.serial ≡ Some frame → name_of name.tenant (parent_of frame.path) ≡ Some above →
       IsTakingIn functions shared worker name above tenant frame act
-  takes-in-as t owner found names = grind (arith, parent-is, some-is)
+  takes-in-as t owner found names = grind (arith, some-is)
 
-  pub takes-in : (seen : Seen) → IsReturnedUnder shared name above tenant frame seen → AreTenantsRising shared.tenants →
+  pub takes-in : {seen : Seen} → IsReturnedUnder shared name above tenant frame seen → AreTenantsRising shared.tenants →
       Ok (tt {0}) ≡ unless ((is_outside act.stores (words_under shared above), BadAct) ∷ (is_busy_among worker shared.tenants, Busy) ∷ []) (tt {0}) →
       IsTakingIn functions shared worker name above tenant frame act
-  takes-in seen is rising told =
-      let t = inlet-going functions shared worker name (inlet-told functions shared worker name tenant frame seen above act _ rising is does told) in
+  takes-in {seen} is rising told =
+      let t = inlet-going (inlet-told functions worker rising is does told) in
       takes-in-as t is.seen_so.owner is.seen_so.found (sym is.seen_so.parent ∙ is.above)
-
-has-returned : (state : State) → is_returned state ≡ true → state ≡ Returned
-has-returned state is = grind arith
 
 -- it may be taken in
 pub may-be-taken-in : {I A : Type 0} {functions : Functions I A} {shared : CoreState} {worker : ℕ} {name above : FrameId} {tenant : Tenant}
     {frame : F} {act : InletAct} → IsTakingIn functions shared worker name above tenant frame act → AreShaped shared.tenants →
     MayBeTakenIn shared name above tenant frame
-may-be-taken-in {shared = shared} {name = name} {tenant = tenant} {frame = frame} t shaped = grind (arith, shaped-in, has-returned, not-false, returned-leaf)
+may-be-taken-in {shared = shared} {name = name} {tenant = tenant} {frame = frame} t shaped = grind (arith, shaped-in, returned-leaf)
 
 -- the parent stays
 other : (p c : ℕ) → p < c → c ≢ p
@@ -95,7 +81,7 @@ module _ (frames : List F) (child parent : ℕ) (frame : F) (tree : IsTree frame
   parent-found = there-found frames parent (under-there frames child parent frame tree found path)
 
   pub stays-beside : (above : F) → frame_at frames parent ≡ Some above → frame_at (frames_without child frames) parent ≡ Some above
-  stays-beside above at = grind (arith, frame_at-other-without, other, under-below)
+  stays-beside above at = grind (arith, frame_at-other-without, under-below)
 
   pub parent-stays : (abort : Bool) (above : F) → frame_at frames parent ≡ Some above →
       frame_at (staying frames child parent abort) parent ≡ Some above
@@ -111,22 +97,22 @@ pub record IsTakenOut {I A : Type 0} (functions : Functions I A) (shared : CoreS
   pub found : frame_at tenant.frames takes.parent ≡ Some parent
   pub stays : frame_at (staying tenant.frames name.serial takes.parent act.abort) takes.parent ≡ Some parent
 
-pub takes-out : {I A : Type 0} (functions : Functions I A) (shared : CoreState) (worker : ℕ) (name above : FrameId) (tenant : Tenant) (frame : F)
-    (seen : Seen) (act : InletAct) (now : CoreState) → AreShaped shared.tenants → IsReturnedUnder shared name above tenant frame seen →
+pub takes-out : {I A : Type 0} {functions : Functions I A} {shared : CoreState} {worker : ℕ} {name above : FrameId} {tenant : Tenant} {frame : F}
+    {seen : Seen} {act : InletAct} {now : CoreState} → AreShaped shared.tenants → IsReturnedUnder shared name above tenant frame seen →
     AreTenantsRising shared.tenants → act ≡ functions.inlet (words_under shared above) (words_under shared name) →
     Ok (tt {0}) ≡ unless ((is_outside act.stores (words_under shared above), BadAct) ∷ (is_busy_among worker shared.tenants, Busy) ∷ []) (tt {0}) →
     now ≡ on_tenant name.tenant (staying_with name.serial above.serial act.abort) shared → IsTakenOut functions shared worker name above tenant frame act now
-takes-out functions shared worker name above tenant frame seen act now shaped is rising same told outs =
-    let t = takes-in functions shared worker name above tenant frame act same seen is rising told in
+takes-out {functions} {shared} {name} {tenant} {frame} {act} {now} shaped is rising same told outs =
+    let t = takes-in functions same is rising told in
     let tree = (shaped-in name.tenant shared.tenants tenant shaped t.owner).tree in
     let out : now ≡ on_tenant name.tenant (staying_with name.serial t.parent act.abort) shared = rw t.is at outs in
     let parent = parent-found tenant.frames name.serial t.parent frame tree t.found t.path in
     record {
       takes = t;
-      changed = then-changed _ _ _ _ now (staying_with name.serial t.parent act.abort) (begins name.tenant tenant shared t.owner) out;
+      changed = then-changed (staying_with name.serial t.parent act.abort) (begins name.tenant shared t.owner) out;
       parent = parent.0;
       found = parent.1;
-      stays = parent-stays tenant.frames name.serial t.parent frame tree t.found t.path act.abort parent.0 parent.1;
+      stays = grind (arith, parent-stays);
     }
 
 -- an abort removes the child too
@@ -136,18 +122,11 @@ IsBelow parent child frame = (frame.serial == child) ≡ true → goes_under par
 module _ (parent child : ℕ) where
   dropped : (frames : List F) → Each (IsBelow parent child) frames → aborted parent (frames_without child frames) ≡ aborted parent frames
   dropped [] each = refl
-  dropped (frame ∷ frames) each =
-      let rest = dropped frames each.1 in
-      elim (cases_Bool (frame.serial == child)) [ inl same ↦ (let below = each.0 same in rw (same, below) rest) | inr other ↦ grind arith ]
+  dropped (frame ∷ frames) each = grind (arith, other, dropped frames each.1)
 
   pub aborts-child : (frames : List F) (frame : F) → IsTree frames → frame_at frames child ≡ Some frame →
       parent_of frame.path ≡ Some parent → aborted parent (frames_without child frames) ≡ aborted parent frames
-  aborts-child frames frame tree found path =
-      dropped frames (found-each (IsBelow parent child) frames (tree-rising frames tree) (λ serial x at same.
-      let is : serial ≡ child = grind (arith, nat_tests, found-serial frames serial x at, same) in
-      let at_child : frame_at frames child ≡ Some x = rw (← is) at in
-      let child_path : is_child_of parent x.path ≡ true = rw (some-is x frame (sym at_child ∙ found), path) (eq-eqb parent parent refl) in
-      child-under-parent frames parent child x tree at_child child_path))
+  aborts-child frames frame tree found path = grind (arith, dropped, found-each, tree-rising, found-serial, eq-eqb, child-under-parent)
 
 -- after that the parent's words are stored, the step is counted, and the parent is woken or not
 module _ {I A : Type 0} {functions : Functions I A} {shared : CoreState} {worker : ℕ} {name above : FrameId} {tenant : Tenant} {frame : F}
@@ -162,16 +141,16 @@ module _ {I A : Type 0} {functions : Functions I A} {shared : CoreState} {worker
 
   -- the parent is still there
   pub still-there : IsSome (named out above)
-  still-there = rw (o.takes.is, o.changed.there, o.stays) refl
+  still-there = grind arith
 
   -- and no store is outside it
   pub still-inside : is_outside act.stores (words_under out above) ≡ false
-  still-inside = rw (o.takes.is, o.changed.there, o.stays) (rw o.found at o.takes.passes.1.1.0)
+  still-inside = grind arith
 
   module _ {next : CoreState} (stores : next ≡ on_tenant above.tenant (holding above.serial (stored act.stores (words_under out above))) out) where
     -- the tenant with the stores
     stored-is : IsWith shared name.tenant (holding o.takes.parent words (record tenant { frames = frames })) next
-    stored-is = then-changed _ _ _ out next (holding o.takes.parent words) o.changed (rw (o.takes.is, o.changed.there) at stores)
+    stored-is = then-changed (holding o.takes.parent words) o.changed (rw (o.takes.is, o.changed.there) at stores)
 
     -- a step is left to it
     pub stored-left : TenantHasStepLeft next name.tenant
@@ -180,11 +159,11 @@ module _ {I A : Type 0} {functions : Functions I A} {shared : CoreState} {worker
     module _ {now : CoreState} (counts : now ≡ on_tenant name.tenant counted next) where
       -- and with the step counted
       counted-is : IsWith shared name.tenant (counted (holding o.takes.parent words (record tenant { frames = frames }))) now
-      counted-is = then-changed _ _ _ next now counted stored-is counts
+      counted-is = then-changed counted stored-is counts
 
       -- the parent is still there
       pub counted-there : IsSome (named now above)
-      counted-there = rw (o.takes.is, counted-is.there, held-at o.takes.parent words (record tenant { frames = frames }) o.parent o.stays) refl
+      counted-there = rw (o.takes.is, counted-is.there, held-at o.takes.parent words (record tenant { frames = frames }) o.stays) refl
 
       -- what is answered and left, by whether the parent is woken
       by-waking : (woken : Bool) {gone : ℕ} {after : CoreState} →
@@ -192,10 +171,9 @@ module _ {I A : Type 0} {functions : Functions I A} {shared : CoreState} {worker
           gone ≡ aborted_beside tenant.frames name.serial o.takes.parent act.abort →
           after ≡ (if woken then on_tenant above.tenant (in_state above.serial (Ready worker)) now else now) →
           FollowsResult functions shared (Inlet worker name) (Ok (TakenIn (if woken then Some above else None) gone)) after
-      by-waking false wakes gone stays = record { told = rw (o.takes.among, wakes, gone) refl; left = rw (o.takes.among, wakes) (stays ∙ counted-is.is) }
+      by-waking false wakes gone stays = grind (arith, counted-is)
       by-waking true wakes gone stays =
-          let ready = then-changed _ _ _ now _ (in_state o.takes.parent (Ready worker)) counted-is (rw o.takes.is at stays) in
-          record { told = rw (o.takes.is, o.takes.among, wakes, gone) refl; left = rw (o.takes.among, wakes) ready.is }
+          let ready = then-changed (in_state o.takes.parent (Ready worker)) counted-is (rw o.takes.is at stays) in grind arith
 
       -- a parent that waited is woken where the inlet says it, or no child is left
       pub step_result-inlet : (woken : Bool) {state : State} {waits : Bool} {gone : ℕ} {after : CoreState} →
@@ -204,7 +182,4 @@ module _ {I A : Type 0} {functions : Functions I A} {shared : CoreState} {worker
           (waits && (act.abort || act.wake || not (has_child (frames_in_core out above.tenant) above.serial))) ≡ woken →
           after ≡ (if woken then on_tenant above.tenant (in_state above.serial (Ready worker)) now else now) →
           FollowsResult functions shared (Inlet worker name) (Ok (TakenIn (if woken then Some above else None) gone)) after
-      step_result-inlet woken {waits = waits} seen waiting aborts wakes =
-          let own = seen o.parent (rw (o.takes.is, o.takes.owner, o.found) refl) in
-          let waits_so : waits ≡ does_wait (frame_at frames o.takes.parent) = waiting ∙ ap is_waiting own ∙ rw o.stays refl in
-          by-waking woken (rw (o.takes.is, o.changed.there, waits_so) at wakes) (rw o.takes.is at (aborts tenant o.takes.owner))
+      step_result-inlet woken {waits = waits} seen waiting aborts wakes = grind (arith, by-waking)

@@ -1,7 +1,7 @@
 -- The parent of a frame that is seen.
-use Rattle.sched_core.proofs.Common.{◌≡◌, ℕ, Bool, true, [], ◌∷◌, Option, Some, None, Result, Ok, refl, sym, ◌∙◌, arith, IsSome, not, FrameId, frame_at, name_of, parent_of, there-found, under-there, Refusal, NotReturned, NoSteps, BadAct, Busy, InletAct, Inlet, Functions, Tenant, words_in, is_outside, left, unless, refusal_in, is_returned, taken_in, named, CoreState, shared_refusal, Seen, is_busy_among, AreTenantsRising, words_under, IsSeen, IsReturnedUnder, F, List}
+use Rattle.sched_core.proofs.Common.{[], ◌≡◌, ℕ, Bool, ◌∷◌, Option, Some, None, Result, Ok, refl, sym, ◌∙◌, arith, IsSome, not, FrameId, frame_at, name_of, parent_of, there-found, under-there, Refusal, NotReturned, NoSteps, BadAct, Busy, InletAct, Inlet, Functions, Tenant, words_in, is_outside, left, unless, refusal_in, is_returned, taken_in, named, CoreState, shared_refusal, Seen, is_busy_among, AreTenantsRising, words_under, IsSeen, IsReturnedUnder, F, List}
 use Rattle.std.specs.Prelude.{◌==◌}
-use Rattle.sched_core.proofs.Deciding.{busy-anywhere, second-part, seen-words}
+use Rattle.sched_core.proofs.Deciding.{busy-anywhere, seen-words}
 
 -- the parent that is named
 pub record IsParent (shared : CoreState) (name : FrameId) (tenant : Tenant) (frame : F) (above : FrameId) : Type 0 where
@@ -16,19 +16,15 @@ parent-named : (number : ℕ) (parent : Option ℕ) (above : FrameId) → name_o
 parent-named number None above is = absurd cc
 parent-named number (Some serial) above is = (serial, refl, cc)
 
-module _ (shared : CoreState) (name : FrameId) (tenant : Tenant) (frame : F) (seen : Seen) (above : FrameId) where
+module _ {shared : CoreState} {name : FrameId} {tenant : Tenant} {frame : F} {seen : Seen} {above : FrameId} where
   pub parent-of : IsSeen shared name tenant frame seen → seen.parent ≡ Some above → IsParent shared name tenant frame above
   parent-of is at =
       let p = parent-named name.tenant (parent_of frame.path) above (sym is.parent ∙ at) in
-      let there = there-found tenant.frames p.0 (under-there tenant.frames name.serial p.0 frame is.tree is.found p.1) in
-      record { serial = p.0; path = p.1; is = p.2; parent = there.0; found = there.1 }
+      let there = there-found tenant.frames p.0 (under-there tenant.frames name.serial p.0 frame is.tree is.found p.1) in grind arith
 
   -- it is there
   pub parent-there : IsSeen shared name tenant frame seen → seen.parent ≡ Some above → IsSome (named shared above)
-  parent-there is at =
-      let p = parent-of is at in
-      let owner = is.owner in let found = p.found in
-      rw (p.is, owner, found) refl
+  parent-there is at = grind (arith, parent-of)
 
   -- with these words
   pub parent-words : (is : IsSeen shared name tenant frame seen) (p : IsParent shared name tenant frame above) →
@@ -48,30 +44,23 @@ module _ {I A : Type 0} (functions : Functions I A) {shared : CoreState} (worker
       let outside = is_outside inlet.stores (words_in tenant.frames parent) in
       let tests : List (Bool × Refusal) = (not (is_returned frame.state), NotReturned) ∷ ((left tenant).steps == 0, NoSteps) ∷ (outside, BadAct) ∷ [] in
       rw (same, words, sym (seen-words is), is.state, is.left, is.owner, is.found, path)
-      (busy-anywhere {I = I} tests shared worker name.tenant tenant (taken_in tenant worker name parent inlet) rising is.owner)
-
-  -- Inlet, by its tests
-  pub inlet-decided : seen.parent ≡ Some above → act ≡ functions.inlet (words_under shared above) (words_under shared name) →
-      refusal_in (unless ((not (is_returned seen.state), NotReturned) ∷ (seen.left.steps == 0, NoSteps)
-      ∷ (is_outside act.stores (words_under shared above), BadAct) ∷ (is_busy_among worker shared.tenants, Busy) ∷ []) (tt {0}))
-      ≡ shared_refusal functions shared (Inlet worker name)
-  inlet-decided at same = grind (arith, parent-of, inlet-under, parent-words)
+      (busy-anywhere {I = I} tests shared worker name.tenant (taken_in tenant worker name parent inlet) rising is.owner)
 
 -- Inlet, where the frame has returned and a step is left, by the tests of the inlet
-module _ {I A : Type 0} (functions : Functions I A) (shared : CoreState) (worker : ℕ) (name : FrameId) (tenant : Tenant) (frame : F) (seen : Seen)
-    (above : FrameId) (act : InletAct) (answer : Result (Unit {0}) Refusal) (rising : AreTenantsRising shared.tenants) where
-  pub inlet-goes : (returned outside busy : Bool) → IsSeen shared name tenant frame seen → seen.parent ≡ Some above →
+module _ {I A : Type 0} (functions : Functions I A) {shared : CoreState} (worker : ℕ) {name : FrameId} {tenant : Tenant} {frame : F} {seen : Seen}
+    {above : FrameId} {act : InletAct} {answer : Result (Unit {0}) Refusal} (rising : AreTenantsRising shared.tenants) where
+  pub inlet-goes : {returned outside busy : Bool} → IsSeen shared name tenant frame seen → seen.parent ≡ Some above →
       act ≡ functions.inlet (words_under shared above) (words_under shared name) → returned ≡ is_returned seen.state →
       outside ≡ is_outside act.stores (words_under shared above) → busy ≡ is_busy_among worker shared.tenants →
       Ok (tt {0}) ≡ unless ((not returned, NotReturned) ∷ (seen.left.steps == 0, NoSteps) ∷ []) (tt {0}) →
       answer ≡ unless ((outside, BadAct) ∷ (busy, Busy) ∷ []) (tt {0}) → refusal_in answer ≡ shared_refusal functions shared (Inlet worker name)
-  inlet-goes returned outside busy is at same r o b passes told = grind (arith, second-part, inlet-decided)
+  inlet-goes is at same r o b passes told = grind (arith, parent-of, inlet-under, parent-words)
 
   pub inlet-told : IsReturnedUnder shared name above tenant frame seen → act ≡ functions.inlet (words_under shared above) (words_under shared name) →
       answer ≡ unless ((is_outside act.stores (words_under shared above), BadAct) ∷ (is_busy_among worker shared.tenants, Busy) ∷ []) (tt {0}) →
       refusal_in answer ≡ shared_refusal functions shared (Inlet worker name)
   inlet-told is same told =
-      inlet-goes true (is_outside act.stores (words_under shared above)) (is_busy_among worker shared.tenants) is.seen_so is.above same
+      inlet-goes is.seen_so is.above same
       (sym is.returned) refl refl (rw is.some refl) told
 
 -- the parent of a frame is there

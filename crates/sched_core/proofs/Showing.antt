@@ -1,15 +1,9 @@
 -- What is read of a core that keeps what it keeps: nothing is cut off, and the newest ready frame has the greatest serial.
-use Rattle.sched_core.proofs.Common.{free-whole, ◌≡◌, ℕ, Option, Some, None, refl, IfSome, option_map, option_and_then, FrameId, newest_ready_of, tree-rising, Tenant, left, CoreState, tenant_in, left_in_core, newest_ready_in, IsShaped, shaped-in, left-segments, left-nodes, left-steps, newest-found, IsKeptCore, IsRestOf, IsNewestReadyOf, Left, NoFrame, frame_in_core, no-frame as lacks, missing, arith}
+use Rattle.sched_core.proofs.Common.{free-whole, ◌≡◌, ℕ, Option, Some, None, refl, IfSome, option_and_then, FrameId, newest_ready_of, tree-rising, Tenant, CoreState, tenant_in, left_in_core, newest_ready_in, IsShaped, shaped-in, left-nodes, left-steps, newest-found, IsKeptCore, IsRestOf, IsNewestReadyOf, Left, NoFrame, frame_in_core, no-frame as lacks, missing, arith}
 
 -- what a tenant has left
-pub rest-of : (shared : CoreState) (number : ℕ) → IsKeptCore shared → IfSome (left_in_core shared number) (IsRestOf (tenant_in shared.tenants number))
-rest-of shared number kept = by (tenant_in shared.tenants number) refl
-  where
-    by : (own : Option Tenant) → tenant_in shared.tenants number ≡ own → IfSome (option_map left own) (IsRestOf own)
-    by None at = tt
-    by (Some tenant) at =
-        let shape = shaped-in number shared.tenants tenant kept.shaped at in
-        record { segments = left-segments tenant shape; nodes = left-nodes tenant shape; steps = left-steps tenant shape }
+pub rest-of : {shared : CoreState} (number : ℕ) → IsKeptCore shared → IfSome (left_in_core shared number) (IsRestOf (tenant_in shared.tenants number))
+rest-of {shared} number kept = grind (arith, shaped-in, left-nodes, left-steps)
 
 -- its newest ready frame
 newest-in : (number : ℕ) (tenant : Tenant) (ready : Option (FrameId × ℕ)) → IsShaped tenant → newest_ready_of number tenant.frames ≡ ready →
@@ -17,9 +11,9 @@ newest-in : (number : ℕ) (tenant : Tenant) (ready : Option (FrameId × ℕ)) �
 newest-in number tenant None shape is = tt
 newest-in number tenant (Some ready) shape is = newest-found number tenant.frames ready.0 ready.1 (tree-rising tenant.frames shape.tree) is
 
-pub newest-of : (shared : CoreState) (number : ℕ) → IsKeptCore shared →
+pub newest-of : {shared : CoreState} (number : ℕ) → IsKeptCore shared →
     IfSome (newest_ready_in shared number) (λ ready. IsNewestReadyOf (tenant_in shared.tenants number) number ready.0 ready.1)
-newest-of shared number kept = by (tenant_in shared.tenants number) refl
+newest-of {shared} number kept = by (tenant_in shared.tenants number) refl
   where
     by : (own : Option Tenant) → tenant_in shared.tenants number ≡ own →
         IfSome (option_and_then (λ tenant. newest_ready_of number tenant.frames) own) (λ ready. IsNewestReadyOf own number ready.0 ready.1)

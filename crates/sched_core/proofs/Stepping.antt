@@ -1,32 +1,24 @@
 -- What one step does, from how it is judged; and a list of steps.
-use Rattle.sched_core.proofs.Common.{◌≡◌, ℕ, inl, inr, true, List, [], ◌∷◌, ◌++◌, None, Result, Ok, Err, refl, sym, ◌∙◌, append_assoc, append-nil, arith, true≢false, Refusal, OutOfMemory, StepOf, DidOf, Functions, Outcome, answer_of, CoreState, step_result, shared_after, shared_refusal, is_admission, IsAnswerTo, IsOneStep, after_answer, after_answers, AreAnswersTo, IsHeadline, AreNumbersGiven, right-answer, step-taken, shared-after-taken, headline, Fitting, Rooting, only, taken_steps, OnErr, is_ok, CoreFits, RootFits, RootsFit, origins_of, origins_after, IsLawful, answer-keeps, run-fits, shaped_answer, reserved-answer, IsKeptCore, FollowsResult, IsAdmitted}
+use Rattle.sched_core.proofs.Common.{[], ◌≡◌, ℕ, inl, inr, true, List, ◌∷◌, ◌++◌, Result, Ok, Err, refl, append_assoc, arith, Refusal, StepOf, DidOf, Functions, CoreState, is_admission, IsAnswerTo, IsOneStep, after_answer, after_answers, AreAnswersTo, IsHeadline, AreNumbersGiven, right-answer, step-taken, shared-after-taken, headline, Fitting, Rooting, only, taken_steps, OnErr, is_ok, CoreFits, RootFits, RootsFit, origins_of, origins_after, IsLawful, answer-keeps, run-fits, shaped_answer, reserved-answer, IsKeptCore, FollowsResult, IsAdmitted}
 
 -- the core after a step that was judged
 module _ {I A : Type 0} (functions : Functions I A) (before : CoreState) (step : StepOf A) (answer : Result (DidOf I) Refusal) where
-  after-step_result : (judgement : Result (Outcome I) Refusal) → step_result functions before step ≡ judgement → answer ≡ answer_of judgement →
-      shared_after before step judgement ≡ after_answer functions before step answer
-  after-step_result (Ok outcome) at is = rw (is, at) refl
-  after-step_result (Err refusal) at is = rw is refl
-
-  pub one-step : (after : CoreState) → FollowsResult functions before step answer after → IsOneStep functions before step answer after
-  one-step after is =
+  pub one-step : {after : CoreState} → FollowsResult functions before step answer after → IsOneStep functions before step answer after
+  one-step is =
       record {
         answered = rw is.told (right-answer functions before step);
-        left = is.left ∙ after-step_result (step_result functions before step) refl is.told;
+        left = grind arith;
       }
 
 -- an admission for which memory is wanting
 module _ {I A : Type 0} (functions : Functions I A) (before : CoreState) (step : StepOf A) where
-  wanting : is_admission step ≡ true → shared_refusal functions before step ≡ None → IsAnswerTo functions before step (Err OutOfMemory)
-  wanting admits none = grind (arith, true≢false)
-
-  pub one-admission : (answer : Result (DidOf I) Refusal) (after : CoreState) → is_admission step ≡ true → IsAdmitted functions before step answer after →
+  pub one-admission : {answer : Result (DidOf I) Refusal} {after : CoreState} → is_admission step ≡ true → IsAdmitted functions before step answer after →
       IsOneStep functions before step answer after
-  one-admission answer after admits (inl is) = one-step functions before step answer after is
-  one-admission answer after admits (inr is) = grind (arith, wanting)
+  one-admission {answer} admits (inl is) = one-step functions before step answer is
+  one-admission admits (inr is) = grind arith
 
 -- what follows from one step
-module _ {I A : Type 0} (functions : Functions I A) (before : CoreState) (step : StepOf A) (after : CoreState) where
+module _ {I A : Type 0} {functions : Functions I A} {before : CoreState} {step : StepOf A} {after : CoreState} where
   pub stays-on-err : (answer : Result (DidOf I) Refusal) → IsOneStep functions before step answer after → OnErr answer (after ≡ before)
   stays-on-err (Ok did) is = tt
   stays-on-err (Err refusal) is = is.left
@@ -41,7 +33,7 @@ module _ {I A : Type 0} (functions : Functions I A) (before : CoreState) (step :
   pub kept-still : (answer : Result (DidOf I) Refusal) → IsKeptCore before → IsOneStep functions before step answer after → IsKeptCore after
   kept-still answer kept is =
       record {
-        shaped = rw is.left (shaped_answer functions before step answer kept.shaped);
+        shaped = grind (arith, shaped_answer);
         known = known-still answer kept.known is;
         within = rw is.left (reserved-answer functions before step answer kept.within);
       }
@@ -70,43 +62,37 @@ module _ {I A : Type 0} (functions : Functions I A) (step : StepOf A) (answer : 
   after-snoc before (first ∷ steps) (other ∷ answers) right = after-snoc (after_answer functions before first other) steps answers right.1
   after-snoc before steps answers right = grind arith
 
-module _ {I A : Type 0} (functions : Functions I A) where
-  pub runs-begin : (before : CoreState) (items : List (Result (DidOf I) Refusal)) → IsRunning functions before [] items items before
-  runs-begin before items = record { answered = []; appended = sym (append-nil items); right = tt; left = refl }
-
-module _ {I A : Type 0} (functions : Functions I A) (before : CoreState) (steps : List (StepOf A)) (earlier items : List (Result (DidOf I) Refusal))
-    (now : CoreState) where
-  pub runs-on : (step : StepOf A) (answer : Result (DidOf I) Refusal) (after : CoreState) → IsRunning functions before steps earlier items now →
+module _ {I A : Type 0} {functions : Functions I A} {before : CoreState} {steps : List (StepOf A)} {earlier items : List (Result (DidOf I) Refusal)}
+    {now : CoreState} where
+  pub runs-on : {step : StepOf A} {answer : Result (DidOf I) Refusal} {after : CoreState} → IsRunning functions before steps earlier items now →
       IsOneStep functions now step answer after → IsRunning functions before (steps ++ step ∷ []) earlier (items ++ answer ∷ []) after
-  runs-on step answer after runs is =
+  runs-on {step} {answer} runs is =
       record {
         answered = runs.answered ++ answer ∷ [];
         appended = rw runs.appended (append_assoc earlier runs.answered (answer ∷ []));
-        right = answers-snoc functions step answer before steps runs.answered runs.right (rw runs.left at is.answered);
-        left = is.left ∙ rw (runs.left, after-snoc functions step answer before steps runs.answered runs.right) refl;
+        right = grind (arith, answers-snoc);
+        left = grind (arith, after-snoc);
       }
 
   -- at its end the headline holds
   pub runs-out : AreNumbersGiven before → IsRunning functions before steps earlier items now →
       (answered : List (Result (DidOf I) Refusal)) × (items ≡ earlier ++ answered) × IsHeadline functions before steps answered now
-  runs-out known runs = (runs.answered, runs.appended, rw runs.left (headline functions before steps runs.answered known runs.right))
+  runs-out known runs = grind (arith, headline)
 
 -- a lawful procedure's frames go on fitting
-module _ {I A : Type 0} {functions : Functions I A} {fits : Fitting} {rooted : Rooting} (before : CoreState) (lawful : IsLawful functions fits rooted) where
-  pub fits-still : (step : StepOf A) (answer : Result (DidOf I) Refusal) (after : CoreState) → IsKeptCore before →
+module _ {I A : Type 0} {functions : Functions I A} {fits : Fitting} {rooted : Rooting} {before : CoreState} (lawful : IsLawful functions fits rooted) where
+  pub fits-still : {step : StepOf A} {answer : Result (DidOf I) Refusal} {after : CoreState} → IsKeptCore before →
       IsOneStep functions before step answer after → (origins : ℕ → List (List ℕ)) → CoreFits fits rooted origins before →
       (is_ok answer ≡ true → RootFits fits rooted step) → CoreFits fits rooted (origins_after origins step answer) after
-  fits-still step answer after kept is origins core root =
+  fits-still {step} {answer} kept is origins core root =
       rw is.left (answer-keeps functions fits rooted origins before step answer lawful kept.known kept.shaped core root is.answered).1
 
   -- so over a list of steps
-  pub fits-on : (steps : List (StepOf A)) (earlier items : List (Result (DidOf I) Refusal)) (now : CoreState) → IsKeptCore before →
+  pub fits-on : {steps : List (StepOf A)} {earlier items : List (Result (DidOf I) Refusal)} {now : CoreState} → IsKeptCore before →
       IsRunning functions before steps earlier items now → (answered : List (Result (DidOf I) Refusal)) → items ≡ earlier ++ answered →
       (origins : ℕ → List (List ℕ)) → CoreFits fits rooted origins before → RootsFit fits rooted (taken_steps steps answered) →
       CoreFits fits rooted (λ number. origins number ++ origins_of (only number (taken_steps steps answered))) now
-  fits-on steps earlier items now kept runs answered appended origins core roots =
-      let same : answered ≡ runs.answered = append-left earlier answered runs.answered (sym appended ∙ runs.appended) in
-      rw (runs.left, same) (run-fits functions fits rooted origins before steps runs.answered lawful kept.known kept.shaped core runs.right (rw same at roots))
+  fits-on {steps} {earlier} kept runs answered appended origins core roots = grind (arith, append-left, run-fits)
     where
       append-left : {X : Type 0} (xs ys zs : List X) → xs ++ ys ≡ xs ++ zs → ys ≡ zs
       append-left [] ys zs e = e

@@ -1,8 +1,8 @@
 -- Every answer leaves a core fitting, and so does every list of them; lists of steps in parts, and how many jobs there are.
-use Rattle.sched_laws.proofs.Common.{◌≡◌, ◌≢◌, ℕ, ◌<◌, ◌≤◌, inl, inr, true, false, eqb, List, [], ◌∷◌, ◌++◌, Option, Some, None, Result, Ok, Err, refl, ap, sym, ◌∙◌, arith, append_assoc, append-nil, suc, ◌+◌, length, is_ok, ◌==◌, cases_Bool, cases_eq, eq-eqb, ne_eqb, Quota, root_of, Refusal, Continuation, StepOf, Admit, AdmitMore, Submit, DidOf, Admitted, Submitted, Functions, Tenant, admitted_with, Tree, Fitting, Rooting, ParentFits, NewChildFits, Outcome, lone, lone_step, submit_tests, submitted, tenant_of, only, state_after, alone_from, answers_from, CoreState, shared_by_nobody, tenant_in, with_outcome, meets_busy, step_result, newest_after, shared_with, is_admission, IsAnswerTo, AreAnswersTo, after_answer, after_answers, taken_steps, AreNumbersGiven, tenant_in-with_outcome, tenant_in-other-with_outcome, known-number, step-taken, there, more-there, above, step_result-step, shared-after-taken, found, IsShaped, AreShaped, TenantFits, CoreFits, submits, origins_of, RootFits, RootsFit, origins_after, StaysFitting, JobsFit, filter-append, Job, Spent as SpentJob, Cancelled as CancelledJob}
+use Rattle.sched_laws.proofs.Common.{◌≡◌, ◌≢◌, ℕ, ◌<◌, ◌≤◌, inl, inr, true, false, eqb, List, [], ◌∷◌, ◌++◌, Option, Some, None, Result, Ok, Err, refl, ap, sym, ◌∙◌, arith, append_assoc, append-nil, suc, ◌+◌, length, is_ok, ◌==◌, cases_Bool, cases_eq, eq-eqb, ne_eqb, Quota, root_of, Refusal, Continuation, StepOf, Admit, AdmitMore, Submit, DidOf, Admitted, Submitted, Functions, Tenant, admitted_with, Tree, Fitting, Rooting, ParentFits, NewChildFits, Outcome, lone, lone_step, tenant_of, only, state_after, alone_from, answers_from, CoreState, shared_by_nobody, tenant_in, with_outcome, meets_busy, step_result, newest_after, shared_with, is_admission, IsAnswerTo, AreAnswersTo, after_answer, after_answers, taken_steps, AreNumbersGiven, tenant_in-with_outcome, tenant_in-other-with_outcome, known-number, step-taken, there, more-there, above, step_result-step, shared-after-taken, found, IsShaped, AreShaped, TenantFits, CoreFits, submits, origins_of, RootFits, RootsFit, origins_after, StaysFitting, JobsFit, filter-append, Job, Spent as SpentJob, Cancelled as CancelledJob}
 use Rattle.sched_laws.proofs.Shaped.{unless-passed, came, by-effects}
 use Rattle.sched_laws.proofs.Consequences.{root-above, live-root, shaped-in, not-busy, more-taken, shaped_answer}
-use Rattle.sched_laws.proofs.Holds.{Lists, among}
+use Rattle.sched_laws.proofs.Holds.{Lists}
 use Rattle.sched_laws.proofs.Fits.{IsLawful, LeftFits}
 use Rattle.sched_laws.proofs.FitSteps.{ended-fits, submit-fits, taken-fits, advanced-fits, answered-fits, inlet-fits, finished-fits}
 
@@ -235,10 +235,4 @@ module _ {I A : Type 0} (functions : Functions I A) (number : ℕ) (tenant : Ten
   -- the number that a taken Submit is answered
   pub submit_numbered : (before : CoreState) (words : List ℕ) (size : ℕ) (did : DidOf I) → IsAnswerTo functions before (Submit number words size) (Ok did) →
       tenant_in before.tenants number ≡ Some tenant → did ≡ Submitted (length tenant.jobs + 1) (record { tenant = number; serial = tenant.serials + 1 })
-  submit_numbered before words size did right at =
-      let step : StepOf A = Submit number words size in
-      let own = right.1 refl in
-      let f = found (meets_busy step before.tenants) (lone functions (tenant_in before.tenants number) step) did own.own_state own.busy_worker own.else_taken in
-      let alone : lone functions (Some tenant) step ≡ Ok f.0 = ap (λ o. lone functions o step) (sym at) ∙ f.2 in
-      let p = unless-passed (submit_tests tenant words size) (submitted {I = I} tenant number words size) f.0 alone in
-      sym f.3 ∙ sym (ap (λ (o : Outcome I). o.1) p.1)
+  submit_numbered before words size did right at = grind (arith, found, unless-passed)

@@ -1,5 +1,5 @@
 -- Each kind of step leaves a tenant fitting: a job that begins or ends, Take, Advance, Answer, Inlet and Finish.
-use Rattle.sched_laws.proofs.Common.{◌≡◌, ℕ, Bool, true, false, List, [], ◌∷◌, ◌++◌, Some, ap, sym, ◌∙◌, arith, ◌≢◌, ◌+◌, ◌<◌, not, Option, None, length, refl, inl, inr, ◌||◌, ◌&&◌, State, Running, Ready, FrameId, frame_at, children_of, path_in, parent_of, goes_under, aborted, frames_without, IsTree, new_frame, is_ready, found-serial, there-found, found-path, frame_at-left, frame_at-push, tree-rising, IsUnder, top-path, under-there, named-under, Act, Continuation, InletAct, Functions, Tree, Tenant, sight, with_frame_words, stored, is_outside, has_child, frame_words, words_in, is_root, without_job, kept_words, Fitting, Rooting, Neither, Computes, mark_of_state, has_one, grown, children_after, mark_after, ParentFits, NewChildFits, HasReturned, AllFit, children_left, is_bad_act, act_by_sight, counted, holding, then_done, advanced, answered, opened, ended, staying, taken_by, is_computed_by, is_returned, advance_tests, answer_tests, inlet_tests, does_wait, taken_in, finish_tests, finished, IsShaped, TenantFits, JobFits, false≢true, eq-eqb, eqb-true, cases_Bool, not-false, or_parts, padded, is_that, is_child_of, frame_at-stays, frame_at-other-without, tree-aborted, tree-without, tree-without_job, tree-new_frame, new-frame-next, path_in-alike, Job, Live, Done, is_run_by}
+use Rattle.sched_laws.proofs.Common.{◌≡◌, ℕ, Bool, true, false, List, [], ◌∷◌, ◌++◌, Some, ap, sym, ◌∙◌, arith, ◌≢◌, ◌+◌, ◌<◌, not, Option, None, length, refl, inl, inr, ◌||◌, ◌&&◌, State, Running, Ready, FrameId, frame_at, children_of, path_in, parent_of, goes_under, aborted, frames_without, IsTree, new_frame, is_ready, found-serial, there-found, found-path, frame_at-left, frame_at-push, tree-rising, IsUnder, top-path, under-there, named-under, Act, Continuation, InletAct, Functions, Tree, Tenant, sight, with_frame_words, stored, is_outside, has_child, frame_words, words_in, is_root, without_job, kept_words, Fitting, Rooting, Neither, Computes, mark_of_state, grown, children_after, mark_after, ParentFits, NewChildFits, HasReturned, AllFit, children_left, act_by_sight, counted, holding, then_done, advanced, answered, opened, ended, staying, taken_by, is_computed_by, is_returned, advance_tests, answer_tests, inlet_tests, does_wait, taken_in, finish_tests, finished, IsShaped, TenantFits, JobFits, false≢true, eq-eqb, eqb-true, cases_Bool, not-false, or_parts, padded, is_that, is_child_of, frame_at-stays, frame_at-other-without, tree-aborted, tree-without, tree-without_job, tree-new_frame, new-frame-next, path_in-alike, Job, Live, Done, is_run_by}
 use Rattle.sched_laws.proofs.Parts.{has_child-with_frame_words, path-there}
 use Rattle.sched_laws.proofs.Holds.{Lists, F, kids, fits-holds, with_frame_words-alike, tree-with_frame_words, paths-with_frame_words, children_of-with_frame_words, frame_at-other-with_frame_words, holds-fits, among-kids, BeforeWithout, holds-without, BeforeAbort, holds-aborted, holds-push, holds-without_job, frame_at-with_frame_words, found-same, found-own}
 use Rattle.sched_laws.proofs.Fits.{IsLawful, IsKeptAbove, with_frame_words-twice, all-fit, has-one, LeftFits, fits-spawned, words-found, jobs-append, jobs-ended, root-top, parent-neither, fits-same-mark, FitsAt, HaveSameRoots, fits-changed, fits-marked, jobs-left, kept-of, state-fits, words-fits}

@@ -1,5 +1,8 @@
 -- What holds of each frame of a tree holds after each change of it: other words, another state, a frame more, a leaf removed, an abort.
-use Rattle.sched_laws.proofs.Common.{◌≡◌, ◌≢◌, ℕ, suc, ◌+◌, ◌≤◌, inl, inr, Bool, false, eqb, List, [], ◌∷◌, ◌++◌, Some, length, refl, ap, sym, ◌∙◌, arith, true, not, Option, None, append-nil, filter, sum_by-append, sum_by-cons, cases_Bool, eqb-true, cases_eq, false≢true, ne_eqb, not-true, not_from_false, charge, Frame, frame_at, has_frame, children_of, values_of, IsTree, parent_of, goes_under, aborted, frames_without, with_state, IsNextFrame, is_child_of, AreSerialsRising, AreAlike, is_that, Each, above-missing, children-by-paths, there-found, found-serial, missing, frame_at-push, frame_at-other-push, tree-rising, placed, under-through, tree-push, has_frame-above, children_under, without_job, found-each, each-found, tree-alike, children_of-push, frame_at-other-with_state, children_of-with_state, values_of-with_state, Tree, charged_for, with_frame_words, stored, State, aborted-itself, rising-filter, frame_at-filter, frame_at-stays, filter-found, tree-aborted, tree-without, frame_at-without, frame_at-other-without, aborted-leaf, Fitting, Mark, mark_of_state, EachFits, EveryFrameFits}
+pub use Rattle.frame_table.proofs.TreeLaws.{found-own}
+use Rattle.frame_table.proofs.TreeLaws.{filter-every}
+use Rattle.frame_table.proofs.Changes.{child-stays}
+use Rattle.sched_laws.proofs.Common.{◌≡◌, ◌≢◌, ℕ, suc, ◌+◌, ◌≤◌, inl, inr, Bool, false, eqb, List, [], ◌∷◌, ◌++◌, Some, length, refl, ap, sym, ◌∙◌, arith, true, not, Option, None, append-nil, filter, sum_by-append, sum_by-cons, cases_Bool, eqb-true, cases_eq, false≢true, ne_eqb, not-true, charge, Frame, frame_at, has_frame, children_of, values_of, IsTree, parent_of, goes_under, aborted, frames_without, with_state, IsNextFrame, is_child_of, AreSerialsRising, AreAlike, is_that, Each, above-missing, children-by-paths, there-found, found-serial, missing, frame_at-push, frame_at-other-push, tree-rising, placed, tree-push, has_frame-above, without_job, found-each, each-found, tree-alike, children_of-push, frame_at-other-with_state, children_of-with_state, values_of-with_state, Tree, charged_for, with_frame_words, State, aborted-itself, rising-filter, frame_at-filter, frame_at-stays, filter-found, tree-aborted, tree-without, frame_at-without, frame_at-other-without, aborted-leaf, Fitting, Mark, mark_of_state, EachFits, EveryFrameFits}
 
 -- a frame with its words
 abbrev pub F : Type 0
@@ -113,10 +116,6 @@ module _ (fits : Fitting) (tree : Tree) where
 pub found-same : (tree : Tree) (s n : ℕ) (f g : F) → s ≡ n → frame_at tree s ≡ Some f → frame_at tree n ≡ Some g → f ≡ g
 found-same tree s n f g e at_s at_n = let both : ◌≡◌ {A = Option F} (Some f) (Some g) = sym at_s ∙ ap (frame_at tree) e ∙ at_n in cc
 
--- a found frame, by its own serial
-pub found-own : (tree : Tree) (s : ℕ) (f : F) → frame_at tree s ≡ Some f → frame_at tree f.serial ≡ Some f
-found-own tree s f at = ap (frame_at tree) (found-serial tree s f at) ∙ at
-
 -- another state
 abbrev pub BeforeState : Fact → ℕ → State → Fact
 BeforeState Q n state s w k m = (s ≡ n → Q s w k (mark_of_state state)) × (s ≢ n → Q s w k m)
@@ -133,14 +132,7 @@ found-with_state n state (x ∷ xs) f at = elim (cases_Bool (eqb x.serial n)) [
 -- where that holds of each frame, Q does after frame n has this state
 module _ (Q : Fact) (n : ℕ) (state : State) (tree : Tree) (t : IsTree tree) where
   pub holds-with_state : Holds (BeforeState Q n state) tree → Holds Q (with_state n state tree)
-  holds-with_state all s f at = elim (cases_eq s n) [
-    | inl is ↦ (let g = found-with_state n state tree f (ap (frame_at (with_state n state tree)) (sym is) ∙ at) in
-        rw (same, ← g.2) ((all s g.0 (ap (frame_at tree) is ∙ g.1)).0 is))
-    | inr other ↦ rw same ((all s f (sym (frame_at-other-with_state n state tree s (λ e. other (sym e))) ∙ at)).1 other)
-  ]
-    where
-      same : kids (with_state n state tree) s ≡ kids tree s
-      same = grind (arith, children_of-with_state, values_of-with_state)
+  holds-with_state all s f at = grind (arith, cases_eq, found-with_state, all, frame_at-other-with_state, children_of-with_state, values_of-with_state)
 
 -- a frame among others: those before it and those behind it
 pub record IsAmong (xs : Tree) (n : ℕ) (f : F) : Type 0 where
@@ -244,24 +236,7 @@ BeforePush Q y s w k m = (is_child_of s y.path ≡ true → Q s w (k ++ y.value 
 -- where that holds of each frame, and Q of the new one, Q holds of all of them
 module _ (Q : Fact) (tree : Tree) (y : F) (t : IsTree tree) (next : IsNextFrame tree y) where
   pub holds-push : Q y.serial y.value [] (mark_of_state y.state) → Holds (BeforePush Q y) tree → Holds Q (tree ++ y ∷ [])
-  holds-push new all s f at = elim (cases_eq y.serial s) [
-    | inl is ↦ (let e : y ≡ f = found-same (tree ++ y ∷ []) y.serial s y f is (frame_at-push tree y next.above) at in rw (← e, none is, ← is) new)
-    | inr other ↦ (let old = all s f (sym (frame_at-other-push tree y s other) ∙ at) in
-        elim (cases_Bool (is_child_of s y.path)) [ inl child ↦ rw (more child) (old.0 child) | inr no_child ↦ rw (same no_child) (old.1 no_child) ])
-  ]
-    where
-      grown : kids (tree ++ y ∷ []) s ≡ values_of (children_of tree s ++ filter (λ x. is_child_of s x.path) (y ∷ []))
-      grown = grind (arith, children_of-push)
-
-      more : is_child_of s y.path ≡ true → kids (tree ++ y ∷ []) s ≡ kids tree s ++ y.value ∷ []
-      more child = grown ∙ (rw child (values-append (children_of tree s) (y ∷ [])))
-
-      same : is_child_of s y.path ≡ false → kids (tree ++ y ∷ []) s ≡ kids tree s
-      same no_child = grown ∙ (rw no_child (values-append (children_of tree s) [] ∙ append-nil (kids tree s)))
-
-      none : y.serial ≡ s → kids (tree ++ y ∷ []) s ≡ []
-      none is = same (rw (← is) (not-own-child y.serial y _ (tree-push tree y t next) (frame_at-push tree y next.above)))
-          ∙ (rw (← is) (ap values_of (ap (λ o. children_under o tree) (missing tree y.serial (has_frame-above tree y.serial next.above)))))
+  holds-push new all s f at = grind (arith, cases_eq, found-same, frame_at-push, all, frame_at-other-push, cases_Bool, children_of-push, values-append, append-nil, not-own-child, tree-push, missing, has_frame-above)
 
 -- a leaf removed
 abbrev pub BeforeWithout : Fact → ℕ → F → Fact
@@ -298,10 +273,6 @@ module _ (Q : Fact) (n : ℕ) (f : F) (tree : Tree) (t : IsTree tree) (at_n : fr
 abbrev pub BeforeAbort : Fact → ℕ → Fact
 BeforeAbort Q p s w k m = (s ≡ p → Q s w [] m) × (s ≢ p → Q s w k m)
 
-filter-all : (keep : F → Bool) (xs : Tree) → Each (λ x. keep x ≡ true) xs → filter keep xs ≡ xs
-filter-all keep [] all = refl
-filter-all keep (x ∷ xs) all = rw all.0 (ap (λ (ys : Tree). x ∷ ys) (filter-all keep xs all.1))
-
 -- where that holds of each frame, Q does after an abort at p
 module _ (p : ℕ) (tree : Tree) (t : IsTree tree) where
   children-stay : (s : ℕ) (h : F) → frame_at tree s ≡ Some h → goes_under p h.path ≡ false → s ≢ p → aborted p (children_of tree s) ≡ children_of tree s
@@ -309,16 +280,8 @@ module _ (p : ℕ) (tree : Tree) (t : IsTree tree) where
       let child = λ (x : F). is_child_of s x.path in
       let rising = tree-rising tree t in
       let all = found-each (λ (x : F). not (goes_under p x.path) ≡ true) (filter child tree) (rising-filter child tree rising)
-      (λ c x at_c. one c x (filter-found child tree c x rising at_c)) in
-      rw (children-by-paths tree s t) (filter-all (λ x. not (goes_under p x.path)) (filter child tree) all)
-    where
-      one : (c : ℕ) (x : F) → (frame_at tree c ≡ Some x) × (is_child_of s x.path ≡ true) → not (goes_under p x.path) ≡ true
-      one c x found = elim (placed tree c x t found.0) [
-        | inl top ↦ absurd (false≢true (sym (ap (is_that s) top.0) ∙ found.1))
-        | inr u ↦ (let parent : u.parent ≡ s = eqb-true u.parent s (sym (ap (is_that s) u.named) ∙ found.1) in
-            let e : h ≡ u.above = found-same tree s u.parent h u.above (sym parent) at u.there in
-            not_from_false (goes_under p x.path) (under-through tree x p t u ∙ (rw (parent, ne_eqb s p other, ← e) stays)))
-      ]
+      (λ c x at_c. let found = filter-found child tree c x rising at_c in rw (child-stays p s c tree h x t at stays other found.0 found.1) refl) in
+      rw (children-by-paths tree s t) (filter-every (λ x. not (goes_under p x.path)) (filter child tree) all)
 
   pub holds-aborted : (Q : Fact) → Holds (BeforeAbort Q p) tree → Holds Q (aborted p tree)
   holds-aborted Q all s h at = grind (arith, filter-found, tree-rising, not-true, aborted-leaf, children-filter, tree-aborted, children-stay)

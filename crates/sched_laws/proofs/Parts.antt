@@ -1,5 +1,6 @@
 -- Each part of a tenant's shape, under each change of the tree and of the jobs.
-use Rattle.sched_laws.proofs.Common.{◌≡◌, ◌≢◌, ℕ, suc, ◌+◌, ◌≤◌, ◌⊎◌, inl, inr, Bool, true, false, eqb, ltb, List, [], ◌∷◌, ◌++◌, Option, Some, None, length, refl, ap, sym, ◌∙◌, arith, length-append, ◌-◌, ◌*◌, ◌<◌, not, filter, filter-append, cases_Bool, cases_eq, false≢true, eq-eqb, ne_eqb, eqb-false, ltb-false, not_from_false, State, frame_at, has_frame, path_in, AllBelow, parent_of, with_state, children_of, values_of, IsNextFrame, IsTree, goes_under, aborted, frames_without, new_frame, is_child_of, Each, AreAlike, there-found, found-serial, found-path, frame_at-push, frame_at-other-push, tree-rising, each-found, found-each, children-by-paths, found-there, found-ends, filter-found, frame_at-stays, AllBelow-filter, tree-aborted, tree-without, tree-without_job, tree-push, children_of-push, tree-with_state, frame_at-other-with_state, children_of-with_state, tree-new_frame, new-frame-next, parent_of-path_under, AllBelow-alike, path_in-alike, with_state-alike, values_of-with_state, Job, Live, Tree, has_child, is_live_at, with_frame_words, with_ended, Tenant, charged_for, is_root, Neither, mark_of_state, AreMarkedChildless, live_count, AreRootsLive, IsRootThere, AreLiveRootsThere, HaveWords, IsShaped, charge, padded, EndsIn, AllBelow-append, has_frame-above, path_in-left, path_in-right, counted, in_state, holding, opened, ended, frame_at-other-without}
+use Rattle.frame_table.proofs.Tenants.{state-length}
+use Rattle.sched_laws.proofs.Common.{◌≡◌, ◌≢◌, ℕ, suc, ◌+◌, ◌≤◌, ◌⊎◌, inl, inr, Bool, true, false, eqb, ltb, List, [], ◌∷◌, ◌++◌, Option, Some, None, length, refl, ap, sym, ◌∙◌, arith, length-append, ◌*◌, ◌<◌, not, filter, filter-append, cases_Bool, cases_eq, false≢true, eq-eqb, ne_eqb, eqb-false, ltb-false, not_from_false, State, frame_at, has_frame, path_in, AllBelow, parent_of, with_state, children_of, values_of, IsNextFrame, IsTree, goes_under, aborted, frames_without, new_frame, is_child_of, Each, AreAlike, there-found, found-serial, found-path, frame_at-push, frame_at-other-push, tree-rising, each-found, found-each, children-by-paths, found-there, found-ends, filter-found, frame_at-stays, AllBelow-filter, tree-aborted, tree-without, tree-without_job, tree-push, children_of-push, tree-with_state, frame_at-other-with_state, children_of-with_state, tree-new_frame, new-frame-next, parent_of-path_under, AllBelow-alike, path_in-alike, with_state-alike, values_of-with_state, Job, Live, Tree, has_child, is_live_at, with_frame_words, with_ended, Tenant, charged_for, is_root, Neither, mark_of_state, AreMarkedChildless, live_count, AreRootsLive, IsRootThere, AreLiveRootsThere, HaveWords, IsShaped, charge, padded, EndsIn, AllBelow-append, has_frame-above, path_in-left, path_in-right, counted, in_state, holding, opened, ended, frame_at-other-without}
 use Rattle.sched_laws.proofs.Holds.{found-same, children_of-with_frame_words, length-with_frame_words, with_frame_words-alike, tree-with_frame_words, charged-one, charged-with_frame_words, charged-append, charged-filter, charged-values, F, found-with_state}
 use Rattle.cactus_stack.proofs.LawFacts.{length-padded}
 
@@ -35,37 +36,14 @@ module _ (tree : Tree) (s : ℕ) where
   has_child-length : (other : Tree) → length (children_of other s) ≡ length (children_of tree s) → has_child other s ≡ has_child tree s
   has_child-length other e = ap (λ (n : ℕ). ltb 0 n) e
 
--- another state in a frame
-length-with_state : (n : ℕ) (state : State) (xs : Tree) → length (with_state n state xs) ≡ length xs
-length-with_state n state [] = refl
-length-with_state n state (x ∷ xs) = ap (λ (k : ℕ). suc k) (length-with_state n state xs)
-
 -- another state changes nobody's children; marked frames stay childless, where that state isn't marked or its frame has no child
 module _ (n : ℕ) (state : State) (tree : Tree) (t : IsTree tree) where
   pub has_child-with_state : (s : ℕ) → has_child (with_state n state tree) s ≡ has_child tree s
-  has_child-with_state s = grind (arith, has_child-length, children_of-with_state, length-with_state)
+  has_child-with_state s = grind (arith, has_child-length, children_of-with_state, state-length)
 
   pub childless-with_state : (mark_of_state state ≡ Neither) ⊎ (has_child tree n ≡ false) → AreMarkedChildless tree tree →
       AreMarkedChildless (with_state n state tree) (with_state n state tree)
-  childless-with_state ok all =
-      let new = with_state n state tree in
-      each-childless new new (found-each (IsMarkedChildless new) new (tree-rising new (tree-with_state n state tree t)) at)
-    where
-      keep : (f : F) → IsMarkedChildless tree f → IsMarkedChildless (with_state n state tree) f
-      keep f (inl neither) = inl neither
-      keep f (inr none) = inr (has_child-with_state f.serial ∙ none)
-
-      own : (g : F) → g.serial ≡ n → (mark_of_state state ≡ Neither) ⊎ (has_child tree n ≡ false) →
-          IsMarkedChildless (with_state n state tree) (record g { state = state })
-      own g is (inl neither) = inl neither
-      own g is (inr none) = inr (ap (has_child (with_state n state tree)) is ∙ has_child-with_state n ∙ none)
-
-      at : (s : ℕ) (f : F) → frame_at (with_state n state tree) s ≡ Some f → IsMarkedChildless (with_state n state tree) f
-      at s f is = elim (cases_eq n s) [
-        | inl same ↦ (let g = found-with_state n state tree f (ap (frame_at (with_state n state tree)) same ∙ is) in
-            rw (← g.2) (own g.0 (found-serial tree n g.0 g.1) ok))
-        | inr other ↦ keep f (childless-at tree s f all (sym (frame_at-other-with_state n state tree s other) ∙ is))
-      ]
+  childless-with_state ok all = grind (arith, each-childless, found-each, tree-rising, tree-with_state, has_child-with_state, cases_eq, found-with_state, found-serial, childless-at, frame_at-other-with_state)
 
 pub childless-from : (new : Tree) → IsTree new → ((s : ℕ) (f : F) → frame_at new s ≡ Some f → IsMarkedChildless new f) → AreMarkedChildless new new
 childless-from new t at = each-childless new new (found-each (IsMarkedChildless new) new (tree-rising new t) at)

@@ -1,5 +1,5 @@
 -- Every step keeps the shape of its tenant, and so every answer that of all tenants.
-use Rattle.sched_laws.proofs.Common.{◌≡◌, ◌≢◌, if◌then◌else◌, ℕ, ◌+◌, ◌-◌, ◌*◌, ◌<◌, ◌≤◌, inl, inr, Bool, true, false, not, ◌||◌, ◌&&◌, eqb, ltb, List, [], ◌∷◌, ◌++◌, Option, Some, None, Result, Ok, Err, length, replicate, refl, ap, sym, ◌∙◌, subst, arith, length-append, length-replicate, false≢true, eqb-false, ltb-false, leb-true, leb-false, not-false, or_parts, and_parts, charge, growth_charge, Quota, State, Ready, Running, Computing, FrameId, frame_at, parent_of, root_of, children_of, is_ready, there-found, found-serial, tree-rising, under-there, under-below, aborted-itself, frame_at-other-without, Act, InletAct, Continuation, StepOf, Left, Grow, Spawn, Go, Wait, Compute, Return, Live, Done, Spent as SpentJob, Cancelled as CancelledJob, Refusal, NotReturned, NotSpent, OldTenant, Lower, Admit, AdmitMore, Submit, Take, Steal, Advance, Answer, Inlet, Finish, Spend, Cancel, Leave, Functions, Tree, Tenant, admitted_with, frame_words, words_in, charged_for, left, stored, is_outside, has_child, job_at, kept_words, Neither, mark_of_state, Outcome, unless, lone_step, is_lower, raised, counted, holding, ended, is_frame_size, submit_tests, submitted, take_tests, steal_tests, taken_by, is_run_by, is_returned, act_by_sight, is_bad_then, is_spawn, segments_for, advance_tests, then_done, advanced, answer_tests, answered, inlet_tests, does_wait, staying, taken_in, inlet_under, finish_tests, finished, is_spendable, spent, at_frame, IsShaped}
+use Rattle.sched_laws.proofs.Common.{◌≡◌, ◌≢◌, if◌then◌else◌, ℕ, ◌+◌, ◌-◌, ◌*◌, ◌<◌, ◌≤◌, inl, inr, Bool, true, false, not, ◌||◌, ◌&&◌, eqb, ltb, List, [], ◌∷◌, ◌++◌, Option, Some, None, Result, Ok, Err, length, replicate, refl, ap, sym, ◌∙◌, subst, arith, length-append, length-replicate, false≢true, eqb-false, ltb-false, leb-true, leb-false, not-false, or_parts, and_parts, charge, growth_charge, Quota, State, Ready, Running, Computing, FrameId, frame_at, parent_of, root_of, children_of, is_ready, there-found, found-serial, tree-rising, under-there, under-below, aborted-itself, frame_at-other-without, Act, InletAct, Continuation, StepOf, Grow, Spawn, Go, Wait, Compute, Return, Live, Done, Spent as SpentJob, Cancelled as CancelledJob, Refusal, NotSpent, OldTenant, Lower, Admit, AdmitMore, Submit, Take, Steal, Advance, Answer, Inlet, Finish, Spend, Cancel, Leave, Functions, Tree, Tenant, admitted_with, frame_words, words_in, charged_for, left, stored, is_outside, has_child, job_at, kept_words, Neither, mark_of_state, Outcome, unless, lone_step, is_lower, raised, counted, holding, ended, is_frame_size, submit_tests, submitted, take_tests, steal_tests, taken_by, is_run_by, is_returned, act_by_sight, is_bad_then, is_spawn, segments_for, advance_tests, then_done, advanced, answer_tests, answered, inlet_tests, does_wait, staying, taken_in, finish_tests, finished, is_spendable, spent, at_frame, IsShaped}
 use Rattle.sched_laws.proofs.Holds.{frame_at-with_frame_words, charged-with_frame_words, F, found-own}
 use Rattle.sched_laws.proofs.Parts.{childless-at, no-child, has_child-with_frame_words, words-at, shaped-counted, shaped-in_state, shaped-holding, shaped-aborted, shaped-without, shaped-ended, shaped-child, shaped-root}
 use Rattle.sched_rules.proofs.StoreLemmas.{length-stored}
@@ -74,32 +74,16 @@ module _ {I A : Type 0} (functions : Functions I A) (tenant : Tenant) where
   by-effects (Steal worker from name) outcome P is each =
       passed-at P tenant.frames name.serial (steal_tests tenant worker from) (taken_by tenant worker) outcome is
       (λ f at p. each.at_take worker name.serial f at p.0 p.1.1.0)
-  by-effects (Advance worker name) outcome P is each =
-      let act = act_by_sight functions tenant in
-      passed-at P tenant.frames name.serial (λ f. advance_tests tenant worker f (act f)) (λ f. advanced functions tenant worker name f (act f)) outcome is
-      (each.at_advance worker name)
-  by-effects (Answer worker name answer) outcome P is each =
-      passed-at P tenant.frames name.serial (λ f. answer_tests functions tenant worker f answer) (λ f. answered functions tenant worker f answer) outcome is
-      (λ f at p. each.at_answer worker name.serial f answer at p)
-  by-effects (Inlet worker name) outcome P is each =
-      let f = frame-found tenant.frames name.serial (λ frame. inlet_under functions tenant worker name frame (parent_of frame.path)) outcome is in
-      by f.0 f.1 (parent_of f.0.path) refl f.2
-    where
-      by : (f : F) → frame_at tenant.frames name.serial ≡ Some f → (parent : Option ℕ) → parent_of f.path ≡ parent →
-          inlet_under functions tenant worker name f parent ≡ Ok outcome → P outcome.0
-      by f at None named e = (let no : ◌≡◌ {A = Result (Outcome I) Refusal} (Err NotReturned) (Ok outcome) = e in absurd cc)
-      by f at (Some parent) named e =
-          let act = functions.inlet (words_in tenant.frames parent) f.value in
-          passed P (inlet_tests tenant worker f parent act) (taken_in tenant worker name parent act) outcome e (each.at_inlet worker name f parent at named)
+  by-effects (Advance worker name) outcome P is each = grind (arith, passed-at)
+  by-effects (Answer worker name answer) outcome P is each = grind (arith, passed-at, answered)
+  by-effects (Inlet worker name) outcome P is each = grind (arith, frame-found, passed)
   by-effects (Finish worker name) outcome P is each =
       passed-at P tenant.frames name.serial (finish_tests tenant worker) (finished tenant) outcome is (each.at_finish worker name.serial)
   by-effects (Spend name) outcome P is each =
       passed-at P tenant.frames name.serial (λ f. (not (is_spendable functions tenant f), NotSpent) ∷ []) (spent tenant) outcome is
       (λ f at p. each.at_spend name.serial f at)
   by-effects (Cancel number job) outcome P is each = grind (arith, came)
-  by-effects (Leave number) outcome P is each =
-      let e : ◌≡◌ {A = Result (Outcome I) Refusal} (Ok (None, Left)) (Ok outcome) = is in
-      let own : ◌≡◌ {A = Outcome I} (None, Left) outcome = cc in came P (None, Left) outcome own (each.at_leave number refl)
+  by-effects (Leave number) outcome P is each = grind (arith, came)
 
 -- P holds of what each kind of step leaves. Those of workers but Finish count one more step, and change only frames and serials
 pub record HoldsOfKinds {A : Type 0} (tenant : Tenant) (step : StepOf A) (P : Option Tenant → Type 0) : Type 0 where

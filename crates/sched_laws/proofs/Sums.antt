@@ -1,5 +1,5 @@
 -- What all tenants have reserved and are charged, under each answer.
-use Rattle.sched_laws.proofs.Common.{◌≡◌, ◌↔◌, ℕ, ◌+◌, ◌*◌, ◌≤◌, false, List, [], ◌∷◌, Option, Some, None, Result, Ok, Err, refl, ap, sym, ◌∙◌, arith, sum_by-cons, false≢true, ltb-false, le-ltb, or_parts, Quota, reserved_segments, reserved_nodes, Account, Refusal, Lower, StepOf, Admit, AdmitMore, DidOf, Admitted, Functions, Tenant, admitted_with, account_in, charged_for, left, Outcome, lone, lone_step, is_lower, raised, tenant_of, free_in, CoreState, tenant_in, with_tenant, without_tenant, with_outcome, accounts_in, reservations_in, is_full, is_beyond, admit_tests, step_result, shared_after, charged_in, is_admission, after_answer, after_answers, there, IsShaped, AreShaped, IsReservedWithin, IsCovered, opened}
+use Rattle.sched_laws.proofs.Common.{◌≡◌, ◌↔◌, ℕ, ◌+◌, ◌*◌, ◌≤◌, false, List, [], ◌∷◌, Option, Some, None, Result, Ok, Err, refl, ap, sym, ◌∙◌, arith, sum_by-cons, false≢true, ltb-false, le-ltb, or_parts, Quota, reserved_segments, reserved_nodes, Account, Refusal, Lower, StepOf, Admit, AdmitMore, DidOf, Admitted, Functions, Tenant, admitted_with, account_in, charged_for, left, Outcome, lone, lone_step, is_lower, raised, tenant_of, free_in, CoreState, tenant_in, with_tenant, without_tenant, with_outcome, accounts_in, reservations_in, is_full, is_beyond, admit_tests, step_result, shared_after, charged_in, is_admission, after_answer, after_answers, there, IsShaped, AreShaped, IsReservedWithin, IsCovered}
 use Rattle.sched_laws.proofs.Shaped.{unless-passed, by-kinds}
 use Rattle.sched_laws.proofs.FitAnswers.{taken-alone, taken-more-there}
 use Rattle.sched_laws.proofs.Consequences.{more-taken}
@@ -54,15 +54,7 @@ KeepsReserve quota (Some tenant) = tenant.reserve ≡ quota
 -- every step but an admission of more
 step-reserve : {I A : Type 0} (functions : Functions I A) (tenant : Tenant) (step : StepOf A) (outcome : Outcome I) → is_admission step ≡ false →
     lone_step functions tenant step ≡ Ok outcome → KeepsReserve tenant.reserve outcome.0
-step-reserve functions tenant step outcome no_admission is = by-kinds functions tenant step outcome (KeepsReserve tenant.reserve) is (record {
-  at_raise = λ number quota more. absurd (false≢true (sym no_admission ∙ ap is_admission more));
-  at_submit = λ serials root frames. refl;
-  at_work = λ serials frames. refl;
-  at_finish = λ root words. refl;
-  at_spend = λ serial f found. refl;
-  at_cancel = λ number root found. refl;
-  at_leave = λ number leaves. tt;
-})
+step-reserve functions tenant step outcome no_admission is = grind (arith, by-kinds, false≢true)
 
 -- a number that goes by what is reserved, after a tenant came to this
 module _ (m : Quota → ℕ) (es : Entries) where

@@ -1,18 +1,16 @@
 -- A tenant is admitted: an account, places and a list of jobs of its own, after all others, and nothing else.
-use Rattle.std.proofs.Common.{◌≡◌, ◌≢◌, ℕ, ◌+◌, ◌^◌, ◌<◌, ◌≤◌, inl, inr, false, List, [], ◌∷◌, ◌++◌, length, None, refl, ap, sym, ◌∙◌, subst, arith, Option, zero, suc, replicate, sum_by, IsSome}
-use Rattle.sched_store.proofs.Common.{Account, FrameId, ltb, leb, inserted, IsAboveOwn, with_admitted, Quota, IsAbove}
-use Rattle.sched_store.proofs.Common.{length-replicate, with_reserve, Tenant, admitted_with, Nodes, node_at, charge_of, total_charge}
-use Rattle.sched_store.proofs.Common.{frame_at, IsTree, frames_of, places_of, tenant_count, KeepsOtherTenants, JobListOf}
-use Rattle.sched_store.proofs.Common.{owner_of_jobs, jobs_of, numbers_of, is_there, Parts, with_words_of_nodes, tenant_from, tenants_from, shared_of}
-use Rattle.sched_store.proofs.Common.{cases_eq, ne_eqb, leb-false, ltb-false, or_parts, lt-ltb, false≢true, CoreState, is_full, reservations_in, tenant_in}
-use Rattle.sched_store.proofs.Common.{reserved_by, is_beyond, owner_of_account, account_of, fresh, with_new, raised_to, IsStored, IsAccountFor}
-use Rattle.sched_store.proofs.Common.{AreFramesNodes, numbers_in, AreAtMost, frame_in_trees, node_of, Reservations, IsSoundBook, HasRoom, Admits}
+use Rattle.std.proofs.Common.{◌≡◌, ◌≢◌, ℕ, ◌+◌, ◌^◌, ◌<◌, ◌≤◌, inl, inr, false, List, [], ◌∷◌, ◌++◌, length, None, refl, ap, sym, ◌∙◌, arith, Option, zero, suc, replicate}
+use Rattle.sched_store.proofs.Common.{Account, FrameId, inserted, IsAboveOwn, with_admitted, Quota, IsAbove}
+use Rattle.sched_store.proofs.Common.{length-replicate, with_reserve, Tenant, admitted_with, Nodes, node_at}
+use Rattle.sched_store.proofs.Common.{frame_at, frames_of, places_of, tenant_count, KeepsOtherTenants, JobListOf}
+use Rattle.sched_store.proofs.Common.{owner_of_jobs, jobs_of, is_there, Parts, tenant_from, tenants_from, shared_of}
+use Rattle.sched_store.proofs.Common.{cases_eq, ne_eqb, lt-ltb, CoreState, is_full, reservations_in, tenant_in}
+use Rattle.sched_store.proofs.Common.{reserved_by, is_beyond, account_of, fresh, with_new, raised_to, IsStored, IsAccountFor}
+use Rattle.sched_store.proofs.Common.{AreAtMost, Reservations, IsSoundBook, HasRoom, Admits}
 use Rattle.sched_store.proofs.Common.{KeepsOtherAccounts, HasRoomFor, CanRaise, Raises, empty_of}
 use Rattle.numbered_list.proofs.Edits.{said-inserted-own, said-inserted-other}
-use Rattle.sched_store.proofs.Lookups.{agrees-still, its-account, nobodys, within-reserve, Frames, Trees, Owns, none-or-some, Entries, reservations-found, tenant-found, length-numbers, numbers-inserted, no-job_list}
-use Rattle.std.proofs.lemmas.Bool.Decides.{nat_tests}
+use Rattle.sched_store.proofs.Lookups.{its-account, nobodys, within-reserve, Frames, Trees, Owns, Entries, reservations-found, tenant-found, length-numbers, numbers-inserted, no-job_list}
 use Rattle.std.proofs.lemmas.List.Folds.{sum_by-replicate}
-use Rattle.sched_rules.specs.Lone.{is_lower}
 use Rattle.sched_store.proofs.Steps.{SameOthers, TenantStep, Stepped, stepped}
 use Rattle.sched_store.proofs.States.{like-nodes}
 
@@ -20,15 +18,6 @@ use Rattle.sched_store.proofs.States.{like-nodes}
 pub newer-missing : (newest number : ℕ) (entries : Entries) → AreAtMost newest entries → newest < number → account_of number entries ≡ None
 newer-missing newest number [] most newer = refl
 newer-missing newest number (entry ∷ entries) most newer = grind (arith, newer-missing newest number entries most.1 newer, ne_eqb)
-
--- there are as many lists of jobs as accounts
-module _ (parts : Parts) (stored : IsStored parts) where
-  pub many-job_lists : length parts.job_lists ≡ length parts.book.accounts
-  many-job_lists = sym (length-numbers owner_of_jobs parts.job_lists) ∙ ap length stored.job_lists ∙ length-numbers owner_of_account parts.book.accounts
-
-  -- what a core that isn't full has room for
-  pub room-found : (quota : Quota) → is_full (reservations_in (shared_of parts)) quota ≡ false → HasRoom parts.book quota
-  room-found quota not_full = grind (arith, reservations-found, leb, ltb, or_parts, leb-false, ltb-false)
 
 -- what can be admitted
 pub record CanBeAdmitted (parts : Parts) (number : ℕ) (quota : Quota) : Type 0 where
@@ -39,8 +28,8 @@ pub record CanBeAdmitted (parts : Parts) (number : ℕ) (quota : Quota) : Type 0
   pub few_job_lists : length parts.job_lists < 64
   pub room : HasRoom parts.book quota
 
-pub can-be-admitted : (parts : Parts) (number : ℕ) (quota : Quota) {core : CoreState} → IsStored parts → shared_of parts ≡ core → core.newest < number → is_full (reservations_in core) quota ≡ false → CanBeAdmitted parts number quota
-can-be-admitted parts number quota stored is above not_full = grind (arith, room-found, newer-missing, many-job_lists, nobodys)
+pub can-be-admitted : {parts : Parts} (number : ℕ) (quota : Quota) {core : CoreState} → IsStored parts → shared_of parts ≡ core → core.newest < number → is_full (reservations_in core) quota ≡ false → CanBeAdmitted parts number quota
+can-be-admitted number quota stored is above not_full = grind (arith, newer-missing, nobodys, reservations-found, length-numbers)
 
 -- what an admission was told by the table and the book
 pub record IsAdmitted (parts : Parts) (trees : Trees) (job_list : JobListOf) (book : Reservations) (number : ℕ) (quota : Quota) : Type 0 where
@@ -64,15 +53,9 @@ new-last : (newest number : ℕ) (account : Account) (entries : Entries) → Are
 new-last newest number account [] most newer = refl
 new-last newest number account (entry ∷ entries) most newer = grind (arith, new-last newest number account entries most.1 newer, lt-ltb)
 
-pub same-belongs : (nodes : Nodes) (trees after : Trees) → ((other : ℕ) → frames_of after other ≡ frames_of trees other) → AreFramesNodes nodes trees → AreFramesNodes nodes after
-same-belongs nodes trees after same belong = like-nodes nodes trees after belong (record {
-  nodes = λ owner serial. rw (same owner) refl;
-  frames = λ owner serial frame at. record { was = frame; there = rw (same owner) at at; value = refl; path = refl };
-})
-
 most-pushed : (newest number : ℕ) (entries : Entries) (account : Account) → AreAtMost newest entries → newest < number → AreAtMost number (entries ++ (number, account) ∷ [])
 most-pushed newest number [] account most newer = (omega arith, tt)
-most-pushed newest number (entry ∷ entries) account most newer = (let low : entry.0 ≤ newest = most.0 in omega (arith, low, newer), most-pushed newest number entries account most.1 newer)
+most-pushed newest number (entry ∷ entries) account most newer = grind (arith, most-pushed newest number entries account most.1 newer)
 
 tenants-pushed : (parts after : Parts) (newest number : ℕ) (account : Account) (entries : Entries) → AreAtMost newest entries → newest < number →
     SameOthers parts after number →
@@ -84,7 +67,7 @@ tenants-pushed parts after newest number account (entry ∷ entries) most newer 
     rw (others entry.0 entry.1 differs, tenants-pushed parts after newest number account entries most.1 newer others) refl
 
 -- after an admission the new account stands behind all others
-module _ (parts : Parts) (trees : Trees) (job_list : JobListOf) (book : Reservations) (number : ℕ) (quota : Quota) (stored : IsStored parts)
+module _ {parts : Parts} {trees : Trees} {job_list : JobListOf} {book : Reservations} {number : ℕ} {quota : Quota} (stored : IsStored parts)
     (is : IsAdmitted parts trees job_list book number quota) where
   accounts-after : book.accounts ≡ parts.book.accounts ++ (number, fresh quota) ∷ []
   accounts-after = grind (arith, new-last)
@@ -92,7 +75,7 @@ module _ (parts : Parts) (trees : Trees) (job_list : JobListOf) (book : Reservat
   -- no tenant's frames change
   same-frames : (other : ℕ) → frames_of trees other ≡ frames_of parts.trees other
   same-frames other = elim (cases_eq other number) [
-    | inl here ↦ rw here (is.frames ∙ sym (nobodys parts stored number (newer-missing parts.newest number parts.book.accounts stored.taken is.newer)).1)
+    | inl here ↦ rw here (is.frames ∙ sym (nobodys stored number (newer-missing parts.newest number parts.book.accounts stored.taken is.newer)).1)
     | inr differs ↦ is.kept.frames other differs
   ]
 
@@ -106,19 +89,15 @@ module _ (parts : Parts) (trees : Trees) (job_list : JobListOf) (book : Reservat
       let longer = is.admits.tenants in
       record {
         book = is.sound;
-        frames_nodes = same-belongs parts.nodes parts.trees trees frames stored.frames_nodes;
-        accounts = λ other. elim (cases_eq other number) [
-          | inl here ↦ rw (here, is.admits.account) own
-          | inr differs ↦ rw (is.others.others other differs)
-              (agrees-still parts.nodes parts.nodes parts.trees trees other (account_of other parts.book.accounts) (is.kept.places other differs) (frames other) (ap (with_words_of_nodes parts.nodes) (frames other)) (stored.accounts other))
-        ];
-        forest = λ other. rw (frames other) (stored.forest other);
+        frames_nodes = grind (arith, like-nodes);
+        accounts = λ other. grind arith;
+        forest = grind arith;
         tenants = omega (arith, tenants, more, longer);
         charges = stored.charges ∙ sym is.admits.charged;
         segments = stored.segments ∙ sym is.others.segments;
-        job_lists = numbers-inserted owner_of_jobs job_list parts.job_lists ∙ ap (λ (l : JobListOf). inserted (λ k. k) l.0 (numbers_of parts.job_lists)) is.job_list_is ∙ ap (inserted (λ k. k) number) stored.job_lists ∙ sym (ap (λ (b : Reservations). numbers_in b.accounts) is.admits.whole ∙ numbers-inserted owner_of_account (number, fresh quota) parts.book.accounts);
+        job_lists = grind (arith, numbers-inserted);
         places = λ worker owner serial frame at held. stored.places worker owner serial frame (sym (ap (λ (xs : Frames). frame_at xs serial) (frames owner)) ∙ at) held;
-        taken = rw accounts (most-pushed parts.newest number parts.book.accounts (fresh quota) stored.taken is.newer);
+        taken = grind (arith, most-pushed);
         newest = is.within;
       }
     where
@@ -132,27 +111,16 @@ module _ (parts : Parts) (trees : Trees) (job_list : JobListOf) (book : Reservat
       let frames = same-frames in
       let first : job_list.0 ≡ number = ap (λ (l : JobListOf). l.0) is.job_list_is in
       let none : job_list.1 ≡ [] = ap (λ (l : JobListOf). l.1) is.job_list_is in
-      let others : SameOthers parts after number =
-      λ other a differs. rw (said-inserted-other owner_of_jobs (λ (l : JobListOf). l.1) [] other job_list parts.job_lists (λ e. differs (sym e ∙ first)), frames other) refl in
+      let others : SameOthers parts after number = grind (arith, said-inserted-other) in
       let missing = no-job_list number parts.job_lists parts.book.accounts stored.job_lists (newer-missing parts.newest number parts.book.accounts stored.taken is.newer) in
       let jobs : jobs_of (inserted owner_of_jobs job_list parts.job_lists) number ≡ [] = ap (jobs_of (inserted owner_of_jobs job_list parts.job_lists)) (sym first) ∙ said-inserted-own owner_of_jobs (λ (l : JobListOf). l.1) [] job_list parts.job_lists (ap (λ (n : ℕ). is_there n parts.job_lists) first ∙ missing) ∙ none in
       let mine : tenant_from after number (fresh quota) ≡ admitted_with quota = rw (jobs, is.frames) refl in
-      let tenants = tenants-pushed parts after parts.newest number (fresh quota) parts.book.accounts stored.taken is.newer others ∙ ap (λ (t : Tenant). tenants_from parts parts.book.accounts ++ (number, t) ∷ []) mine in
-      let whole = ap (tenants_from after) accounts-after ∙ tenants in
-      rw (is.others.segments, is.others.nodes) (ap (λ (entries : List (ℕ × Tenant)). with-entries entries) whole)
+      let tenants = tenants-pushed parts after parts.newest number (fresh quota) parts.book.accounts stored.taken is.newer others ∙ ap (λ (t : Tenant). tenants_from parts parts.book.accounts ++ (number, t) ∷ []) mine in grind (arith, accounts-after)
     where
       with-entries : List (ℕ × Tenant) → CoreState
       with-entries entries = record { totals = record { segments = parts.book.segments; nodes = parts.book.nodes }; newest = number; tenants = entries }
 
 -- A tenant's reservation is raised: its account and its places, and nothing else.
-
--- a reservation that isn't lower is above
-not-lower : (own quota : Quota) → is_lower own quota ≡ false → IsAbove own quota
-not-lower own quota is = grind (arith, nat_tests)
-
--- and one that isn't beyond has room
-not-beyond : (book : Reservations) (own quota : Quota) → is_beyond book own quota ≡ false → HasRoomFor book own quota
-not-beyond book own quota is = grind (arith, nat_tests)
 
 -- what can be raised
 pub record CanBeRaised (parts : Parts) (number : ℕ) (quota : Quota) : Type 0 where
@@ -163,13 +131,13 @@ pub record CanBeRaised (parts : Parts) (number : ℕ) (quota : Quota) : Type 0 w
   pub places : places_of parts.trees number ≡ account.reserve.segments
   pub some : 1 ≤ account.reserve.segments
 
-pub can-be-raised : (parts : Parts) (number : ℕ) (quota : Quota) {core : CoreState} → IsStored parts → shared_of parts ≡ core → IsAboveOwn (tenant_in core.tenants number) quota →
+pub can-be-raised : {parts : Parts} (number : ℕ) (quota : Quota) {core : CoreState} → IsStored parts → shared_of parts ≡ core → IsAboveOwn (tenant_in core.tenants number) quota →
     is_beyond (reservations_in core) (reserved_by (tenant_in core.tenants number)) quota ≡ false → CanBeRaised parts number quota
-can-be-raised parts number quota stored is own_above own_room = grind (arith, none-or-some (account_of number parts.book.accounts), tenant-found, its-account, not-lower, not-beyond, reservations-found, within-reserve)
+can-be-raised {parts} number quota stored is own_above own_room = grind (arith, tenant-found, reservations-found, within-reserve)
 
 -- so the book allows it
-pub book-raises : (parts : Parts) (number : ℕ) (quota : Quota) → CanBeRaised parts number quota → CanRaise parts.book number quota
-book-raises parts number quota can = rw can.there (can.above, can.room)
+pub book-raises : {parts : Parts} {number : ℕ} {quota : Quota} → CanBeRaised parts number quota → CanRaise parts.book number quota
+book-raises can = rw can.there (can.above, can.room)
 
 -- what was told by the table and the book
 pub record IsRaised (parts : Parts) (trees : Trees) (book : Reservations) (number : ℕ) (quota : Quota) : Type 0 where
@@ -186,17 +154,13 @@ abbrev pub with_more : Parts → Trees → Reservations → Parts
 with_more parts trees book = record parts { trees = trees; book = book }
 
 -- a raise changes no frames, and no account but the tenant's
-module _ (parts : Parts) (trees : Trees) (book : Reservations) (number : ℕ) (quota : Quota) (stored : IsStored parts) where
+module _ {parts : Parts} {trees : Trees} {book : Reservations} {number : ℕ} (quota : Quota) (stored : IsStored parts) where
   raised-frames : IsRaised parts trees book number quota → (other : ℕ) → frames_of trees other ≡ frames_of parts.trees other
-  raised-frames is other = elim (cases_eq other number) [
-    | inl here ↦ rw here is.frames
-    | inr differs ↦ is.kept.frames other differs
-  ]
+  raised-frames is other = grind arith
 
   raise-step : (is : IsRaised parts trees book number quota) → TenantStep parts (with_more parts trees book) number (raised_to quota) is.can.account
   raise-step is =
-      let account = is.can.account in
-      let own = its-account parts stored number account is.can.there in
+      let own = its-account stored number is.can.there in
       let frames = raised-frames is in
       record {
         there = is.can.there;
@@ -205,7 +169,7 @@ module _ (parts : Parts) (trees : Trees) (book : Reservations) (number : ℕ) (q
         trees = is.kept;
         count = is.count;
         tree = rw is.frames (stored.forest number);
-        frames_nodes = same-belongs parts.nodes parts.trees trees frames stored.frames_nodes;
+        frames_nodes = grind (arith, like-nodes);
         segments = refl;
         charges = stored.charges ∙ sym is.raises.charged;
         own = grind arith;
@@ -239,30 +203,4 @@ pub record AreNew (nodes : Nodes) (trees : Trees) (job_lists : List JobListOf) (
 
 pub new-stored : (nodes : Nodes) (trees : Trees) (job_lists : List JobListOf) (book : Reservations) (places : List (Option FrameId)) (segments nodes_in_all : ℕ) → AreNew nodes trees job_lists book segments nodes_in_all →
     IsStored (record { nodes = nodes; book = book; trees = trees; job_lists = job_lists; places = places; newest = 0 })
-new-stored nodes trees job_lists book places segments nodes_in_all is =
-    let no_accounts : book.accounts ≡ [] = ap (λ (b : Reservations). b.accounts) is.empty in
-    let count = is.count in
-    let many = ap length no_accounts in
-    record {
-      book = is.sound;
-      frames_nodes = record {
-        nodes_of_frames = λ owner serial frame at. absurd (let none = missing owner serial in cc (none, at));
-        once = λ owner serial other_owner other_serial node these those. absurd (let none = ap node_of (missing owner serial) in cc (none, these));
-        no_other = λ node open_one. absurd (closed node open_one);
-      };
-      accounts = λ number. rw no_accounts (is.places number, is.frames number);
-      forest = λ number. subst (λ (xs : Frames). IsTree xs) (sym (is.frames number)) tt;
-      tenants = omega (arith, count, many);
-      charges = ap total_charge is.stack ∙ (sum_by-replicate charge_of segments None ∙ omega arith) ∙ sym (ap (λ (b : Reservations). sum_by (λ (e : ℕ × Account). Account.charged e.1) b.accounts) is.empty);
-      segments = ap length is.stack ∙ length-replicate segments None ∙ sym (ap (λ (b : Reservations). b.segments) is.empty);
-      job_lists = ap numbers_of is.jobs ∙ sym (ap numbers_in no_accounts);
-      places = λ worker owner serial frame at held. absurd (let none = missing owner serial in cc (none, at));
-      taken = subst (λ (es : List (ℕ × Account)). AreAtMost 0 es) (sym no_accounts) tt;
-      newest = omega arith;
-    }
-  where
-    missing : (owner serial : ℕ) → frame_in_trees trees owner serial ≡ None
-    missing owner serial = ap (λ (xs : Frames). frame_at xs serial) (is.frames owner)
-
-    closed : (node : ℕ) → IsSome (node_at nodes node) → ⊥
-    closed node open_one = false≢true (subst IsSome (ap (λ (ns : Nodes). node_at ns node) is.stack ∙ none-open segments node) open_one)
+new-stored nodes trees job_lists book places segments nodes_in_all is = grind (arith, sum_by-replicate, length-replicate, none-open)

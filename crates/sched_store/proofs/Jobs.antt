@@ -1,6 +1,6 @@
 -- The jobs of one tenant: found by number, begun and ended.
 use Rattle.sched_store.proofs.Common.{◌≡◌, ◌≢◌, ℕ, zero, suc, ◌<◌, ◌≤◌, ◌+◌, ◌-◌, true, false, List, [], ◌∷◌, ◌++◌, length, get_or, drop, Some, None, refl, ap}
-use Rattle.sched_store.proofs.Common.{sym, ◌∙◌, arith, inl, inr, set, cases_Bool, false≢true, true≢false, ne_eqb, or_parts, or_from, Job, Live}
+use Rattle.sched_store.proofs.Common.{sym, ◌∙◌, arith, inl, inr, set, cases_Bool, true≢false, ne_eqb, or_parts, or_from, Job, Live}
 use Rattle.sched_store.proofs.Common.{is_live_at, job_at, number_from, job_under, with_ended, is_live, is_live_in, AreLiveOnce, JobListOf}
 use Rattle.sched_store.proofs.Common.{owner_of_jobs, jobs_of, with_jobs, find_by_number, change_by_number}
 use Rattle.std.proofs.Math.Bool.{or-true}
@@ -20,14 +20,12 @@ job_at-zero (job ∷ jobs) = job_at-zero jobs
 
 pub job_at-past : (jobs : Jobs) (number : ℕ) → length jobs < number → job_at jobs number ≡ None
 job_at-past [] number past = refl
-job_at-past (job ∷ jobs) number past = rw (ne_eqb number 1 (omega arith)) (job_at-past jobs (number - 1) (omega arith))
+job_at-past (job ∷ jobs) number past = grind (arith, job_at-past jobs (number - 1))
 
 pub job_at-there : (jobs : Jobs) (at : ℕ) (d : Job) → at < length jobs → job_at jobs (suc at) ≡ Some (get_or jobs at d)
 job_at-there [] at d within = absurd (omega arith)
 job_at-there (job ∷ jobs) zero d within = refl
-job_at-there (job ∷ jobs) (suc at) d within =
-    let less : suc (suc at) - 1 ≡ suc at = omega arith in
-    rw (ne_eqb (suc (suc at)) 1 (omega arith), less) (job_at-there jobs at d (omega arith))
+job_at-there (job ∷ jobs) (suc at) d within = grind (arith, job_at-there jobs)
 
 -- the number of the job that lives under a root
 
@@ -50,14 +48,14 @@ number_from-there first at root [] d once within live = absurd (omega arith)
 number_from-there first zero root (job ∷ jobs) d once within live = rw live (omega arith)
 number_from-there first (suc at) root (job ∷ jobs) d once within live =
     elim (cases_Bool (is_live_at root job)) [
-      | inl first_lives ↦ absurd (true≢false (sym (live-there root at jobs d (omega arith) live) ∙ once.0 root first_lives))
+      | inl first_lives ↦ grind (arith, live-there)
       | inr other ↦ rw other (number_from-there (first + 1) at root jobs d once.1 (omega arith) live ∙ omega arith)
     ]
 
 -- none from a place on lives under a root, where none after it does
 pub none-from : (root at : ℕ) (jobs : Jobs) (d : Job) → at < length jobs → is_live_at root (get_or jobs at d) ≡ false → is_live_in root (drop (at + 1) jobs) ≡ false → is_live_in root (drop at jobs) ≡ false
 none-from root at [] d within other none = absurd (omega arith)
-none-from root zero (job ∷ jobs) d within other none = or_from (is_live_at root job) (is_live_in root jobs) other none
+none-from root zero (job ∷ jobs) d within other none = grind arith
 none-from root (suc at) (job ∷ jobs) d within other none = let next : suc at + 1 ≡ suc (at + 1) = omega arith in none-from root at jobs d (omega arith) other (rw next at none)
 
 -- ending a job
@@ -66,11 +64,11 @@ pub ended-none : (root : ℕ) (ended : Job) (jobs : Jobs) → is_live_in root jo
 ended-none root ended [] none = refl
 ended-none root ended (job ∷ jobs) none = grind (arith, or_parts, ended-none root ended jobs)
 
-ended-from : (first at root : ℕ) (ended : Job) (jobs : Jobs) → AreLiveOnce jobs → 0 < first → number_from first root jobs ≡ first + at → with_ended root ended jobs ≡ set jobs at ended
+pub ended-from : (first at root : ℕ) (ended : Job) (jobs : Jobs) → AreLiveOnce jobs → 0 < first → number_from first root jobs ≡ first + at → with_ended root ended jobs ≡ set jobs at ended
 ended-from first at root ended [] once some is = absurd (omega arith)
 ended-from first zero root ended (job ∷ jobs) once some is =
     elim (cases_Bool (is_live_at root job)) [
-      | inl live ↦ rw (live, ended-none root ended jobs (once.0 root live)) refl
+      | inl live ↦ grind (arith, ended-none)
       | inr other ↦ absurd (let found : number_from (first + 1) root jobs ≡ first + 0 = rw other at is in
           not-below (first + 1) first root jobs (omega arith) some (found ∙ omega arith))
     ]
@@ -79,37 +77,26 @@ ended-from first zero root ended (job ∷ jobs) once some is =
     not-below from number root [] low some is = omega arith
     not-below from number root (job ∷ jobs) low some is =
         elim (cases_Bool (is_live_at root job)) [
-          | inl live ↦ (let same : from ≡ number = rw live at is in omega arith)
+          | inl live ↦ grind arith
           | inr other ↦ not-below (from + 1) number root jobs (omega arith) some (rw other at is)
         ]
 ended-from first (suc at) root ended (job ∷ jobs) once some is =
     elim (cases_Bool (is_live_at root job)) [
-      | inl live ↦ absurd (let same : first ≡ first + suc at = rw live at is in omega arith)
-      | inr other ↦ rw other (ap (λ (rest : Jobs). job ∷ rest) (ended-from (first + 1) at root ended jobs once.1 (omega arith) (let found : number_from (first + 1) root jobs ≡ first + suc at = rw other at is in found ∙ omega arith)))
+      | inl live ↦ grind arith
+      | inr other ↦ rw other (ap (λ (rest : Jobs). job ∷ rest) (ended-from (first + 1) at root ended jobs once.1 (omega arith) grind arith))
     ]
-
--- ending the jobs under a root ends the one job of this number; where the number is 0, nothing changes
-module _ (root number : ℕ) (ended : Job) (jobs : Jobs) where
-  pub ended-one : AreLiveOnce jobs → 0 < number → number ≡ job_under root jobs → with_ended root ended jobs ≡ set jobs (number - 1) ended
-  ended-one once some is = ended-from 1 (number - 1) root ended jobs once (omega arith) (sym is ∙ omega arith)
-
-  pub ended-nobody : number ≤ 0 → number ≡ job_under root jobs → with_ended root ended jobs ≡ jobs
-  ended-nobody none is = ended-none root ended jobs (none-number_from 1 root jobs (omega arith) (sym is ∙ omega arith))
 
 -- no two jobs live under one root
 
-not-live : (job : Job) (root : ℕ) → is_live job ≡ false → is_live_at root job ≡ false
-not-live job root ends = grind arith
-
 live-before : (jobs : Jobs) (at root : ℕ) (ended : Job) → is_live ended ≡ false → is_live_in root jobs ≡ false → is_live_in root (set jobs at ended) ≡ false
 live-before [] at root ended ends none = none
-live-before (job ∷ jobs) zero root ended ends none = grind (arith, or_parts, or_from, not-live)
+live-before (job ∷ jobs) zero root ended ends none = grind arith
 live-before (job ∷ jobs) (suc at) root ended ends none = grind (arith, or_parts, or_from, live-before jobs at root ended ends)
 
 pub once-ended : (jobs : Jobs) (at : ℕ) (ended : Job) → is_live ended ≡ false → AreLiveOnce jobs → AreLiveOnce (set jobs at ended)
 once-ended [] at ended ends once = once
-once-ended (job ∷ jobs) zero ended ends once = (λ root live. absurd (false≢true (sym (not-live ended root ends) ∙ live)), once.1)
-once-ended (job ∷ jobs) (suc at) ended ends once = (λ root live. live-before jobs at root ended ends (once.0 root live), once-ended jobs at ended ends once.1)
+once-ended (job ∷ jobs) zero ended ends once = grind arith
+once-ended (job ∷ jobs) (suc at) ended ends once = grind (arith, live-before, once-ended jobs)
 
 live-push : (jobs : Jobs) (root other : ℕ) → root ≢ other → is_live_in other jobs ≡ false → is_live_in other (jobs ++ Live root ∷ []) ≡ false
 live-push [] root other differs none = rw (ne_eqb root other differs) refl
@@ -117,12 +104,10 @@ live-push (job ∷ jobs) root other differs none = grind (arith, or_parts, or_fr
 
 once-push : (jobs : Jobs) (root : ℕ) → is_live_in root jobs ≡ false → AreLiveOnce jobs → AreLiveOnce (jobs ++ Live root ∷ [])
 once-push [] root none once = (λ other live. refl, tt)
-once-push (job ∷ jobs) root none once =
-    let parts = or_parts (is_live_at root job) (is_live_in root jobs) none in
-    (λ other live. live-push jobs root other (λ e. absurd (true≢false (sym live ∙ (rw (← e) parts.0)))) (once.0 other live), once-push jobs root parts.1 once.1)
+once-push (job ∷ jobs) root none once = grind (arith, live-push, true≢false, once-push jobs root)
 
 pub once-begun : (jobs : Jobs) (root : ℕ) → job_under root jobs ≡ 0 → AreLiveOnce jobs → AreLiveOnce (jobs ++ Live root ∷ [])
-once-begun jobs root none once = once-push jobs root (none-number_from 1 root jobs (omega arith) none) once
+once-begun jobs root none once = grind (arith, once-push, none-number_from)
 
 -- the job that was read under its number
 pub job-read : (jobs : Jobs) (number : ℕ) (job : Job) → number ≢ 0 → number - 1 < length jobs → job ≡ get_or jobs (number - 1) job → Some job ≡ job_at jobs number
@@ -139,10 +124,10 @@ All = List JobListOf
 module _ (n : ℕ) (job_lists : All) (job_list : JobListOf) where
   -- the list of jobs that was found, with other jobs
   pub found-changed : (changed : JobListOf) (change : List Job → List Job) → find_by_number owner_of_jobs n job_lists ≡ Some job_list → changed ≡ (job_list.0, change job_list.1) → change_by_number owner_of_jobs n (λ was. changed) job_lists ≡ with_jobs n change job_lists
-  found-changed changed change is new = put-changed owner_of_jobs n (λ (l : JobListOf). (l.0, change l.1)) job_lists job_list changed is new
+  found-changed changed change is new = grind (arith, put-changed)
 
   pub jobs-found : find_by_number owner_of_jobs n job_lists ≡ Some job_list → jobs_of job_lists n ≡ job_list.1
-  jobs-found is = said-found owner_of_jobs (λ (l : JobListOf). l.1) [] n job_lists job_list is
+  jobs-found is = grind (arith, said-found)
 
 -- the jobs of the list that is looked for
 module _ (n : ℕ) (job_lists : All) (found : Option (Bor JobListOf)) (is : option_copied found ≡ find_by_number owner_of_jobs n job_lists) where
@@ -150,7 +135,7 @@ module _ (n : ℕ) (job_lists : All) (found : Option (Bor JobListOf)) (is : opti
   found-jobs = found-said owner_of_jobs (λ (l : JobListOf). l.1) [] n job_lists found is
 
   pub none-found : IfNone found (jobs_of job_lists n ≡ [])
-  none-found = found-none owner_of_jobs (λ (l : JobListOf). l.1) [] n job_lists found is
+  none-found = grind (arith, found-none)
 
 pub ruleset job_laws = (job_at-zero, job-read, job-past)
 

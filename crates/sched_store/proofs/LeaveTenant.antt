@@ -1,14 +1,13 @@
 -- A tenant leaves: its frames go with their nodes, its places, its jobs and its account, and nothing of any other tenant.
-use Rattle.sched_store.proofs.Common.{◌≡◌, ◌≢◌, ℕ, ◌+◌, ◌<◌, ◌≤◌, inl, inr, Bool, false, eqb, List, [], ◌∷◌, length, refl, ap, sym, ◌∙◌, subst, arith}
-use Rattle.sched_store.proofs.Common.{filter, cases_Bool, cases_eq, ne_eqb, eqb-true, eqb-false, Nodes, without, total_charge, Reservations, IsSoundBook, Releases}
+use Rattle.sched_store.proofs.Common.{◌≡◌, ◌≢◌, ℕ, ◌+◌, ◌<◌, inl, inr, Bool, false, eqb, List, [], ◌∷◌, refl, ap, sym, ◌∙◌, subst, arith}
+use Rattle.sched_store.proofs.Common.{filter, cases_Bool, ne_eqb, eqb-true, eqb-false, Nodes, without, total_charge, Reservations, IsSoundBook, Releases}
 use Rattle.sched_store.proofs.Common.{KeepsOtherAccounts, Account, Frame, values_of, frames_of, places_of, tenant_count}
-use Rattle.sched_store.proofs.Common.{Tenant, charged_for, CoreState, without_tenant, with_departed, JobListOf, owner_of_jobs, jobs_of, numbers_of}
-use Rattle.sched_store.proofs.Common.{without_jobs, Parts, with_words_of_nodes, tenants_from, shared_of, IsStored, IsAccountFor, numbers_in}
-use Rattle.sched_store.proofs.Common.{AreAtMost, remove_by_number}
-use Rattle.tenant_quota.specs.Accounts.{owner_of_account, account_of, without as without_account, AllEntries, IsRising, charged_segments}
+use Rattle.sched_store.proofs.Common.{charged_for, without_tenant, with_departed, JobListOf}
+use Rattle.sched_store.proofs.Common.{without_jobs, Parts, with_words_of_nodes, tenants_from, shared_of, IsStored, IsAccountFor}
+use Rattle.tenant_quota.specs.Accounts.{without as without_account, AllEntries, IsRising, charged_segments}
 use Rattle.numbered_list.proofs.Edits.{said-without-other, all-without}
 use Rattle.sched_store.proofs.Steps.{SameOthers}
-use Rattle.sched_store.proofs.Lookups.{agrees-still, its-account, within-reserve, Frames, Trees, tree_in, Owns, numbers-without}
+use Rattle.sched_store.proofs.Lookups.{its-account, within-reserve, Frames, Trees, tree_in, Owns, numbers-without}
 use Rattle.sched_store.proofs.Closing.{IsCut, closed, closing, cut-belongs, cut-places, cut-words, cut-trees, TakesChildren, closing-open, closing-once, closing-children, cut-frees}
 use Rattle.sched_store.proofs.Removing.{length-without, AreClosable}
 
@@ -22,24 +21,22 @@ filter-none (x ∷ xs) = filter-none xs
 
 closed-whole : (xs : Frames) → closed none_stays xs ≡ values_of xs
 closed-whole [] = refl
-closed-whole (x ∷ xs) = ap (λ (ns : List ℕ). x.value ∷ ns) (closed-whole xs)
+closed-whole (x ∷ xs) = grind (arith, closed-whole xs)
 
 -- a tenant that is there has a place at least
-pub has-places : (parts : Parts) → IsStored parts → (number : ℕ) (account : Account) → Owns parts number account → 0 < places_of parts.trees number
-has-places parts stored number account there =
-    let within = within-reserve parts stored number account there in
-    omega (arith, within.some_segments, IsAccountFor.places (its-account parts stored number account there))
+pub has-places : {parts : Parts} → IsStored parts → (number : ℕ) {account : Account} → Owns parts number account → 0 < places_of parts.trees number
+has-places {parts} stored number {account} there = grind (arith, within-reserve)
 
 -- the nodes of all frames of a tenant: open, once, with their children
-pub leave-closes : (parts : Parts) (number : ℕ) (numbers : List ℕ) → IsStored parts → numbers ≡ values_of (frames_of parts.trees number) → AreClosable parts.nodes numbers
-leave-closes parts number numbers stored is =
+pub leave-closes : {parts : Parts} (number : ℕ) (numbers : List ℕ) → IsStored parts → numbers ≡ values_of (frames_of parts.trees number) → AreClosable parts.nodes numbers
+leave-closes {parts} number numbers stored is =
     let tree = stored.forest number in
-    let same : closing parts.trees number none_stays ≡ numbers = closed-whole (frames_of parts.trees number) ∙ sym is in
-    let takes : TakesChildren (frames_of parts.trees number) none_stays = λ serial parent frame above at up at_above out. refl in
+    let same : closing parts.trees number none_stays ≡ numbers = grind (arith, closed-whole) in
+    let takes : TakesChildren (frames_of parts.trees number) none_stays = grind arith in
     subst (AreClosable parts.nodes) same (record {
-      are_open = closing-open parts.nodes parts.trees number none_stays stored.frames_nodes tree;
-      once = closing-once parts.nodes parts.trees number none_stays stored.frames_nodes tree;
-      with_children = closing-children parts.nodes parts.trees number none_stays stored.frames_nodes tree takes;
+      are_open = grind (arith, closing-open);
+      once = grind (arith, closing-once);
+      with_children = closing-children number none_stays stored.frames_nodes tree takes;
     })
 
 -- what a departure was told by the table, the stack, the lists of jobs and the book
@@ -62,7 +59,7 @@ abbrev pub departed : Parts → Nodes → Trees → List JobListOf → Reservati
 departed parts nodes trees job_lists book = record parts { nodes = nodes; trees = trees; job_lists = job_lists; book = book }
 
 closed-same : (parts : Parts) (nodes : Nodes) (number : ℕ) (numbers : List ℕ) → numbers ≡ values_of (frames_of parts.trees number) → nodes ≡ without parts.nodes numbers → without parts.nodes (closing parts.trees number none_stays) ≡ nodes
-closed-same parts nodes number numbers values closed_all = ap (without parts.nodes) (closed-whole (frames_of parts.trees number) ∙ sym values) ∙ sym closed_all
+closed-same parts nodes number numbers values closed_all = grind (arith, closed-whole)
 
 -- the tenants of accounts above the one that leaves
 module _ (parts after : Parts) (number : ℕ) where
@@ -83,8 +80,8 @@ module _ (parts after : Parts) (number : ℕ) where
         | inr other ↦ rw (other, others entry.0 entry.1 (eqb-false entry.0 number other), tenants-without entries rising.1 others) refl
       ]
 
-module _ (parts : Parts) (nodes : Nodes) (trees : Trees) (job_lists : List JobListOf) (book : Reservations) (number : ℕ) (numbers : List ℕ)
-    (account : Account) (stored : IsStored parts) (is : IsDeparture parts nodes trees job_lists book number numbers account) where
+module _ {parts : Parts} {nodes : Nodes} {trees : Trees} {job_lists : List JobListOf} {book : Reservations} {number : ℕ} {numbers : List ℕ}
+    {account : Account} (stored : IsStored parts) (is : IsDeparture parts nodes trees job_lists book number numbers account) where
   -- the cut that takes all frames
   leave-cut : IsCut parts.trees trees number none_stays
   leave-cut = grind (arith, filter-none)
@@ -94,15 +91,15 @@ module _ (parts : Parts) (nodes : Nodes) (trees : Trees) (job_lists : List JobLi
   leave-words other differs =
       let cut = leave-cut in
       ap (λ (n : Nodes). with_words_of_nodes n (frames_of trees other)) (sym (closed-same parts nodes number numbers is.values is.closed_all))
-      ∙ cut-words parts.nodes parts.trees trees number none_stays stored.frames_nodes cut other (cut-trees parts.trees trees number none_stays cut other)
+      ∙ cut-words stored.frames_nodes cut other (cut-trees cut other)
       ∙ ap (with_words_of_nodes parts.nodes) (is.other_frames other differs)
 
   leave-charges : total_charge nodes ≡ charged_segments book.accounts
   leave-charges =
-      let frees = cut-frees parts.nodes parts.trees number none_stays stored.frames_nodes (stored.forest number) in
-      let none : charged_for (with_words_of_nodes parts.nodes (filter none_stays (frames_of parts.trees number))) ≡ 0 = ap (λ (xs : Frames). charged_for (with_words_of_nodes parts.nodes xs)) (filter-none (frames_of parts.trees number)) in
+      let frees = cut-frees number none_stays stored.frames_nodes (stored.forest number) in
+      let none : charged_for (with_words_of_nodes parts.nodes (filter none_stays (frames_of parts.trees number))) ≡ 0 = grind (arith, filter-none) in
       let same = ap total_charge (closed-same parts nodes number numbers is.values is.closed_all) in
-      let charged = IsAccountFor.charged (its-account parts stored number account is.there) in
+      let charged = IsAccountFor.charged (its-account stored number is.there) in
       omega (arith, frees, none, same, charged, stored.charges, is.released.charged)
 
   -- what a store keeps true is true after it
@@ -115,32 +112,18 @@ module _ (parts : Parts) (nodes : Nodes) (trees : Trees) (job_lists : List JobLi
       let left = is.released.tenants in
       record {
         book = is.sound;
-        frames_nodes = rw (← same) (cut-belongs parts.nodes parts.trees trees number none_stays stored.frames_nodes cut);
-        accounts = λ other. elim (cases_eq other number) [
-          | inl here ↦ rw (here, is.released.account) (is.places, is.frames)
-          | inr differs ↦ rw (is.others.others other differs)
-              (agrees-still parts.nodes nodes parts.trees trees other (account_of other parts.book.accounts) (is.other_places other differs) (is.other_frames other differs) (leave-words other differs) (stored.accounts other))
-        ];
-        forest = cut-trees parts.trees trees number none_stays cut;
+        frames_nodes = grind (arith, cut-belongs);
+        accounts = λ other. grind (arith, leave-words);
+        forest = cut-trees cut;
         tenants = omega (arith, tenants, fewer, left);
         charges = leave-charges;
-        segments = ap length (sym same) ∙ length-without parts.nodes (closing parts.trees number none_stays) ∙ stored.segments ∙ sym is.others.segments;
-        job_lists = ap numbers_of is.jobs ∙ (numbers-without owner_of_jobs number parts.job_lists ∙ ap (remove_by_number (λ k. k) number) stored.job_lists) ∙ sym (ap (λ (b : Reservations). numbers_in b.accounts) is.released.whole ∙ numbers-without owner_of_account number parts.book.accounts);
-        places = cut-places parts.nodes parts.trees trees number none_stays stored.frames_nodes cut parts.places stored.places;
-        taken = subst (λ (b : Reservations). AreAtMost parts.newest b.accounts) (sym is.released.whole) (all-without (λ (e : ℕ × Account). e.0 ≤ parts.newest) owner_of_account number parts.book.accounts stored.taken);
+        segments = grind (arith, length-without);
+        job_lists = grind (arith, numbers-without);
+        places = cut-places stored.frames_nodes cut parts.places stored.places;
+        taken = grind (arith, all-without);
         newest = stored.newest;
       }
 
   -- and the core is the one before without that tenant
   pub leave-shared : shared_of (departed parts nodes trees job_lists book) ≡ with_departed number (shared_of parts)
-  leave-shared =
-      let after = departed parts nodes trees job_lists book in
-      let others : SameOthers parts after number =
-      λ other a differs. (
-      let jobs : jobs_of job_lists other ≡ jobs_of parts.job_lists other = ap (λ (ls : List JobListOf). jobs_of ls other) is.jobs ∙ said-without-other owner_of_jobs (λ (l : JobListOf). l.1) [] other number parts.job_lists (λ e. differs (sym e)) in
-      rw (jobs, leave-words other differs) refl) in
-      let tenants = tenants-without parts after number parts.book.accounts stored.book.rising others in
-      rw is.released.whole (ap (λ (entries : List (ℕ × Tenant)). with-entries entries) tenants)
-    where
-      with-entries : List (ℕ × Tenant) → CoreState
-      with-entries entries = record { totals = record { segments = parts.book.segments; nodes = parts.book.nodes }; newest = parts.newest; tenants = entries }
+  leave-shared = grind (arith, said-without-other, leave-words, tenants-without)

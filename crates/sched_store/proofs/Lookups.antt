@@ -1,14 +1,14 @@
 -- What is found in the core that a store stands for: tenants, jobs, frames and what they see.
-use Rattle.std.proofs.Common.{◌≡◌, ℕ, ◌<◌, eqb, List, [], ◌∷◌, Some, None, ◌⊎◌, refl, subst, arith, inl, inr, suc, true, false, ◌||◌, Bool, length, ap, sym, ◌∙◌, ◌≤◌, ◌+◌, Option, IfSome, is_some, option_map, option_and_then, ◌-◌, ltb, IsSome, ◌++◌, map, reverse}
-use Rattle.sched_store.proofs.Common.{cases_Bool, eq-eqb, eqb-true, le-leb, lt-leb, lt-ltb, le-ltb, ltb-true, ltb-false, or_left, or_right, false≢true}
-use Rattle.sched_store.proofs.Common.{owner_of_account, account_of, AllEntries, IsRising, charged_segments, Account, has_by_number, change_by_number}
+use Rattle.std.proofs.Common.{◌≡◌, ℕ, ◌<◌, eqb, List, [], ◌∷◌, Some, None, ◌⊎◌, refl, subst, arith, inl, inr, suc, true, false, length, ap, sym, ◌≤◌, ◌+◌, Option, IfSome, is_some, option_map, option_and_then, ltb, IsSome}
+use Rattle.sched_store.proofs.Common.{cases_Bool, eq-eqb, eqb-true}
+use Rattle.sched_store.proofs.Common.{account_of, AllEntries, IsRising, charged_segments, Account, has_by_number, change_by_number}
 use Rattle.sched_store.proofs.Common.{remove_by_number, inserted, JobListOf, owner_of_jobs, numbers_by, numbers_of, is_there, jobs_of, numbers_in, IsStored}
-use Rattle.sched_store.proofs.Common.{frame_in_trees, AreAtMost, node_above, sum_by-cons, node_words, total_charge, Nodes, IsOpen, IsSight, node_parent, Left}
+use Rattle.sched_store.proofs.Common.{frame_in_trees, AreAtMost, node_above, sum_by-cons, node_words, total_charge, Nodes, IsOpen, IsSight, Left}
 use Rattle.sched_store.proofs.Common.{left_in_book, Reservations, IsSoundBook, unreserved_of, FrameId, frame_at, Frame, has_frame, parent_of, name_of}
-use Rattle.sched_store.proofs.Common.{entry_of_frame, ready_name, first_of_two, newest_ready_of, IsTree, map_value, frames_of, Tenant, Tree, TenantTree, charged_for}
+use Rattle.sched_store.proofs.Common.{entry_of_frame, newest_ready_of, IsTree, map_value, frames_of, Tenant, Tree, TenantTree, charged_for}
 use Rattle.sched_store.proofs.Common.{account_in, job_at, sight, words_in, tenant_in, accounts_in, charged_in, reservations_in, is_full, is_beyond, Parts}
-use Rattle.sched_store.proofs.Common.{with_words_of_nodes, tenant_from, tenants_from, shared_of, tree_of, jobs_kept, frames_in_core, jobs_in, AreAfter}
-use Rattle.sched_store.proofs.Common.{AreTenantsRising, AgreesWith, IsAccountFor, places_of, CoreState, AreRising, path_of, sight_of, Quota, Entry, found-there, IsTop, IsUnder, tree-induction, found-serial}
+use Rattle.sched_store.proofs.Common.{with_words_of_nodes, tenant_from, tenants_from, shared_of, tree_of, frames_in_core, jobs_in, AreAfter}
+use Rattle.sched_store.proofs.Common.{AreTenantsRising, IsAccountFor, places_of, CoreState, AreRising, sight_of, Quota, Entry, found-there, IsTop, IsUnder, tree-induction, found-serial}
 use Rattle.sched_store.proofs.Common.{AllEntries-of, IsWithinReserve, reverse-append, map-append, Each, found-each, tree-rising}
 use Rattle.numbered_list.specs.Places.{AreAbove}
 use Rattle.numbered_list.proofs.Edits.{said-lacks, has-above, has-found, lacks-said}
@@ -51,16 +51,9 @@ with_words parts o = option_map (map_value (node_words parts.nodes)) o
 abbrev pub Owns : Parts → ℕ → Account → Type 0
 Owns parts number account = account_of number parts.book.accounts ≡ Some account
 
--- they agree still where the tenant has the same places, frames and words
-pub agrees-still : (nodes after : Nodes) (trees grown : Trees) (number : ℕ) (owner : Option Account) → places_of grown number ≡ places_of trees number → frames_of grown number ≡ frames_of trees number →
-    with_words_of_nodes after (frames_of grown number) ≡ with_words_of_nodes nodes (frames_of trees number) → AgreesWith nodes trees number owner → AgreesWith after grown number owner
-agrees-still nodes after trees grown number None places frames words is = (places ∙ is.0, frames ∙ is.1)
-agrees-still nodes after trees grown number (Some account) places frames words is =
-    record { charged = is.charged ∙ sym (ap charged_for words); places = places ∙ is.places; serials = rw frames is.serials }
-
-module _ (parts : Parts) (stored : IsStored parts) (number : ℕ) where
-  pub its-account : (account : Account) → Owns parts number account → IsAccountFor parts.nodes parts.trees number account
-  its-account account there = rw there at (stored.accounts number)
+module _ {parts : Parts} (stored : IsStored parts) (number : ℕ) where
+  pub its-account : {account : Account} → Owns parts number account → IsAccountFor parts.nodes parts.trees number account
+  its-account there = rw there at (stored.accounts number)
 
   pub nobodys : account_of number parts.book.accounts ≡ None → (places_of parts.trees number ≡ 0) × (frames_of parts.trees number ≡ [])
   nobodys none = rw none at (stored.accounts number)
@@ -71,7 +64,7 @@ none-or-some (Some a) = inr (a, refl)
 
 -- what is true of each account, along the list of accounts
 pub lower-missing : (number : ℕ) (entries : List (ℕ × Account)) → AllEntries (λ later. number < later.0) entries → account_of number entries ≡ None
-lower-missing number entries all = said-lacks owner_of_account (λ e. Some e.1) None number entries (has-above owner_of_account number number entries (omega arith) all)
+lower-missing number entries all = grind (arith, said-lacks, has-above)
 
 pub account-tail : (number : ℕ) (account : Account) (entry : ℕ × Account) (entries : List (ℕ × Account)) → IsRising (entry ∷ entries) → account_of number entries ≡ Some account → account_of number (entry ∷ entries) ≡ Some account
 account-tail number account entry entries rising there =
@@ -86,7 +79,7 @@ account-tail number account entry entries rising there =
 pub each-entry : (P : ℕ → Account → Type 0) (entries : List (ℕ × Account)) → IsRising entries → ((number : ℕ) (account : Account) → account_of number entries ≡ Some account → P number account) → AllEntries (λ entry. P entry.0 entry.1) entries
 each-entry P [] rising all = tt
 each-entry P (entry ∷ entries) rising all =
-    (all entry.0 entry.1 (rw (eq-eqb entry.0 entry.0 refl) refl), each-entry P entries rising.1 (λ number account there. all number account (account-tail number account entry entries rising there)))
+    (all entry.0 entry.1 (rw (eq-eqb entry.0 entry.0 refl) refl), each-entry P entries rising.1 (λ number account there. grind (arith, account-tail)))
 
 -- The numbers of things in a list that changes, and lists whose things have the same numbers.
 
@@ -110,28 +103,22 @@ module _ {X : Type 0} (number_of : X → ℕ) where
 
   has-numbers : (n : ℕ) (xs : List X) → has_by_number number_of n xs ≡ has_by_number (λ k. k) n (numbers_by number_of xs)
   has-numbers n [] = refl
-  has-numbers n (x ∷ xs) = ap (λ (b : Bool). eqb (number_of x) n || b) (has-numbers n xs)
+  has-numbers n (x ∷ xs) = grind (arith, has-numbers n xs)
 
 -- a tenant has a list of jobs exactly where it has an account
 module _ (n : ℕ) (job_lists : List JobListOf) (entries : List (ℕ × Account)) where
-  there-same : numbers_of job_lists ≡ numbers_in entries → is_there n job_lists ≡ has_by_number owner_of_account n entries
-  there-same same = has-numbers owner_of_jobs n job_lists ∙ ap (has_by_number (λ k. k) n) same ∙ sym (has-numbers owner_of_account n entries)
-
   pub job_list-there : (a : Account) → numbers_of job_lists ≡ numbers_in entries → account_of n entries ≡ Some a → is_there n job_lists ≡ true
-  job_list-there a same there = there-same same ∙ has-found owner_of_account n entries (n, a) (entry-of n a entries there)
+  job_list-there a same there = grind (arith, has-found, entry-of, has-numbers)
 
   pub no-job_list : numbers_of job_lists ≡ numbers_in entries → account_of n entries ≡ None → is_there n job_lists ≡ false
-  no-job_list same none = there-same same ∙ lacks-said owner_of_account (λ e. Some e.1) None n entries (λ e is. cc) none
+  no-job_list same none = grind (arith, lacks-said, has-numbers)
 
 -- the lists of jobs rise as the accounts do
 
 above-same : (n : ℕ) (job_lists : List JobListOf) (entries : Entries) → numbers_of job_lists ≡ numbers_in entries → AllEntries (λ later. n < later.0) entries → AreAbove owner_of_jobs n job_lists
 above-same n [] entries same above = tt
 above-same n (job_list ∷ job_lists) [] same above = absurd cc
-above-same n (job_list ∷ job_lists) (entry ∷ entries) same above =
-    let first : job_list.0 ≡ entry.0 = cc in
-    let rest : numbers_of job_lists ≡ numbers_in entries = cc in
-    (rw first above.0, above-same n job_lists entries rest above.1)
+above-same n (job_list ∷ job_lists) (entry ∷ entries) same above = grind (arith, above-same n job_lists entries)
 
 rise-same : (job_lists : List JobListOf) (entries : Entries) → numbers_of job_lists ≡ numbers_in entries → IsRising entries → AreRising owner_of_jobs job_lists
 rise-same [] entries same rising = tt
@@ -141,8 +128,8 @@ rise-same (job_list ∷ job_lists) (entry ∷ entries) same rising =
     let rest : numbers_of job_lists ≡ numbers_in entries = cc in
     (above-same job_list.0 job_lists entries rest (rw first rising.0), rise-same job_lists entries rest rising.1)
 
-pub job_lists-rise : (parts : Parts) → IsStored parts → AreRising owner_of_jobs parts.job_lists
-job_lists-rise parts stored = rise-same parts.job_lists parts.book.accounts stored.job_lists stored.book.rising
+pub job_lists-rise : {parts : Parts} → IsStored parts → AreRising owner_of_jobs parts.job_lists
+job_lists-rise {parts} stored = grind (arith, rise-same)
 
 -- What is found in the core that a store stands for.
 
@@ -151,13 +138,13 @@ tenant_in-tenants_from parts [] number = refl
 tenant_in-tenants_from parts (entry ∷ entries) number = grind (arith, tenant_in-tenants_from parts entries number, eqb-true)
 
 -- what is true of each frame that is found is true of each frame
-pub each-frame : (parts : Parts) → IsStored parts → (number : ℕ) (P : Frame ℕ → Type 0) → ((serial : ℕ) (x : Frame ℕ) → frame_in_trees parts.trees number serial ≡ Some x → P x) → Each P (frames_of parts.trees number)
-each-frame parts stored number P all = found-each P (frames_of parts.trees number) (tree-rising (frames_of parts.trees number) (stored.forest number)) all
+pub each-frame : {parts : Parts} → IsStored parts → (number : ℕ) (P : Frame ℕ → Type 0) → ((serial : ℕ) (x : Frame ℕ) → frame_in_trees parts.trees number serial ≡ Some x → P x) → Each P (frames_of parts.trees number)
+each-frame {parts} stored number P all = grind (arith, found-each, tree-rising)
 
 module _ (parts : Parts) (number : ℕ) where
   -- a tenant is what its account stands for
   pub tenant-found : tenant_in (shared_of parts).tenants number ≡ option_map (tenant_from parts number) (account_of number parts.book.accounts)
-  tenant-found = tenant_in-tenants_from parts parts.book.accounts number
+  tenant-found = grind (arith, tenant_in-tenants_from)
 
   pub tenant-there : is_some (tenant_in (shared_of parts).tenants number) ≡ is_some (account_of number parts.book.accounts)
   tenant-there = grind (arith, tenant-found)
@@ -165,10 +152,10 @@ module _ (parts : Parts) (number : ℕ) where
 named-frames : (parts : Parts) (name : FrameId) → named (shared_of parts) name ≡ frame_at (frames_in_core (shared_of parts) name.tenant) name.serial
 named-frames parts name = grind arith
 
-module _ (parts : Parts) (stored : IsStored parts) where
+module _ {parts : Parts} (stored : IsStored parts) where
   -- its frames are those of the table, each with the words of its node
   pub frames-found : (number : ℕ) → frames_in_core (shared_of parts) number ≡ tree_in parts number
-  frames-found number = grind (arith, tenant-found, nobodys)
+  frames-found number = grind (arith, tenant-found)
 
   -- a frame is that of the table, with the words of its node
   pub named-found : (name : FrameId) → named (shared_of parts) name ≡ with_words parts (framed parts name)
@@ -177,21 +164,18 @@ module _ (parts : Parts) (stored : IsStored parts) where
   -- its jobs are those of its list
 
   pub jobs-found : (number : ℕ) → jobs_in (shared_of parts) number ≡ jobs_of parts.job_lists number
-  jobs-found number = ap jobs_kept (tenant-found parts number) ∙ elim (none-or-some (account_of number parts.book.accounts)) [
-    | inl none ↦ rw none (sym (said-lacks owner_of_jobs (λ (l : JobListOf). l.1) [] number parts.job_lists (no-job_list number parts.job_lists parts.book.accounts stored.job_lists none)))
-    | inr own ↦ rw own.1 refl
-  ]
+  jobs-found number = grind (arith, tenant-found, said-lacks, no-job_list)
 
   -- its account is the book's
 
-  pub account-found : (number : ℕ) (account : Account) → Owns parts number account → account_in (tenant_from parts number account) ≡ account
-  account-found number account is = rw (← (its-account parts stored number account is).charged) refl
+  pub account-found : (number : ℕ) {account : Account} → Owns parts number account → account_in (tenant_from parts number account) ≡ account
+  account-found number {account} is = grind arith
 
-  pub within-reserve : (number : ℕ) (account : Account) → Owns parts number account → IsWithinReserve account
-  within-reserve number account is = AllEntries-of (λ (e : ℕ × Account). IsWithinReserve e.1) number account parts.book.accounts is stored.book.within
+  pub within-reserve : (number : ℕ) {account : Account} → Owns parts number account → IsWithinReserve account
+  within-reserve number {account} is = grind (arith, AllEntries-of)
 
   pub left-found : (number : ℕ) → left_in_core (shared_of parts) number ≡ left_in_book number parts.book
-  left-found number = grind (arith, tenant-found, account-found)
+  left-found number = grind (arith, tenant-found)
 
 abbrev ChargesFrames : Parts → ℕ → Account → Type 0
 ChargesFrames parts number account = account_in (tenant_from parts number account) ≡ account
@@ -199,7 +183,7 @@ ChargesFrames parts number account = account_in (tenant_from parts number accoun
 -- the accounts that the core shows are the book's
 module _ (parts : Parts) where
   all-charged : IsStored parts → AllEntries (λ entry. ChargesFrames parts entry.0 entry.1) parts.book.accounts
-  all-charged stored = each-entry (ChargesFrames parts) parts.book.accounts stored.book.rising (λ number account is. account-found parts stored number account is)
+  all-charged stored = each-entry (ChargesFrames parts) parts.book.accounts stored.book.rising (λ number account is. account-found stored number is)
 
   accounts_in-tenants_from : (entries : Entries) → AllEntries (λ entry. ChargesFrames parts entry.0 entry.1) entries → accounts_in (tenants_from parts entries) ≡ entries
   accounts_in-tenants_from [] all = refl
@@ -207,7 +191,7 @@ module _ (parts : Parts) where
 
   -- all reservations are the book's
   pub reservations-found : IsStored parts → reservations_in (shared_of parts) ≡ parts.book
-  reservations-found stored = rw (accounts_in-tenants_from parts.book.accounts (all-charged stored)) refl
+  reservations-found stored = grind (arith, accounts_in-tenants_from, all-charged)
 
   charged_in-tenants_from : (entries : Entries) → AllEntries (λ entry. ChargesFrames parts entry.0 entry.1) entries → charged_in (tenants_from parts entries) ≡ charged_segments entries
   charged_in-tenants_from [] all = refl
@@ -215,12 +199,9 @@ module _ (parts : Parts) where
       let own : charged_for (tree_in parts entry.0) ≡ entry.1.charged = ap (λ (a : Account). a.charged) all.0 in
       rw (own, charged_in-tenants_from entries all.1) (sym (sum_by-cons (λ (e : ℕ × Account). e.1.charged) entry entries))
 
-  pub charged-found : IsStored parts → charged_in (shared_of parts).tenants ≡ charged_segments parts.book.accounts
-  charged-found stored = charged_in-tenants_from parts.book.accounts (all-charged stored)
-
 -- the free segments are those that no node takes
-pub free-found : (parts : Parts) → IsStored parts → (free taken : ℕ) → free + taken ≡ length parts.nodes → taken ≡ total_charge parts.nodes → free ≡ free_in (shared_of parts)
-free-found parts stored free taken counted is = grind (arith, charged-found)
+pub free-found : {parts : Parts} → IsStored parts → (free taken : ℕ) → free + taken ≡ length parts.nodes → taken ≡ total_charge parts.nodes → free ≡ free_in (shared_of parts)
+free-found stored free taken counted is = grind (arith, charged_in-tenants_from, all-charged)
 
 -- the tenants' numbers were taken, and rise
 module _ (parts : Parts) where
@@ -229,31 +210,27 @@ module _ (parts : Parts) where
   taken-tenants_from newest (entry ∷ entries) all = (all.0, taken-tenants_from newest entries all.1)
 
   pub known-found : IsStored parts → AreNumbersGiven (shared_of parts)
-  known-found stored = taken-tenants_from parts.newest parts.book.accounts stored.taken
+  known-found stored = grind (arith, taken-tenants_from)
 
   after-tenants_from : (number : ℕ) (entries : Entries) → AllEntries (λ later. number < later.0) entries → AreAfter number (tenants_from parts entries)
   after-tenants_from number [] all = tt
-  after-tenants_from number (entry ∷ entries) all = (omega (arith, all.0), after-tenants_from number entries all.1)
+  after-tenants_from number (entry ∷ entries) all = grind (arith, after-tenants_from number entries all.1)
 
   rising-tenants_from : (entries : Entries) → IsRising entries → AreTenantsRising (tenants_from parts entries)
   rising-tenants_from [] rising = tt
-  rising-tenants_from (entry ∷ entries) rising = (after-tenants_from entry.0 entries rising.0, rising-tenants_from entries rising.1)
+  rising-tenants_from (entry ∷ entries) rising = grind (arith, after-tenants_from, rising-tenants_from entries rising.1)
 
   pub rising-found : IsStored parts → AreTenantsRising (shared_of parts).tenants
-  rising-found stored = rising-tenants_from parts.book.accounts stored.book.rising
+  rising-found stored = grind (arith, rising-tenants_from)
 
   -- what a tenant has left is free
   pub left-free : IsStored parts → (left : Option Left) → IfSome left (λ l. charged_segments parts.book.accounts + l.segments ≤ parts.book.segments) → IfSome left (λ l. l.segments ≤ free_in (shared_of parts))
   left-free stored None there = tt
-  left-free stored (Some left) there = rw (charged-found parts stored) (omega (arith, there))
+  left-free stored (Some left) there = grind (arith, charged_in-tenants_from, all-charged)
 
 -- a job is one of its tenant's
 pub job-kept : (core : CoreState) (number job : ℕ) → job_of core number job ≡ job_at (jobs_in core number) job
-job-kept core number job = by (tenant_in core.tenants number)
-  where
-    by : (tenant : Option Tenant) → option_and_then (λ (t : Tenant). job_at t.jobs job) tenant ≡ job_at (jobs_kept tenant) job
-    by None = refl
-    by (Some tenant) = refl
+job-kept core number job = grind arith
 
 pub ruleset job_reads = (job-kept)
 
@@ -262,35 +239,23 @@ pub ruleset job_reads = (job-kept)
 -- a reservation for which tenants, segments or nodes are wanting finds the book full
 module _ (book : Reservations) (rest : Rest) (quota : Quota) where
   pub full-tenants : rest ≡ unreserved_of book → rest.tenants ≡ 0 → true ≡ is_full book quota
-  full-tenants is none = grind (arith, le-leb, or_left)
+  full-tenants is none = grind arith
 
   pub full-segments : (segments : ℕ) → IsSoundBook book → rest ≡ unreserved_of book → segments ≡ quota.segments → rest.segments < segments → true ≡ is_full book quota
-  full-segments segments sound is same short = grind (arith, lt-ltb, or_left, or_right)
+  full-segments segments sound is same short = grind arith
 
   pub full-nodes : (segments nodes : ℕ) → IsSoundBook book → rest ≡ unreserved_of book → segments ≡ quota.segments → nodes ≡ quota.nodes → (rest.tenants ≡ 0 → ⊥) → segments ≤ rest.segments → ltb rest.nodes nodes ≡ is_full book quota
-  full-nodes segments nodes sound is same same_nodes some enough = grind (arith, lt-leb, le-ltb, lt-ltb, ltb-true, ltb-false)
-
--- whether a further reservation has room in the place of a tenant's own
-beyond-less : (total all own asked : ℕ) → all ≤ total → total - all + own < asked → total + own < all + asked
-beyond-less total all own asked within short = omega arith
-
-beyond-enough : (total all own asked : ℕ) → all ≤ total → asked ≤ total - all + own → all + asked ≤ total + own
-beyond-enough total all own asked within enough = omega arith
+  full-nodes segments nodes sound is same same_nodes some enough = grind arith
 
 -- and a raise for which segments or nodes are wanting is beyond the totals
 module _ (book : Reservations) (rest : Rest) (own quota : Quota) (sound : IsSoundBook book) (is : rest ≡ unreserved_of book) where
   pub beyond-segments : rest.segments + own.segments < quota.segments → true ≡ is_beyond book own quota
-  beyond-segments short = grind (arith, beyond-less, or_left, lt-ltb)
+  beyond-segments short = grind arith
 
   pub beyond-nodes : quota.segments ≤ rest.segments + own.segments → ltb (rest.nodes + own.nodes) quota.nodes ≡ is_beyond book own quota
-  beyond-nodes enough = grind (arith, beyond-enough, le-ltb, ltb-true, lt-ltb, beyond-less, ltb-false)
+  beyond-nodes enough = grind arith
 
 -- What is asked of frames with words is what is asked of the table's frames.
-
--- what the table tells of a frame
-entry-is : (tenant : ℕ) (frame : Option (Frame ℕ)) (entry : Entry ℕ) → Some entry ≡ entry_of_frame tenant frame → (f : Frame ℕ) × (frame ≡ Some f) × (entry ≡ record { parent = name_of tenant (parent_of f.path); state = f.state; value = f.value })
-entry-is tenant None entry is = absurd (cc is)
-entry-is tenant (Some f) entry is = (f, refl, cc is)
 
 pub entry-none : (tenant : ℕ) (frame : Option (Frame ℕ)) → None ≡ entry_of_frame tenant frame → frame ≡ None
 entry-none tenant None is = refl
@@ -304,52 +269,43 @@ pub record HasFound (parts : Parts) (name : FrameId) (entry : Entry ℕ) : Type 
   pub is : entry ≡ record { parent = name_of name.tenant (parent_of frame.path); state = frame.state; value = frame.value }
 
 -- the core has the frame of an entry
-module _ (parts : Parts) (stored : IsStored parts) (name : FrameId) (entry : Entry ℕ)
+module _ {parts : Parts} (stored : IsStored parts) (name : FrameId) {entry : Entry ℕ}
     (is : Some entry ≡ entry_in parts name) where
   pub found : HasFound parts name entry
-  found = grind (arith, entry-is, named-found)
+  found = grind (arith, named-found)
 
   pub frame-found : Some (entry.parent, entry.state) ≡ frame_in_core (shared_of parts) name
-  frame-found =
-      let f = found in
-      ap (λ (e : Entry ℕ). Some (e.parent, e.state)) f.is
-      ∙ sym (ap (λ (o : Option (Frame (List ℕ))). option_map (λ (frame : Frame (List ℕ)). (name_of name.tenant (parent_of frame.path), frame.state)) o) f.named)
+  frame-found = grind (arith, found)
 
 -- where there is no entry, the core has no such frame
-module _ (parts : Parts) (stored : IsStored parts) (name : FrameId)
+module _ {parts : Parts} (stored : IsStored parts) (name : FrameId)
     (is : None ≡ entry_in parts name) where
   pub nothing-found : named (shared_of parts) name ≡ None
-  nothing-found = grind (arith, entry-none, named-found)
+  nothing-found = grind (arith, named-found)
 
   pub no-frame-found : None ≡ frame_in_core (shared_of parts) name
   no-frame-found = rw nothing-found refl
 
 newest-with_words_of_nodes : (nodes : Nodes) (tenant : ℕ) (frames : Frames) → newest_ready_of tenant (with_words_of_nodes nodes frames) ≡ newest_ready_of tenant frames
 newest-with_words_of_nodes nodes tenant [] = refl
-newest-with_words_of_nodes nodes tenant (frame ∷ frames) = ap (λ (o : Option (FrameId × ℕ)). first_of_two o (ready_name tenant frame.serial frame.state)) (newest-with_words_of_nodes nodes tenant frames)
+newest-with_words_of_nodes nodes tenant (frame ∷ frames) = grind (arith, newest-with_words_of_nodes nodes tenant frames)
 
 -- a tenant's frames, seen in the core: a tree, with the same newest ready frame
-module _ (parts : Parts) (stored : IsStored parts) where
+module _ {parts : Parts} (stored : IsStored parts) where
   pub tree-found : (number : ℕ) → IsTree (frames_in_core (shared_of parts) number)
-  tree-found number = rw (frames-found parts stored number) (tree-map_values (node_words parts.nodes) (frames_of parts.trees number) (stored.forest number))
+  tree-found number = grind (arith, frames-found, tree-map_values)
 
   pub newest-ready-found : (number : ℕ) → newest_ready_in (shared_of parts) number ≡ newest_ready_of number (frames_of parts.trees number)
-  newest-ready-found number =
-      by (tenant_in (shared_of parts).tenants number)
-      ∙ ap (newest_ready_of number) (frames-found parts stored number)
-      ∙ newest-with_words_of_nodes parts.nodes number (frames_of parts.trees number)
+  newest-ready-found number = grind (arith, by, frames-found, newest-with_words_of_nodes)
     where
       by : (tenant : Option Tenant) → option_and_then (λ (t : Tenant). newest_ready_of number t.frames) tenant ≡ newest_ready_of number (tree_of tenant)
       by None = refl
       by (Some tenant) = refl
 
 -- a frame that is there
-module _ (parts : Parts) (stored : IsStored parts) (name : FrameId) (is : IsSome (named (shared_of parts) name)) where
+module _ {parts : Parts} (stored : IsStored parts) (name : FrameId) (is : IsSome (named (shared_of parts) name)) where
   pub there-frame : (frame : Frame ℕ) × (framed parts name ≡ Some frame)
-  there-frame = elim (none-or-some (framed parts name)) [
-    | inl none ↦ absurd (false≢true (rw (named-found parts stored name ∙ ap (with_words parts) none) at is))
-    | inr found ↦ found
-  ]
+  there-frame = grind (arith, named-found)
 
   pub there-has : has_frame (family parts name) name.serial ≡ true
   there-has = grind (arith, there-frame, found-there)
@@ -365,54 +321,38 @@ abbrev Sees : Parts → ℕ → Frame ℕ → Type 0
 Sees parts number frame = (serial : ℕ) → frame_in_trees parts.trees number serial ≡ Some frame → IsSight parts.nodes (Some frame.value) (sight (tree_in parts number) frame.path)
 
 -- what a frame sees through its node is what it sees in the core
-module _ (parts : Parts) (stored : IsStored parts) (number : ℕ) where
-  top-sees : (frame : Frame ℕ) → IsTop frame → Sees parts number frame
-  top-sees frame top serial at =
-      let T = tree_in parts number in
+module _ {parts : Parts} (stored : IsStored parts) (number : ℕ) where
+  -- its own words, and what is seen from above it
+  sees-first : (serial : ℕ) (frame : Frame ℕ) (levels : List (List ℕ)) → frame_in_trees parts.trees number serial ≡ Some frame → sight (tree_in parts number) frame.path ≡ words_in (tree_in parts number) frame.serial ∷ levels →
+      IsSight parts.nodes (node_above (frames_of parts.trees number) (parent_of frame.path)) levels → IsSight parts.nodes (Some frame.value) (sight (tree_in parts number) frame.path)
+  sees-first serial frame levels at whole above =
       let belongs = stored.frames_nodes.nodes_of_frames number serial frame at in
-      let here = found-serial (frames_of parts.trees number) serial frame at in
-      let words : node_words parts.nodes frame.value ≡ words_in T frame.serial = sym (words-at parts number serial frame at) ∙ ap (words_in T) (sym here) in
-      let parent : node_parent parts.nodes frame.value ≡ None = belongs.parent ∙ ap (node_above (frames_of parts.trees number)) top.0 in
-      subst (λ (path : List ℕ). IsSight parts.nodes (Some frame.value) (sight T path)) (sym top.1)
-      (belongs.is_open, words, subst (λ (p : Option ℕ). IsSight parts.nodes p []) (sym parent) tt)
+      rw whole (belongs.is_open, rw (found-serial (frames_of parts.trees number) serial frame at) (sym (words-at parts number serial frame at)), rw belongs.parent above)
+
+  top-sees : (frame : Frame ℕ) → IsTop frame → Sees parts number frame
+  top-sees frame top serial at = grind (arith, sees-first)
 
   under-sees : (frame : Frame ℕ) → (u : IsUnder (frames_of parts.trees number) frame) → Sees parts number u.above → Sees parts number frame
-  under-sees frame u above_sees serial at =
-      let F = frames_of parts.trees number in
-      let T = with_words_of_nodes parts.nodes F in
-      let g : ℕ → List ℕ = λ s. words_in T s in
-      let belongs = stored.frames_nodes.nodes_of_frames number serial frame at in
-      let here = found-serial F serial frame at in
-      let words : node_words parts.nodes frame.value ≡ words_in T frame.serial = sym (words-at parts number serial frame at) ∙ ap (words_in T) (sym here) in
-      let parent : node_parent parts.nodes frame.value ≡ Some u.above.value = belongs.parent ∙ ap (node_above F) u.named ∙ above-node u.parent u.above u.there in
-      let further : sight T (u.above.path ++ frame.serial ∷ []) ≡ words_in T frame.serial ∷ sight T u.above.path = ap reverse (map-append g u.above.path (frame.serial ∷ [])) ∙ reverse-append (map g u.above.path) (map g (frame.serial ∷ [])) in
-      let whole : sight T frame.path ≡ words_in T frame.serial ∷ sight T u.above.path = ap (sight T) u.path ∙ further in
-      subst (λ (levels : List (List ℕ)). IsSight parts.nodes (Some frame.value) levels) (sym whole)
-      (belongs.is_open, words, subst (λ (p : Option ℕ). IsSight parts.nodes p (sight T u.above.path)) (sym parent) (above_sees u.parent u.there))
-    where
-      above-node : (p : ℕ) (f : Frame ℕ) → frame_at (frames_of parts.trees number) p ≡ Some f → node_above (frames_of parts.trees number) (Some p) ≡ Some f.value
-      above-node p f there = rw there refl
+  under-sees frame u above_sees serial at = grind (arith, sees-first, map-append, reverse-append)
 
   sees : (serial : ℕ) (frame : Frame ℕ) → frame_in_trees parts.trees number serial ≡ Some frame → IsSight parts.nodes (Some frame.value) (sight (tree_in parts number) frame.path)
   sees serial frame at =
       tree-induction (Sees parts number) (frames_of parts.trees number) (stored.forest number) top-sees under-sees serial frame at serial at
 
 -- so what the stack shows is what the frame sees
-module _ (parts : Parts) (stored : IsStored parts) (name : FrameId) where
-  pub sight-found : (entry : Entry ℕ) (levels : List (List ℕ)) → Some entry ≡ entry_in parts name → IsSight parts.nodes (Some entry.value) levels → levels ≡ sight_of (shared_of parts) name
-  sight-found entry levels is seen =
-      let f = found parts stored name entry is in
+module _ {parts : Parts} (stored : IsStored parts) (name : FrameId) where
+  pub sight-found : {entry : Entry ℕ} {levels : List (List ℕ)} → Some entry ≡ entry_in parts name → IsSight parts.nodes (Some entry.value) levels → levels ≡ sight_of (shared_of parts) name
+  sight-found {entry} {levels} is seen =
+      let f = found stored name is in
       let value : entry.value ≡ f.frame.value = ap (λ (e : Entry ℕ). e.value) f.is in
-      let own = sees parts stored name.tenant name.serial f.frame f.there in
-      let same = one-sight parts.nodes (Some f.frame.value) levels (sight (tree_in parts name.tenant) f.frame.path) (subst (λ (v : ℕ). IsSight parts.nodes (Some v) levels) value seen) own in
-      let path : path_of (named (shared_of parts) name) ≡ f.frame.path = ap path_of f.named in
-      same ∙ sym (ap (λ (fs : List (Frame (List ℕ))). sight fs (path_of (named (shared_of parts) name))) (frames-found parts stored name.tenant) ∙ ap (sight (tree_in parts name.tenant)) path)
+      let own = sees stored name.tenant name.serial f.frame f.there in
+      let same = one-sight parts.nodes (Some f.frame.value) levels (sight (tree_in parts name.tenant) f.frame.path) (subst (λ (v : ℕ). IsSight parts.nodes (Some v) levels) value seen) own in grind (arith, frames-found)
 
-  pub entry-open : (entry : Entry ℕ) → Some entry ≡ entry_in parts name → IsOpen parts.nodes entry.value
-  entry-open entry is =
-      let f = found parts stored name entry is in
+  pub entry-open : {entry : Entry ℕ} → Some entry ≡ entry_in parts name → IsOpen parts.nodes entry.value
+  entry-open {entry} is =
+      let f = found stored name is in
       let value : entry.value ≡ f.frame.value = ap (λ (e : Entry ℕ). e.value) f.is in
       subst (λ (n : ℕ). IsOpen parts.nodes n) (sym value) (stored.frames_nodes.nodes_of_frames name.tenant name.serial f.frame f.there).is_open
 
   pub there-not-missing : IsSome (named (shared_of parts) name) → None ≡ entry_in parts name → ⊥
-  there-not-missing some is = false≢true (subst IsSome (nothing-found parts stored name is) some)
+  there-not-missing some is = grind (arith, nothing-found)

@@ -1,16 +1,15 @@
 -- Frames of one tenant are removed, their nodes closed and their segments given back: what the store keeps true stays so.
-use Rattle.std.proofs.Common.{◌≡◌, ◌≢◌, ℕ, ◌+◌, Bool, List, [], ◌∷◌, length, Some, None, refl, ap, sym, ◌∙◌, subst, arith, ◌≤◌, inl, inr, true, false, not, eqb, nat_lt, Option, ◌-◌, IsSome, All, AllPairs, option_map, ◌<◌, IsTrue, is_some}
-use Rattle.sched_store.proofs.Common.{filter, length-set, length-append, Nodes, with_node, without, total_charge, HasNoChild, node_at, node_words, node_parent}
+use Rattle.std.proofs.Common.{◌≡◌, ◌≢◌, ℕ, ◌+◌, Bool, List, [], ◌∷◌, length, Some, None, refl, ap, sym, ◌∙◌, subst, arith, ◌≤◌, inl, inr, true, false, not, eqb, Option, ◌-◌, IsSome, All, AllPairs, ◌<◌, IsTrue, is_some}
+use Rattle.sched_store.proofs.Common.{filter, length-set, length-append, Nodes, with_node, without, total_charge, HasNoChild, node_words}
 use Rattle.sched_store.proofs.Common.{IsOpen, HasAllChildren, credited_by, charged_segments, Reservations, IsSoundBook, ChangesOnly}
-use Rattle.sched_store.proofs.Common.{KeepsOtherAccounts, HasChargedAtLeast, Account, Frame, AllBelow, frame_at, parent_of, children_of}
+use Rattle.sched_store.proofs.Common.{HasChargedAtLeast, Account, Frame, frame_at, parent_of, children_of}
 use Rattle.sched_store.proofs.Common.{frames_without, HasValue, goes_under, aborted, frames_under, values_of, IsTree, path_in}
 use Rattle.sched_store.proofs.Common.{name_of, frames_of, KeepsOtherFrames, AllBelow-filter, tree-without, frame_at-stays, tree-aborted, child-further-under}
-use Rattle.sched_store.proofs.Common.{Tenant, charged_for, has_child, is_root, frame_words, Parts, with_words_of_nodes, shared_of}
-use Rattle.sched_store.proofs.Common.{IsStored, IsAccountFor, frame_in_trees, node_of, node_above, eq-eqb, eqb-true, ne_eqb, ltb-false}
-use Rattle.sched_store.proofs.Common.{false≢true, lt-ltb, le-ltb, FrameId, map_values, is_child_of, AllAboveSerial, AreSerialsRising, tree-rising}
-use Rattle.sched_store.proofs.Common.{children-by-paths, found-path, placed, IsPlaced, frames_in_core, path_of, words_under, jobs_of, ltb, Entry}
-use Rattle.sched_store.proofs.Closing.{IsCut, closing, cut-belongs, cut-places, cut-words, cut-trees, cut-frees, closed, parent-open, above-found, TakesChildren, closing-open, closing-once, closing-children}
-use Rattle.sched_store.proofs.OpenFrame.{node-frame}
+use Rattle.sched_store.proofs.Common.{Tenant, charged_for, has_child, is_root, Parts, with_words_of_nodes, shared_of}
+use Rattle.sched_store.proofs.Common.{IsStored, eqb-true, ne_eqb}
+use Rattle.sched_store.proofs.Common.{FrameId, map_values, is_child_of, AllAboveSerial, AreSerialsRising, tree-rising}
+use Rattle.sched_store.proofs.Common.{children-by-paths, found-path, placed, IsPlaced, frames_in_core, path_of, words_under, Entry}
+use Rattle.sched_store.proofs.Closing.{IsCut, closing, cut-belongs, cut-places, cut-words, cut-trees, cut-frees, closed, child-under, TakesChildren, closing-open, closing-once, closing-children}
 use Rattle.sched_store.proofs.States.{frame-account}
 use Rattle.sched_store.proofs.Steps.{TenantStep, Stepped, stepped, other-tenants, length-with_words_of_nodes}
 use Rattle.frame_table.proofs.TreeValues.{frames_without-map_values, children_of-map_values, aborted-map_values, frames_under-map_values}
@@ -18,45 +17,13 @@ use Rattle.sched_store.proofs.Lookups.{Frames, Trees, family, there-frame, frame
 use Rattle.cactus_stack.proofs.LawFacts.{charge-without}
 use Rattle.sched_rules.specs.Views.{named, words_of_frame}
 use Rattle.std.specs.Option.{is_none}
-use Rattle.std.proofs.lemmas.Bool.{not-false}
 
 pub length-without : (nodes : Nodes) (numbers : List ℕ) → length (without nodes numbers) ≡ length nodes
 length-without nodes [] = refl
 length-without nodes (number ∷ numbers) = length-without (with_node nodes number None) numbers ∙ length-set nodes number None
 
--- what was done: frames of one tenant went, their nodes were closed, and what they took was given back
-pub record IsRemoval (parts : Parts) (trees : Trees) (book : Reservations) (number freed : ℕ) (keep : Frame ℕ → Bool) : Type 0 where
-  pub account : Account
-  pub there : Owns parts number account
-  pub cut : IsCut parts.trees trees number keep
-  pub table : KeepsOtherFrames parts.trees trees number
-  pub frees : total_charge (without parts.nodes (closing parts.trees number keep)) + freed ≡ total_charge parts.nodes
-  pub credited : ChangesOnly parts.book book number (credited_by freed)
-  pub sum : charged_segments book.accounts + freed ≡ charged_segments parts.book.accounts
-  pub others : KeepsOtherAccounts parts.book book number
-  pub sound : IsSoundBook book
-
--- the parts after it
-abbrev pub removed : Parts → Trees → Reservations → ℕ → (Frame ℕ → Bool) → Parts
-removed parts trees book number keep = record parts { nodes = without parts.nodes (closing parts.trees number keep); trees = trees; book = book }
-
--- the words of a tenant that isn't the one
-module _ (parts : Parts) (trees : Trees) (book : Reservations) (number freed : ℕ) (keep : Frame ℕ → Bool) (stored : IsStored parts)
-    (is : IsRemoval parts trees book number freed keep) where
-  other-words : (other : ℕ) → other ≢ number →
-      with_words_of_nodes (without parts.nodes (closing parts.trees number keep)) (frames_of trees other) ≡ tree_in parts other
-  other-words other differs =
-      cut-words parts.nodes parts.trees trees number keep stored.frames_nodes is.cut other (cut-trees parts.trees trees number keep is.cut other)
-      ∙ ap (with_words_of_nodes parts.nodes) (is.cut.others other differs)
-
-  -- the words of the one: those of its frames that stay
-  pub own-words : with_words_of_nodes (without parts.nodes (closing parts.trees number keep)) (frames_of trees number) ≡ with_words_of_nodes parts.nodes (filter keep (frames_of parts.trees number))
-  own-words =
-      cut-words parts.nodes parts.trees trees number keep stored.frames_nodes is.cut number (cut-trees parts.trees trees number keep is.cut number)
-      ∙ ap (with_words_of_nodes parts.nodes) is.cut.cut
-
 -- what the frames that go were charged is what was freed
-module _ (parts : Parts) (number freed : ℕ) (keep : Frame ℕ → Bool) (stored : IsStored parts) (account : Account)
+module _ {parts : Parts} (number freed : ℕ) (keep : Frame ℕ → Bool) (stored : IsStored parts) {account : Account}
     (there : Owns parts number account)
     (frees : total_charge (without parts.nodes (closing parts.trees number keep)) + freed ≡ total_charge parts.nodes) where
   pub charge-left : account.charged ≡ freed + charged_for (with_words_of_nodes parts.nodes (filter keep (frames_of parts.trees number)))
@@ -66,40 +33,6 @@ module _ (parts : Parts) (number freed : ℕ) (keep : Frame ℕ → Bool) (store
   pub can-give-back : HasChargedAtLeast parts.book number freed
   can-give-back =
       rw there (omega (arith, charge-left))
-
--- what a removal leaves of the tenant's account
-module _ (parts : Parts) (trees : Trees) (book : Reservations) (number freed : ℕ) (keep : Frame ℕ → Bool) where
-  removed-own : IsStored parts → (is : IsRemoval parts trees book number freed keep) →
-      IsAccountFor (without parts.nodes (closing parts.trees number keep)) trees number (credited_by freed is.account)
-  removed-own stored is =
-      let was = its-account parts stored number is.account is.there in
-      let words = ap charged_for (own-words parts trees book number freed keep stored is) in
-      record {
-        charged = omega (arith, charge-left parts number freed keep stored is.account is.there is.frees, words);
-        places = is.table.places number ∙ was.places;
-        serials = subst (λ (xs : Frames). AllBelow (Account.opened is.account + 1) xs) (sym is.cut.cut) (AllBelow-filter keep (Account.opened is.account + 1) (frames_of parts.trees number) was.serials);
-      }
-
-  -- one tenant changes by it, and no other
-  pub removal-step : IsStored parts → (is : IsRemoval parts trees book number freed keep) →
-      TenantStep parts (removed parts trees book number keep) number (credited_by freed) is.account
-  removal-step stored is = record {
-    there = is.there;
-    sound = is.sound;
-    book = is.credited.whole;
-    trees = other-tenants is.table;
-    count = is.table.count;
-    tree = is.cut.tree_after;
-    frames_nodes = cut-belongs parts.nodes parts.trees trees number keep stored.frames_nodes is.cut;
-    segments = length-without parts.nodes (closing parts.trees number keep);
-    charges = omega (arith, is.frees, is.sum, stored.charges);
-    own = removed-own stored is;
-    words = λ other differs. ap (with_words_of_nodes (without parts.nodes (closing parts.trees number keep))) (sym (is.cut.others other differs)) ∙ other-words parts trees book number freed keep stored is other differs;
-    job_lists = refl;
-    jobs = λ other differs. refl;
-    places = cut-places parts.nodes parts.trees trees number keep stored.frames_nodes is.cut parts.places stored.places;
-    newest = refl;
-  }
 
 -- A frame without a child is removed, with its node and what it was charged.
 
@@ -121,15 +54,10 @@ pub has-value : (o : Option (Frame ℕ)) (node : ℕ) → HasValue o node → (f
 has-value None node is = absurd is
 has-value (Some f) node is = (f, refl, is)
 
-module _ (parts : Parts) (stored : IsStored parts) (name : FrameId) where
+module _ {parts : Parts} (stored : IsStored parts) (name : FrameId) where
   -- a frame without a child in the core has none in the table
   pub no-children : has_child (frames_in_core (shared_of parts) name.tenant) name.serial ≡ false → children_of (family parts name) name.serial ≡ []
-  no-children none =
-      let F = family parts name in
-      let frames = frames-found parts stored name.tenant in
-      let kids = children_of-map_values (node_words parts.nodes) F name.serial in
-      let lacks : nat_lt 0 (length (map_values (node_words parts.nodes) (children_of F name.serial))) ≡ false = sym (ap (λ (fs : List (Frame (List ℕ))). has_child fs name.serial) frames ∙ ap (λ (fs : List (Frame (List ℕ))). nat_lt 0 (length fs)) kids) ∙ none in
-      empty (children_of F name.serial) (ltb-false 0 (length (map_values (node_words parts.nodes) (children_of F name.serial))) lacks)
+  no-children none = grind (arith, frames-found, children_of-map_values, empty)
     where
       empty : (xs : Frames) → length (map_values (node_words parts.nodes) xs) ≤ 0 → xs ≡ []
       empty [] is = refl
@@ -138,30 +66,15 @@ module _ (parts : Parts) (stored : IsStored parts) (name : FrameId) where
   -- so no open node has its node as a parent
   pub leaf-node : (frame : Frame ℕ) → framed parts name ≡ Some frame → children_of (family parts name) name.serial ≡ [] → HasNoChild parts.nodes frame.value
   leaf-node frame at leaf child up =
-      let belong = stored.frames_nodes in
       let F = family parts name in
-      let has = belong.no_other child (parent-open parts.nodes child frame.value (node_at parts.nodes child) refl up) in
-      let mine = node-frame (frame_in_trees parts.trees has.number has.serial) child has.there in
-      let belongs = belong.nodes_of_frames has.number has.serial mine.0 mine.1.0 in
-      let above_is : node_above (frames_of parts.trees has.number) (parent_of (Frame.path mine.0)) ≡ Some frame.value = sym belongs.parent ∙ ap (λ (n : ℕ). node_parent parts.nodes n) mine.1.1 ∙ up in
-      let above = above-found (frames_of parts.trees has.number) (parent_of (Frame.path mine.0)) frame.value above_is in
-      let its : node_of (frame_in_trees parts.trees has.number above.0) ≡ Some frame.value = ap node_of above.3 ∙ ap (λ (v : ℕ). Some v) above.4 in
-      let own : node_of (framed parts name) ≡ Some frame.value = ap node_of at in
-      let one = belong.once has.number above.0 name.tenant name.serial frame.value its own in
-      let child_here : frame_at F has.serial ≡ Some mine.0 = ap (λ (n : ℕ). frame_in_trees parts.trees n has.serial) (sym one.0) ∙ mine.1.0 in
-      let is_child : is_child_of name.serial (Frame.path mine.0) ≡ true = rw (above.2, one.1) (eq-eqb name.serial name.serial refl) in
-      let found = frame_at-stays (λ (f : Frame ℕ). is_child_of name.serial f.path) F has.serial mine.0 (tree-rising F (stored.forest name.tenant)) child_here is_child in
-      let none : filter (λ (f : Frame ℕ). is_child_of name.serial f.path) F ≡ [] = sym (children-by-paths F name.serial (stored.forest name.tenant)) ∙ leaf in
-      let gone : frame_at (filter (λ (f : Frame ℕ). is_child_of name.serial f.path) F) has.serial ≡ None = ap (λ (xs : Frames). frame_at xs has.serial) none in
-      absurd cc
-
-  closes-one : (node : ℕ) → HasValue (framed parts name) node → closing parts.trees name.tenant (others_stay name.serial) ≡ node ∷ []
-  closes-one node value = grind (arith, has-value, closing-one, tree-rising)
+      let c = child-under stored.frames_nodes name.tenant name.serial child frame at up in
+      let is_child : is_child_of name.serial c.frame.path ≡ true = grind arith in
+      let found = frame_at-stays (λ (f : Frame ℕ). is_child_of name.serial f.path) F c.at c.frame (tree-rising F (stored.forest name.tenant)) c.there is_child in grind (arith, children-by-paths)
 
   -- the node that a removal closes is that of the frame that goes
   pub leaf-gone : (nodes : Nodes) (node : ℕ) → HasValue (framed parts name) node → nodes ≡ with_node parts.nodes node None →
       without parts.nodes (closing parts.trees name.tenant (others_stay name.serial)) ≡ nodes
-  leaf-gone nodes node value closed_one = ap (without parts.nodes) (closes-one node value) ∙ sym closed_one
+  leaf-gone nodes node value closed_one = grind (arith, closing-one, tree-rising)
 
   -- the cut that it makes
   pub leaf-cut : (trees : Trees) → children_of (family parts name) name.serial ≡ [] →
@@ -169,7 +82,7 @@ module _ (parts : Parts) (stored : IsStored parts) (name : FrameId) where
   leaf-cut trees leaf frames keeps = grind (arith, tree-without)
 
 pub leaf-words : (parts : Parts) (name : FrameId) → with_words_of_nodes parts.nodes (filter (others_stay name.serial) (family parts name)) ≡ frames_without name.serial (tree_in parts name.tenant)
-leaf-words parts name = sym (frames_without-map_values (node_words parts.nodes) name.serial (family parts name))
+leaf-words parts name = grind (arith, frames_without-map_values)
 
 -- An abort at a frame: the frames under it go, with their nodes and what they were charged.
 
@@ -181,7 +94,7 @@ pub record IsThere (parts : Parts) (name : FrameId) : Type 0 where
   pub there : Owns parts name.tenant account
 
 -- a frame that the core names is there, and its tenant has an account
-module _ (parts : Parts) (stored : IsStored parts) (name : FrameId) (some : IsSome (named (shared_of parts) name)) where
+module _ {parts : Parts} (stored : IsStored parts) (name : FrameId) (some : IsSome (named (shared_of parts) name)) where
   pub is-there : IsThere parts name
   is-there = grind (arith, there-frame, frame-account)
 
@@ -197,21 +110,15 @@ pub record AreFreed (parts : Parts) (name : FrameId) (stay : Frame ℕ → Bool)
   pub frees : total_charge (without parts.nodes (closing parts.trees name.tenant stay)) + (later - before) ≡ total_charge parts.nodes
   pub charged : HasChargedAtLeast parts.book name.tenant (later - before)
 
-pub nodes-free : (parts : Parts) (nodes : Nodes) (name : FrameId) (stay : Frame ℕ → Bool) (before later : ℕ) → IsStored parts → IsSome (named (shared_of parts) name) → without parts.nodes (closing parts.trees name.tenant stay) ≡ nodes →
+pub nodes-free : {parts : Parts} {nodes : Nodes} (name : FrameId) (stay : Frame ℕ → Bool) (before later : ℕ) → IsStored parts → IsSome (named (shared_of parts) name) → without parts.nodes (closing parts.trees name.tenant stay) ≡ nodes →
     before + total_charge parts.nodes ≡ length parts.nodes → later + total_charge nodes ≡ length nodes → AreFreed parts name stay before later
-nodes-free parts nodes name stay before later stored some gone was_free is_free =
+nodes-free {parts} name stay before later stored some gone was_free is_free =
     let numbers = closing parts.trees name.tenant stay in
     let long = length-without parts.nodes numbers in
-    let free : later + total_charge (without parts.nodes numbers) ≡ length (without parts.nodes numbers) = subst (λ (n : Nodes). later + total_charge n ≡ length n) (sym gone) is_free in
-    let once = closing-once parts.nodes parts.trees name.tenant stay stored.frames_nodes (stored.forest name.tenant) in
+    let free : later + total_charge (without parts.nodes numbers) ≡ length (without parts.nodes numbers) = grind arith in
+    let once = closing-once name.tenant stay stored.frames_nodes (stored.forest name.tenant) in
     let freed = freed-is parts.nodes numbers before later once long was_free free in
-    let there = is-there parts stored name some in
-    record {
-      more = freed.0;
-      few = omega (arith, free, long, stored.segments, IsSoundBook.segments_within stored.book);
-      frees = freed.1;
-      charged = can-give-back parts name.tenant (later - before) stay stored there.account there.there freed.1;
-    }
+    let there = is-there stored name some in grind (arith, can-give-back)
 
 -- what the table, the stack and the book told of frames that went
 pub record AreGone (parts : Parts) (nodes : Nodes) (trees : Trees) (book : Reservations) (name : FrameId) (stay : Frame ℕ → Bool) (before later : ℕ) : Type 0 where
@@ -223,12 +130,7 @@ pub record AreGone (parts : Parts) (nodes : Nodes) (trees : Trees) (book : Reser
   pub keeps : KeepsOtherFrames parts.trees trees name.tenant
   pub credited : ChangesOnly parts.book book name.tenant (credited_by (later - before))
   pub sum : charged_segments book.accounts + (later - before) ≡ charged_segments parts.book.accounts
-  pub others : KeepsOtherAccounts parts.book book name.tenant
   pub sound : IsSoundBook book
-
-gone-removal : (parts : Parts) (nodes : Nodes) (trees : Trees) (book : Reservations) (name : FrameId) (stay : Frame ℕ → Bool) (before later : ℕ) → IsStored parts →
-    AreGone parts nodes trees book name stay before later → IsRemoval parts trees book name.tenant (later - before) stay
-gone-removal parts nodes trees book name stay before later stored is = grind (arith, is-there, nodes-free)
 
 -- the parts after it
 abbrev pub with_parts : Parts → Nodes → Trees → Reservations → Parts
@@ -238,31 +140,62 @@ with_parts parts nodes trees book = record parts { nodes = nodes; trees = trees;
 abbrev with_frames : (List (Frame (List ℕ)) → List (Frame (List ℕ))) → Tenant → Tenant
 with_frames change tenant = record tenant { frames = change tenant.frames }
 
--- after frames have gone, the core is the one before with the tenant's frames changed so
-module _ (parts : Parts) (nodes : Nodes) (trees : Trees) (book : Reservations) (name : FrameId) (stay : Frame ℕ → Bool) (before later : ℕ) where
-  pub gone-step : (change : List (Frame (List ℕ)) → List (Frame (List ℕ))) → IsStored parts → AreGone parts nodes trees book name stay before later →
-      with_words_of_nodes parts.nodes (filter stay (family parts name)) ≡ change (tree_in parts name.tenant) →
+-- one tenant changes by it, and no other
+module _ {parts : Parts} {nodes : Nodes} {trees : Trees} {book : Reservations} (name : FrameId) (stay : Frame ℕ → Bool) (before later : ℕ) (stored : IsStored parts)
+    (is : AreGone parts nodes trees book name stay before later) where
+  -- the nodes that stay
+  abbrev left : Nodes
+  left = without parts.nodes (closing parts.trees name.tenant stay)
+
+  freed : AreFreed parts name stay before later
+  freed = grind (arith, nodes-free)
+
+  -- each tenant's frames that stay have the words that they had
+  words-kept : (owner : ℕ) → with_words_of_nodes left (frames_of trees owner) ≡ with_words_of_nodes parts.nodes (frames_of trees owner)
+  words-kept owner = cut-words stored.frames_nodes is.cut owner (cut-trees is.cut owner)
+
+  own-words : with_words_of_nodes left (frames_of trees name.tenant) ≡ with_words_of_nodes parts.nodes (filter stay (family parts name))
+  own-words = grind (arith, words-kept)
+
+  removal-step : (at : IsThere parts name) → TenantStep parts (with_parts parts left trees book) name.tenant (credited_by (later - before)) at.account
+  removal-step at =
+      let was = its-account stored name.tenant at.there in
+      let words = ap charged_for own-words in
+      record {
+        there = at.there;
+        sound = is.sound;
+        book = is.credited.whole;
+        trees = other-tenants is.keeps;
+        count = is.keeps.count;
+        tree = is.cut.tree_after;
+        frames_nodes = cut-belongs stored.frames_nodes is.cut;
+        segments = grind (arith, length-without);
+        charges = omega (arith, freed.frees, is.sum, stored.charges);
+        own = record {
+          charged = omega (arith, charge-left name.tenant (later - before) stay stored at.there freed.frees, words);
+          places = is.keeps.places name.tenant ∙ was.places;
+          serials = grind (arith, AllBelow-filter);
+        };
+        words = grind (arith, words-kept);
+        job_lists = refl;
+        jobs = λ other differs. refl;
+        places = cut-places stored.frames_nodes is.cut parts.places stored.places;
+        newest = refl;
+      }
+
+  -- after frames have gone, the core is the one before with the tenant's frames changed so
+  pub gone-step : (change : List (Frame (List ℕ)) → List (Frame (List ℕ))) → with_words_of_nodes parts.nodes (filter stay (family parts name)) ≡ change (tree_in parts name.tenant) →
       Stepped parts (with_parts parts nodes trees book) name.tenant (with_frames change)
-  gone-step change stored is words =
-      let removal = gone-removal parts nodes trees book name stay before later stored is in
-      let frames = own-words parts trees book name.tenant (later - before) stay stored removal ∙ words in
-      let step = removal-step parts trees book name.tenant (later - before) stay stored removal in
+  gone-step change words =
       subst (λ (n : Nodes). Stepped parts (with_parts parts n trees book) name.tenant (with_frames change)) is.gone
-      (stepped (with_frames change) stored step (ap (with-frames removal.account) frames))
-    where
-      with-frames : Account → List (Frame (List ℕ)) → Tenant
-      with-frames account frames = record { reserve = account.reserve; serials = account.opened; steps = account.ticks; jobs = jobs_of parts.job_lists name.tenant; frames = frames }
+      (stepped (with_frames change) stored (removal-step (is-there stored name is.some)) (rw (own-words, words) refl))
 
 -- the frames that an abort leaves
 abbrev pub stays : ℕ → Frame ℕ → Bool
 stays serial frame = not (goes_under serial frame.path)
 
-pub closing-under : (serial : ℕ) (frames : Frames) → closed (stays serial) frames ≡ values_of (frames_under serial frames)
-closing-under serial [] = refl
-closing-under serial (x ∷ xs) = grind (arith, closing-under serial xs)
-
 pub takes-under : (serial : ℕ) (frames : Frames) → IsTree frames → TakesChildren frames (stays serial)
-takes-under p frames tree serial parent frame above at up at_above out = grind (arith, not-false, eq-eqb, child-further-under)
+takes-under p frames tree serial parent frame above at up at_above out = grind (arith, child-further-under)
 
 -- the nodes that an abort closes: open, once, with their children
 pub record AreClosable (nodes : Nodes) (numbers : List ℕ) : Type 0 where
@@ -273,12 +206,12 @@ pub record AreClosable (nodes : Nodes) (numbers : List ℕ) : Type 0 where
 -- they are those of the frames that go
 pub abort-gone : (parts : Parts) (nodes : Nodes) (name : FrameId) (numbers : List ℕ) → numbers ≡ values_of (frames_under name.serial (family parts name)) → nodes ≡ without parts.nodes numbers →
     without parts.nodes (closing parts.trees name.tenant (stays name.serial)) ≡ nodes
-abort-gone parts nodes name numbers values closed_all = grind (arith, closing-under)
+abort-gone parts nodes name numbers values closed_all = grind arith
 
 pub abort-words : (parts : Parts) (name : FrameId) → with_words_of_nodes parts.nodes (filter (stays name.serial) (family parts name)) ≡ aborted name.serial (tree_in parts name.tenant)
-abort-words parts name = sym (aborted-map_values (node_words parts.nodes) name.serial (family parts name))
+abort-words parts name = grind (arith, aborted-map_values)
 
-module _ (parts : Parts) (stored : IsStored parts) (name : FrameId) where
+module _ {parts : Parts} (stored : IsStored parts) (name : FrameId) where
   -- the cut that an abort makes
   pub abort-cut : (trees : Trees) → frames_of trees name.tenant ≡ aborted name.serial (family parts name) → KeepsOtherFrames parts.trees trees name.tenant →
       IsCut parts.trees trees name.tenant (stays name.serial)
@@ -287,20 +220,17 @@ module _ (parts : Parts) (stored : IsStored parts) (name : FrameId) where
   pub abort-closes : (numbers : List ℕ) → numbers ≡ values_of (frames_under name.serial (family parts name)) → AreClosable parts.nodes numbers
   abort-closes numbers is =
       let tree = stored.forest name.tenant in
-      let same : closing parts.trees name.tenant (stays name.serial) ≡ numbers = closing-under name.serial (family parts name) ∙ sym is in
+      let same : closing parts.trees name.tenant (stays name.serial) ≡ numbers = grind arith in
       subst (AreClosable parts.nodes) same (record {
-        are_open = closing-open parts.nodes parts.trees name.tenant (stays name.serial) stored.frames_nodes tree;
-        once = closing-once parts.nodes parts.trees name.tenant (stays name.serial) stored.frames_nodes tree;
-        with_children = closing-children parts.nodes parts.trees name.tenant (stays name.serial) stored.frames_nodes tree (takes-under name.serial (family parts name) tree);
+        are_open = grind (arith, closing-open);
+        once = grind (arith, closing-once);
+        with_children = closing-children name.tenant (stays name.serial) stored.frames_nodes tree (takes-under name.serial (family parts name) tree);
       })
 
   -- as many go as are under the frame
   pub abort-count : (numbers : List ℕ) → numbers ≡ values_of (frames_under name.serial (family parts name)) →
       length numbers ≡ length (frames_under name.serial (frames_in_core (shared_of parts) name.tenant))
-  abort-count numbers values =
-      let frames = frames-found parts stored name.tenant in
-      let worded_under = ap (frames_under name.serial) frames ∙ frames_under-map_values (node_words parts.nodes) name.serial (family parts name) in
-      ap length values ∙ length-values (frames_under name.serial (family parts name)) ∙ sym (ap length worded_under ∙ length-with_words_of_nodes parts.nodes (frames_under name.serial (family parts name)))
+  abort-count numbers values = grind (arith, frames-found, frames_under-map_values, length-values, length-with_words_of_nodes)
     where
       length-values : (xs : Frames) → length (values_of xs) ≡ length xs
       length-values [] = refl
@@ -309,53 +239,46 @@ module _ (parts : Parts) (stored : IsStored parts) (name : FrameId) where
 -- What a frame's words are, seen through its node.
 
 -- the words of an entry are those that the core shows
-module _ (parts : Parts) (stored : IsStored parts) (name : FrameId) (entry : Entry ℕ) (words : List ℕ)
+module _ {parts : Parts} (stored : IsStored parts) (name : FrameId) {entry : Entry ℕ} {words : List ℕ}
     (is : Some entry ≡ entry_in parts name) (own : words ≡ node_words parts.nodes entry.value) where
   pub words-shown : Some words ≡ words_of_frame (shared_of parts) name
   words-shown =
-      let f = found parts stored name entry is in
-      let value : entry.value ≡ f.frame.value = ap (λ (e : Entry ℕ). e.value) f.is in
-      ap (λ (ws : List ℕ). Some ws) (own ∙ ap (node_words parts.nodes) value)
-      ∙ sym (ap (λ (o : Option (Frame (List ℕ))). option_map (λ (frame : Frame (List ℕ)). frame.value) o) f.named)
+      let f = found stored name is in grind arith
 
   pub own-words-shown : words ≡ words_under (shared_of parts) name
   own-words-shown =
-      let f = found parts stored name entry is in
-      let value : entry.value ≡ f.frame.value = ap (λ (e : Entry ℕ). e.value) f.is in
-      own ∙ ap (node_words parts.nodes) value ∙ sym (ap frame_words f.named)
+      let f = found stored name is in grind arith
 
 -- where there is no entry, the core shows no words
-module _ (parts : Parts) (stored : IsStored parts) (name : FrameId) where
+module _ {parts : Parts} (stored : IsStored parts) (name : FrameId) where
   pub no-words-shown : None ≡ entry_in parts name → None ≡ words_of_frame (shared_of parts) name
-  no-words-shown is = sym (ap (λ (o : Option (Frame (List ℕ))). option_map (λ (frame : Frame (List ℕ)). frame.value) o) (nothing-found parts stored name is))
+  no-words-shown is = grind (arith, nothing-found)
 
   -- the path of a frame that is there
   pub path-shown : IsSome (named (shared_of parts) name) → path_of (named (shared_of parts) name) ≡ path_in (family parts name) name.serial
-  path-shown some = grind (arith, is-there, named-found, found-path)
+  path-shown some = grind (arith, named-found, found-path)
 
 nobody-above : (tenant : ℕ) (parent : Option ℕ) → is_none (name_of tenant parent) ≡ is_none parent
 nobody-above tenant None = refl
 nobody-above tenant (Some parent) = refl
 
 some-length : (frames : Frames) (frame : Frame ℕ) → IsPlaced frames frame → 1 ≤ length frame.path
-some-length frames frame (inl top) = (let long = ap length top.1 in omega (arith, long))
-some-length frames frame (inr under) = (let long = ap length under.path ∙ length-append under.above.path (frame.serial ∷ []) in omega (arith, long))
+some-length frames frame (inl top) = grind arith
+some-length frames frame (inr under) = grind (arith, length-append)
 
 -- a frame has no parent exactly where its path has one serial
 root-by-length : (frames : Frames) (frame : Frame ℕ) → IsTree frames → IsPlaced frames frame → is_none (parent_of frame.path) ≡ is_root frame.path
 root-by-length frames frame tree (inl top) = rw (top.0, top.1) refl
 root-by-length frames frame tree (inr under) =
     let above = some-length frames under.above (placed frames under.parent under.above tree under.there) in
-    let long = ap length under.path ∙ length-append under.above.path (frame.serial ∷ []) in
-    let differs : length frame.path ≢ 1 = λ e. omega (arith, e, above, long) in
-    rw (under.named, ne_eqb (length frame.path) 1 differs) refl
+    let long = ap length under.path ∙ length-append under.above.path (frame.serial ∷ []) in grind arith
 
 -- an entry has no parent exactly where the core's frame is a root
-module _ (parts : Parts) (stored : IsStored parts) (name : FrameId) (entry : Entry ℕ)
+module _ {parts : Parts} (stored : IsStored parts) (name : FrameId) {entry : Entry ℕ}
     (is : Some entry ≡ entry_in parts name) where
   pub root-shown : is_none entry.parent ≡ is_root (path_of (named (shared_of parts) name))
   root-shown =
-      let f = found parts stored name entry is in
+      let f = found stored name is in
       let F = family parts name in
       let parent : entry.parent ≡ name_of name.tenant (parent_of f.frame.path) = ap (λ (e : Entry ℕ). e.parent) f.is in
       ap is_none parent ∙ nobody-above name.tenant (parent_of f.frame.path)
@@ -364,23 +287,9 @@ module _ (parts : Parts) (stored : IsStored parts) (name : FrameId) (entry : Ent
 
   -- so it has one where it is no root
   pub child-or-root : is_some entry.parent ≡ not (is_root (path_of (named (shared_of parts) name)))
-  child-or-root = some-not-none entry.parent ∙ ap not root-shown
-    where
-      some-not-none : (parent : Option FrameId) → is_some parent ≡ not (is_none parent)
-      some-not-none None = refl
-      some-not-none (Some parent) = refl
+  child-or-root = grind (arith, root-shown)
 
 -- a frame has a child exactly where it has one in the table
-pub child-shown : (parts : Parts) → IsStored parts → (name : FrameId) (has : Bool) → (IsTrue has → 0 < length (children_of (family parts name) name.serial)) × (0 < length (children_of (family parts name) name.serial) → IsTrue has) →
+pub child-shown : {parts : Parts} → IsStored parts → (name : FrameId) (has : Bool) → (IsTrue has → 0 < length (children_of (family parts name) name.serial)) × (0 < length (children_of (family parts name) name.serial) → IsTrue has) →
     has ≡ has_child (frames_in_core (shared_of parts) name.tenant) name.serial
-child-shown parts stored name has is =
-    let F = family parts name in
-    let frames = frames-found parts stored name.tenant in
-    let kids = children_of-map_values (node_words parts.nodes) F name.serial in
-    let long = length-with_words_of_nodes parts.nodes (children_of F name.serial) in
-    let whole = ap (λ (fs : List (Frame (List ℕ))). has_child fs name.serial) frames ∙ ap (λ (fs : List (Frame (List ℕ))). ltb 0 (length fs)) kids ∙ ap (ltb 0) long in
-    same has (length (children_of F name.serial)) is ∙ sym whole
-  where
-    same : (b : Bool) (n : ℕ) → (IsTrue b → 0 < n) × (0 < n → IsTrue b) → b ≡ ltb 0 n
-    same true n is = sym (lt-ltb 0 n (is.0 refl))
-    same false n is = sym (le-ltb 0 n (let none : ¬ (0 < n) = λ some. false≢true (is.1 some) in omega (arith, none)))
+child-shown {parts} stored name has is = grind (arith, frames-found, children_of-map_values, length-with_words_of_nodes)

@@ -1,19 +1,18 @@
 -- A change of one tenant: what a store keeps true, and the core that it stands for.
-use Rattle.std.proofs.Common.{◌≡◌, ◌≢◌, ℕ, ◌<◌, ◌≤◌, eqb, List, [], ◌∷◌, length, Some, None, option_map, refl, ap, sym, ◌∙◌, arith, inl, inr, true, Option, IsSome, IsSomeAnd, subst, suc, ◌*◌, sum_by, IfSome, is_some}
+use Rattle.std.proofs.Common.{◌≡◌, ◌≢◌, ℕ, ◌<◌, ◌≤◌, eqb, List, [], ◌∷◌, length, Some, None, option_map, refl, ap, sym, ◌∙◌, arith, inl, inr, true, Option, IsSome, IsSomeAnd, suc, ◌*◌, sum_by, IfSome, is_some}
 use Rattle.sched_store.proofs.Common.{Job, Left, Account, FrameId, sum_by-cons, map_value, Each, CoreState, tenant_in, with_change, on_tenant}
 use Rattle.sched_store.proofs.Common.{words_under, IsReadyIn, left_in_core, ready_count, live_of, tree-rising, found-each, found-serial, Tenant, Tree}
-use Rattle.sched_store.proofs.Common.{charged_for, frame_words, total_charge, Nodes, node_words, charge, cases_Bool, cases_eq, eqb-true, eqb-false, false≢true}
+use Rattle.sched_store.proofs.Common.{charged_for, frame_words, total_charge, Nodes, node_words, charge, cases_Bool, eqb-true, eqb-false, false≢true}
 use Rattle.sched_store.proofs.Common.{IsTree, Frame, names_of, ready_frames, IsReadyAt, frames_of, tenant_count, KeepsOtherFrames}
 use Rattle.sched_store.proofs.Common.{KeepsOtherTenants, Reservations, changed, IsSoundBook, ChangesOnly, left_in_book, Parts, with_words_of_nodes, tenant_from}
 use Rattle.sched_store.proofs.Common.{tenants_from, shared_of, jobs_of, numbers_of, JobListOf, owner_of_jobs, is_there, with_jobs, IsStored, IsAccountFor}
-use Rattle.sched_store.proofs.Common.{AreFramesNodes, ArePlaces, numbers_in, frame_in_trees, owner_of_account, account_of, with_changed}
+use Rattle.sched_store.proofs.Common.{AreFramesNodes, ArePlaces, frame_in_trees, owner_of_account, account_of, with_changed}
 use Rattle.sched_store.proofs.Common.{charged_segments, AllEntries, IsRising, ticked, left_in}
 use Rattle.numbered_list.proofs.Edits.{with-same, said-with-own, said-with-other, length-with, all-with}
-use Rattle.sched_store.proofs.Lookups.{agrees-still, its-account, nobodys, within-reserve, Frames, Trees, tree_in, with_words, Owns, Entries, none-or-some, numbers-with, job_list-there, tenant-there, left-found, named-found, tenant-found}
+use Rattle.sched_store.proofs.Lookups.{within-reserve, Frames, Trees, tree_in, with_words, Owns, Entries, none-or-some, numbers-with, job_list-there, tenant-there, left-found, named-found, tenant-found}
 use Rattle.sched_store.proofs.Common.{find_by_number, change_by_number}
 use Rattle.sched_store.proofs.Jobs.{found-changed}
 use Rattle.sched_rules.specs.Lone.{counted}
-use Rattle.tenant_quota.proofs.Standing.{some-of}
 use Rattle.frame_table.proofs.Finds.{none-of-length}
 
 -- a number, and what is beside it changed
@@ -30,9 +29,6 @@ account-changed : (n : ℕ) (f : Account → Account) (entries : Entries) → ac
 account-changed n f entries =
     said-with-own owner_of_account (λ e. Some e.1) None (option_map f) n (with_second f) entries (λ e own. own) (λ e. refl) (λ lacks. refl)
 
-account-changed-other : (m n : ℕ) (f : Account → Account) (entries : Entries) → m ≢ n → account_of m (with_changed n f entries) ≡ account_of m entries
-account-changed-other m n f entries differs = grind (arith, said-with-other)
-
 -- a change that changes nothing
 pub changed-nothing : (book : Reservations) (n : ℕ) → book ≡ changed book n (λ a. a)
 changed-nothing book n = ap (λ (entries : Entries). at-entries entries) (sym (with-same owner_of_account n book.accounts))
@@ -42,7 +38,7 @@ changed-nothing book n = ap (λ (entries : Entries). at-entries entries) (sym (w
 
 -- a table that keeps all places
 pub other-tenants : {old new : Trees} {number : ℕ} → KeepsOtherFrames old new number → KeepsOtherTenants old new number
-other-tenants kept = record { frames = kept.frames; places = λ other differs. kept.places other }
+other-tenants kept = grind arith
 
 -- one tenant's account, frames, places, words or jobs change, and no other tenant's
 pub record TenantStep (old new : Parts) (number : ℕ) (f : Account → Account) (account : Account) : Type 0 where
@@ -63,37 +59,10 @@ pub record TenantStep (old new : Parts) (number : ℕ) (f : Account → Account)
   pub newest : new.newest ≡ old.newest
 
 -- the accounts after such a change of one tenant
-module _ (old new : Parts) (number : ℕ) where
-  account-after : (f : Account → Account) (account : Account) → TenantStep old new number f account → account_of number new.book.accounts ≡ Some (f account)
-  account-after f account step = grind (arith, account-changed)
-
-  other-after : (f : Account → Account) (account : Account) → TenantStep old new number f account → (other : ℕ) → other ≢ number → account_of other new.book.accounts ≡ account_of other old.book.accounts
-  other-after f account step other differs = grind (arith, account-changed-other)
-
+module _ {old new : Parts} {number : ℕ} where
   -- what a store keeps true is true after such a change
-  pub step-stored : (f : Account → Account) (account : Account) → IsStored old → TenantStep old new number f account → IsStored new
-  step-stored f account stored step =
-      record {
-        book = step.sound;
-        frames_nodes = step.frames_nodes;
-        accounts = λ other. elim (cases_eq other number) [
-          | inl same ↦ rw (same, account-after f account step) step.own
-          | inr differs ↦ rw (other-after f account step other differs)
-              (agrees-still old.nodes new.nodes old.trees new.trees other (account_of other old.book.accounts) (step.trees.places other differs) (step.trees.frames other differs)
-              (ap (with_words_of_nodes new.nodes) (step.trees.frames other differs) ∙ step.words other differs) (stored.accounts other))
-        ];
-        forest = λ other. elim (cases_eq other number) [
-          | inl same ↦ rw same step.tree
-          | inr differs ↦ rw (step.trees.frames other differs) (stored.forest other)
-        ];
-        tenants = step.count ∙ stored.tenants ∙ sym (ap (λ (book : Reservations). length book.accounts) step.book ∙ length-with owner_of_account number (with_second f) old.book.accounts);
-        charges = step.charges;
-        segments = step.segments ∙ stored.segments ∙ sym (ap (λ (book : Reservations). book.segments) step.book);
-        job_lists = step.job_lists ∙ stored.job_lists ∙ sym (ap (λ (book : Reservations). numbers_in book.accounts) step.book ∙ numbers-with owner_of_account number (with_second f) old.book.accounts (λ e. refl));
-        places = step.places;
-        taken = rw (step.newest, step.book) (all-with (λ (e : ℕ × Account). e.0 ≤ old.newest) owner_of_account number (with_second f) old.book.accounts stored.taken (λ e le is. le));
-        newest = rw step.newest stored.newest;
-      }
+  pub step-stored : {f : Account → Account} {account : Account} → IsStored old → TenantStep old new number f account → IsStored new
+  step-stored {f} stored step = grind (arith, length-with, numbers-with, all-with, said-with-other, account-changed)
 
 -- the tenants after such a change
 module _ (old new : Parts) (number : ℕ) where
@@ -103,34 +72,20 @@ module _ (old new : Parts) (number : ℕ) where
       let first : tenant_from new entry.0 entry.1 ≡ tenant_from old entry.0 entry.1 = others entry.0 entry.1 (λ e. omega (arith, all.0, e)) in
       rw (first, others-same entries others all.1) refl
 
-  tenants-changed : (f : Account → Account) (change : Tenant → Tenant) (entries : Entries) → IsRising entries → SameOthers old new number →
-      ((a : Account) → account_of number entries ≡ Some a → tenant_from new number (f a) ≡ change (tenant_from old number a)) →
+  tenants-changed : (f : Account → Account) (change : Tenant → Tenant) (account : Account) (entries : Entries) → IsRising entries → SameOthers old new number →
+      account_of number entries ≡ Some account → tenant_from new number (f account) ≡ change (tenant_from old number account) →
       tenants_from new (with_changed number f entries) ≡ with_change number change (tenants_from old entries)
-  tenants-changed f change [] rising others own = refl
-  tenants-changed f change (entry ∷ entries) rising others own =
+  tenants-changed f change account [] rising others there own = refl
+  tenants-changed f change account (entry ∷ entries) rising others there own =
       elim (cases_Bool (eqb entry.0 number)) [
         | inl same ↦
             (let e = eqb-true entry.0 number same in
-            let first : tenant_from new entry.0 (f entry.1) ≡ change (tenant_from old entry.0 entry.1) = rw e (own entry.1 (rw same refl)) in
-            let above : AllEntries (λ later. number < later.0) entries = rw (← e) rising.0 in
-            rw same (rw (first, others-same entries others above) refl))
+            let is : entry.1 ≡ account = grind arith in
+            let first : tenant_from new entry.0 (f entry.1) ≡ change (tenant_from old entry.0 entry.1) = rw (e, is) own in
+            rw same (rw (first, others-same entries others (rw (← e) rising.0)) refl))
         | inr other ↦
-            (let first : tenant_from new entry.0 entry.1 ≡ tenant_from old entry.0 entry.1 = others entry.0 entry.1 (eqb-false entry.0 number other) in
-            rw other (rw (first, tenants-changed f change entries rising.1 others (λ a there. own a (rw other there))) refl))
+            rw other (rw (others entry.0 entry.1 (eqb-false entry.0 number other), tenants-changed f change account entries rising.1 others (rw other at there) own) refl)
       ]
-
--- the core that a store stands for has that one tenant changed
-pub step-shared : (old new : Parts) (number : ℕ) (f : Account → Account) (account : Account) (change : Tenant → Tenant) → IsStored old → TenantStep old new number f account →
-    tenant_from new number (f account) ≡ change (tenant_from old number account) → shared_of new ≡ on_tenant number change (shared_of old)
-step-shared old new number f account change stored step own =
-    let others : SameOthers old new number =
-    λ other a differs. rw (step.jobs other differs, step.trees.frames other differs, step.words other differs) refl in
-    let tenants = tenants-changed old new number f change old.book.accounts stored.book.rising others
-    (λ a there. let same : account ≡ a = cc (step.there, there) in rw (← same) own) in
-    rw (step.newest, step.book) (ap (λ (entries : List (ℕ × Tenant)). on-entries entries) tenants)
-  where
-    on-entries : List (ℕ × Tenant) → CoreState
-    on-entries entries = record { totals = record { segments = old.book.segments; nodes = old.book.nodes }; newest = old.newest; tenants = entries }
 
 -- what such a step comes to
 pub record Stepped (old new : Parts) (number : ℕ) (change : Tenant → Tenant) : Type 0 where
@@ -139,46 +94,32 @@ pub record Stepped (old new : Parts) (number : ℕ) (change : Tenant → Tenant)
 
 pub stepped : {old new : Parts} {number : ℕ} {f : Account → Account} {account : Account} (change : Tenant → Tenant) → IsStored old → TenantStep old new number f account →
     tenant_from new number (f account) ≡ change (tenant_from old number account) → Stepped old new number change
-stepped change stored step own = record { stored = step-stored _ _ _ _ _ stored step; shared = step-shared _ _ _ _ _ change stored step own }
+stepped change stored step own = grind (arith, step-stored, tenants-changed)
 
 -- Steps that are counted, and jobs that begin and end: no frame changes.
 
 -- the account of a tenant that is there
 module _ (parts : Parts) (number : ℕ) where
-  pub there-account : IsSome (tenant_in (shared_of parts).tenants number) → (a : Account) × (Owns parts number a)
-  there-account is = some-of (account_of number parts.book.accounts) (sym (tenant-there parts number) ∙ is)
-
   -- the same of a core that the parts show
   pub there-account-in : {core : CoreState} → shared_of parts ≡ core → IsSome (tenant_in core.tenants number) → (a : Account) × (Owns parts number a)
-  there-account-in is there = there-account (subst (λ (s : CoreState). IsSome (tenant_in s.tenants number)) (sym is) there)
+  there-account-in is there = grind (arith, tenant-there)
 
 -- and so is its list of jobs
-pub has-job_list : (parts : Parts) (number : ℕ) {core : CoreState} → IsStored parts → shared_of parts ≡ core → IsSome (tenant_in core.tenants number) → is_there number parts.job_lists ≡ true
-has-job_list parts number stored is there =
-    let own = there-account-in parts number is there in
-    job_list-there number parts.job_lists parts.book.accounts own.0 stored.job_lists own.1
+pub has-job_list : {parts : Parts} (number : ℕ) {core : CoreState} → IsStored parts → shared_of parts ≡ core → IsSome (tenant_in core.tenants number) → is_there number parts.job_lists ≡ true
+has-job_list {parts} number stored is there = grind (arith, there-account-in, job_list-there)
 
-module _ (parts : Parts) (stored : IsStored parts) (number : ℕ) (P : Left → Type 0) (is : IsSomeAnd (left_in_core (shared_of parts) number) P) where
+module _ {parts : Parts} (stored : IsStored parts) (number : ℕ) (P : Left → Type 0) (is : IsSomeAnd (left_in_core (shared_of parts) number) P) where
   -- what the book says it has left
   pub book-left : IsSomeAnd (left_in_book number parts.book) P
-  book-left = let Q : Option Left → Type 0 = λ left. IsSomeAnd left P in subst Q (left-found parts stored number) is
+  book-left = grind (arith, left-found)
 
   pub left-account : (a : Account) × ((Owns parts number a) × P (left_in a))
-  left-account = elim (none-or-some (account_of number parts.book.accounts)) [
-    | inl none ↦ absurd (rw none at book-left)
-    | inr own ↦ (own.0, (own.1, rw own.1 at book-left))
-  ]
-
--- a step that leaves the trees and the nodes as they are
-steady-step : (old : Parts) (book : Reservations) (job_lists : List JobListOf) (number : ℕ) (change : Account → Account) (account : Account) → IsStored old → Owns old number account →
-    IsSoundBook book → book ≡ changed old.book number change → charged_segments book.accounts ≡ charged_segments old.book.accounts → IsAccountFor old.nodes old.trees number (change account) →
-    numbers_of job_lists ≡ numbers_of old.job_lists → ((other : ℕ) → other ≢ number → jobs_of job_lists other ≡ jobs_of old.job_lists other) → TenantStep old (record old { book = book; job_lists = job_lists }) number change account
-steady-step old book job_lists number change account stored there sound is sum own numbers jobs = grind arith
+  left-account = grind (arith, book-left)
 
 -- a step is counted
-module _ (old : Parts) (book : Reservations) (number : ℕ) (account : Account) (stored : IsStored old) (there : Owns old number account) (sound : IsSoundBook book) (changes : ChangesOnly old.book book number ticked) (sum : charged_segments book.accounts ≡ charged_segments old.book.accounts) where
+module _ {old : Parts} {book : Reservations} {number : ℕ} {account : Account} (stored : IsStored old) (there : Owns old number account) (sound : IsSoundBook book) (changes : ChangesOnly old.book book number ticked) (sum : charged_segments book.accounts ≡ charged_segments old.book.accounts) where
   ticked-step : TenantStep old (record old { book = book }) number ticked account
-  ticked-step = grind (arith, steady-step)
+  ticked-step = grind arith
 
   pub count-step : Stepped old (record old { book = book }) number counted
   count-step = stepped counted stored (ticked-step) refl
@@ -189,9 +130,6 @@ jobs-with_jobs : (n : ℕ) (change : List Job → List Job) (job_lists : List Jo
 jobs-with_jobs n change job_lists there =
     said-with-own owner_of_jobs (λ (l : JobListOf). l.1) [] change n (with_second change) job_lists (λ l own. own) (λ l. refl) (λ lacks. absurd (false≢true (sym lacks ∙ there)))
 
-jobs-other-with_jobs : (n m : ℕ) (change : List Job → List Job) (job_lists : List JobListOf) → m ≢ n → jobs_of (with_jobs n change job_lists) m ≡ jobs_of job_lists m
-jobs-other-with_jobs n m change job_lists differs = said-with-other owner_of_jobs (λ (l : JobListOf). l.1) [] m n (with_second change) job_lists (λ e. differs (sym e)) (λ l own. own)
-
 -- the tenant with its jobs changed so
 abbrev pub jobs_changed : (List Job → List Job) → Tenant → Tenant
 jobs_changed change tenant = record tenant { jobs = change tenant.jobs }
@@ -201,28 +139,21 @@ abbrev pub JobsPut : Parts → ℕ → JobListOf → (List Job → List Job) →
 JobsPut old number changed change = Stepped old (record old { job_lists = change_by_number owner_of_jobs number (λ was. changed) old.job_lists }) number (jobs_changed change)
 
 -- a tenant's jobs change, and nothing else
-module _ (old : Parts) (number : ℕ) (account : Account) (change : List Job → List Job) (stored : IsStored old) (there : Owns old number account) where
+module _ {old : Parts} (number : ℕ) {account : Account} (change : List Job → List Job) (stored : IsStored old) (there : Owns old number account) where
   jobs-step : TenantStep old (record old { job_lists = with_jobs number change old.job_lists }) number (λ a. a) account
-  jobs-step =
-      steady-step old old.book (with_jobs number change old.job_lists) number (λ a. a) account stored there stored.book (changed-nothing old.book number) refl
-      (its-account old stored number account there) (numbers-with owner_of_jobs number (with_second change) old.job_lists (λ l. refl)) (λ other differs. jobs-other-with_jobs number other change old.job_lists differs)
+  jobs-step = grind (arith, changed-nothing, numbers-with, said-with-other)
 
   -- where the list of jobs that was found was put back with its jobs changed
-  pub jobs-put : (job_list changed : JobListOf) → find_by_number owner_of_jobs number old.job_lists ≡ Some job_list → changed ≡ (job_list.0, change job_list.1) → JobsPut old number changed change
-  jobs-put job_list changed found is =
+  pub jobs-put : {job_list changed : JobListOf} → find_by_number owner_of_jobs number old.job_lists ≡ Some job_list → changed ≡ (job_list.0, change job_list.1) → JobsPut old number changed change
+  jobs-put {job_list} {changed} found is =
       let jobs = jobs-with_jobs number change old.job_lists (job_list-there number old.job_lists old.book.accounts account stored.job_lists there) in
       rw (found-changed number old.job_lists job_list changed change found is) (stepped (jobs_changed change) stored (jobs-step) (rw jobs refl))
 
 -- What is counted over a tenant's frames and over all tenants: words, and frames that are ready.
 
--- a frame that the table says is ready is ready in the core
-ready-with_words_of_nodes : (nodes : Nodes) (o : Option (Frame ℕ)) (home : ℕ) → IsReadyAt o home → IsReadyAt (option_map (map_value (node_words nodes)) o) home
-ready-with_words_of_nodes nodes None home is = is
-ready-with_words_of_nodes nodes (Some frame) home is = is
-
-pub ready-found : (parts : Parts) → IsStored parts → (result : Option (FrameId × ℕ)) → IfSome result (λ ready. IsReadyAt (frame_in_trees parts.trees ready.0.tenant ready.0.serial) ready.1) → IfSome result (λ ready. IsReadyIn (shared_of parts) ready.0 ready.1)
-ready-found parts stored None is = tt
-ready-found parts stored (Some ready) is = grind (arith, named-found, ready-with_words_of_nodes)
+pub ready-found : {parts : Parts} → IsStored parts → (result : Option (FrameId × ℕ)) → IfSome result (λ ready. IsReadyAt (frame_in_trees parts.trees ready.0.tenant ready.0.serial) ready.1) → IfSome result (λ ready. IsReadyIn (shared_of parts) ready.0 ready.1)
+ready-found stored None is = tt
+ready-found stored (Some ready) is = grind (arith, named-found)
 
 count-with_words_of_nodes : (nodes : Nodes) (frames : Frames) → length (ready_frames (with_words_of_nodes nodes frames)) ≡ length (ready_frames frames)
 count-with_words_of_nodes nodes [] = refl
@@ -231,18 +162,16 @@ count-with_words_of_nodes nodes (x ∷ xs) = grind (arith, count-with_words_of_n
 -- where no tenant has a ready frame none is counted
 pub none-counted : (parts : Parts) (entries : List (ℕ × Account)) → ((tenant : ℕ) → ready_frames (frames_of parts.trees tenant) ≡ []) → ready_count (tenants_from parts entries) ≡ 0
 none-counted parts [] none = refl
-none-counted parts (entry ∷ entries) none =
-    let empty = ap length (none entry.0) in
-    omega (arith, count-with_words_of_nodes parts.nodes (frames_of parts.trees entry.0), empty, none-counted parts entries none)
+none-counted parts (entry ∷ entries) none = grind (arith, count-with_words_of_nodes, none-counted parts entries none)
 
 counted-none : (parts : Parts) (entries : List (ℕ × Account)) → ready_count (tenants_from parts entries) ≡ 0 → (tenant : ℕ) (account : Account) → account_of tenant entries ≡ Some account → length (ready_frames (frames_of parts.trees tenant)) ≡ 0
 counted-none parts [] none tenant account there = absurd cc
 counted-none parts (entry ∷ entries) none tenant account there = grind (arith, counted-none parts entries, count-with_words_of_nodes, eqb-true)
 
 -- where none is counted no tenant has one
-pub nobody-ready : (parts : Parts) → IsStored parts → ready_count (tenants_from parts parts.book.accounts) ≡ 0 → (tenant : ℕ) → ready_frames (frames_of parts.trees tenant) ≡ []
-nobody-ready parts stored none tenant = elim (none-or-some (account_of tenant parts.book.accounts)) [
-  | inl missing ↦ ap ready_frames (nobodys parts stored tenant missing).1
+pub nobody-ready : {parts : Parts} → IsStored parts → ready_count (tenants_from parts parts.book.accounts) ≡ 0 → (tenant : ℕ) → ready_frames (frames_of parts.trees tenant) ≡ []
+nobody-ready {parts} stored none tenant = elim (none-or-some (account_of tenant parts.book.accounts)) [
+  | inl missing ↦ grind arith
   | inr own ↦ none-of-length (ready_frames (frames_of parts.trees tenant)) (counted-none parts parts.book.accounts none tenant own.0 own.1)
 ]
 
@@ -272,32 +201,20 @@ length-with_words_of_nodes nodes [] = refl
 length-with_words_of_nodes nodes (x ∷ xs) = ap suc (length-with_words_of_nodes nodes xs)
 
 -- how many words a tenant has alive, by the names of its frames
-module _ (parts : Parts) (stored : IsStored parts) (tenant : ℕ) where
+module _ {parts : Parts} (stored : IsStored parts) (tenant : ℕ) where
   words-at : (serial : ℕ) (frame : Frame ℕ) → frame_in_trees parts.trees tenant serial ≡ Some frame → words_under (shared_of parts) (record { tenant = tenant; serial = frame.serial }) ≡ node_words parts.nodes frame.value
   words-at serial frame at =
       let here = found-serial (frames_of parts.trees tenant) serial frame at in
-      let found : frame_in_trees parts.trees tenant frame.serial ≡ Some frame = ap (λ (s : ℕ). frame_in_trees parts.trees tenant s) here ∙ at in
-      ap frame_words (named-found parts stored (record { tenant = tenant; serial = frame.serial }) ∙ ap (with_words parts) found)
-
-  pub words-named : sum_by (words_counted parts) (names_of tenant (frames_of parts.trees tenant)) ≡ sum_by (λ frame. length frame.value) (tree_in parts tenant)
-  words-named = grind (arith, named-words, found-each, tree-rising, words-at)
+      let found : frame_in_trees parts.trees tenant frame.serial ≡ Some frame = grind arith in
+      ap frame_words (named-found stored (record { tenant = tenant; serial = frame.serial }) ∙ ap (with_words parts) found)
 
   -- they are few
   pub words-few : sum_by (words_counted parts) (names_of tenant (frames_of parts.trees tenant)) ≤ 65536
   words-few = elim (none-or-some (account_of tenant parts.book.accounts)) [
-    | inl missing ↦ (let none = ap (λ (xs : Frames). sum_by (words_counted parts) (names_of tenant xs)) (nobodys parts stored tenant missing).1 in omega (arith, none))
-    | inr own ↦
-        (let within = within-reserve parts stored tenant own.0 own.1 in
-        let most = within.charged_within in
-        let charged = IsAccountFor.charged (its-account parts stored tenant own.0 own.1) in
-        let words = words-named in
-        omega (arith, most, within.segments_within, charged, words, words-charged (tree_in parts tenant)))
+    | inl missing ↦ grind arith
+    | inr own ↦ grind (arith, within-reserve, words-charged, named-words, found-each, tree-rising, words-at)
   ]
 
   -- what a tenant that is there has alive
   pub live-found : (count words : ℕ) → is_some (tenant_in (shared_of parts).tenants tenant) ≡ true → count ≡ length (frames_of parts.trees tenant) → words ≡ sum_by (words_counted parts) (names_of tenant (frames_of parts.trees tenant)) → Some (count, words) ≡ live_of (shared_of parts) tenant
-  live-found count words some counted summed =
-      let own = some-of (account_of tenant parts.book.accounts) (sym (tenant-there parts tenant) ∙ some) in
-      let found = tenant-found parts tenant ∙ ap (λ (o : Option Account). option_map (tenant_from parts tenant) o) own.1 in
-      let long = counted ∙ sym (length-with_words_of_nodes parts.nodes (frames_of parts.trees tenant)) in
-      rw (found, long, summed ∙ words-named) refl
+  live-found count words some counted summed = grind (arith, tenant-found, length-with_words_of_nodes, named-words, found-each, tree-rising, words-at)

@@ -1,20 +1,22 @@
 -- The stack's nodes as they come, change and go, and what they are charged.
-use Rattle.std.proofs.Common.{◌≡◌, ◌≢◌, ℕ, zero, suc, ◌<◌, ◌≤◌, ◌+◌, List, [], ◌∷◌, length, Option, Some, None, IsSome, refl, ap, arith, get_or-set_other, get_or-set_same, eqb, sym, subst, ◌∙◌, inl, inr, false, drop, get_or, add-one, drop-cons, ◌-◌, ◌++◌, replicate, Result, Ok, Err, IsOk, IsErr}
+use Rattle.std.proofs.Common.{◌≡◌, ◌≢◌, ℕ, zero, suc, ◌<◌, ◌≤◌, ◌+◌, List, [], ◌∷◌, length, Option, Some, None, IsSome, refl, ap, arith, get_or-set_other, get_or-set_same, sym, subst, false, drop, get_or, add-one, drop-cons, ◌-◌, ◌++◌, replicate}
 use Rattle.sched_store.proofs.Common.{set, Account, FrameId, frames_of, on_tenant, words_under, TenantHasLeft, AllEntries-map, sum_by-le-with}
 use Rattle.sched_store.proofs.Common.{Frame, frame_at, HasValue, found-serial, tree-rising, Parts, with_words_of_nodes, shared_of}
 use Rattle.sched_store.proofs.Common.{Reservations, changed, IsSoundBook, ChangesOnly, map_value, AllAboveSerial, AreSerialsRising, Each, length-set, drop_all}
-use Rattle.sched_store.proofs.Common.{length-append, length-replicate, IsStored, AreFramesNodes, frame_in_trees, node_of, cases_Bool}
-use Rattle.sched_store.proofs.Common.{eqb-true, eqb-false, or_parts, leb-false, charged_segments, charged_by, reserved_segments, IsWithinReserve}
+use Rattle.sched_store.proofs.Common.{length-append, length-replicate, IsStored, AreFramesNodes}
+use Rattle.sched_store.proofs.Common.{eqb-true, eqb-false, charged_segments, charged_by, reserved_segments, IsWithinReserve}
 use Rattle.cactus_stack.specs.Nodes.{Nodes, Node, node_at, node_words, node_parent, words_of_node, with_node_words, IsOpen, charge, charge_of, total_charge, growth_charge, free_segments}
-use Rattle.sched_rules.specs.Trees.{charged_for, with_frame_words, stored, is_outside, frame_words}
+use Rattle.sched_rules.specs.Trees.{charged_for, with_frame_words, stored, is_outside}
 use Rattle.sched_rules.specs.Lone.{holding}
 use Rattle.sched_store.proofs.States.{charged-cons, frame-account}
+use Rattle.frame_table.proofs.TreeValues.{frame_at-map_values, tree-map_values}
+use Rattle.sched_store.proofs.Common.{Tree}
 use Rattle.sched_store.proofs.Steps.{TenantStep, Stepped, stepped, left-account, changed-nothing}
 use Rattle.cactus_stack.proofs.LawFacts.{lt-of-some}
 use Rattle.std.proofs.lemmas.List.{set-set}
 use Rattle.std.proofs.lemmas.List.Sums.{sum_by-set}
 use Rattle.sched_rules.specs.Views.{named}
-use Rattle.sched_store.proofs.Lookups.{Frames, Trees, family, framed, tree_in, with_words, Owns, its-account, each-frame, named-found, there-frame}
+use Rattle.sched_store.proofs.Lookups.{Frames, family, framed, tree_in, Owns, each-frame, named-found, there-frame}
 use Rattle.sched_rules.proofs.StoreLemmas.{length-stored}
 
 -- the charge of an entry is that of its words
@@ -29,39 +31,20 @@ charge_at nodes n = charge (length (node_words nodes n))
 -- other words in a node
 module _ (nodes : Nodes) (n : ℕ) where
   pub words-other : (m : ℕ) (words : List ℕ) → m ≢ n → node_at (with_node_words nodes n words) m ≡ node_at nodes m
-  words-other m words differs = get_or-set_other nodes n m (Some (record { parent = node_parent nodes n; words = words })) None differs
+  words-other m words differs = grind (arith, get_or-set_other)
 
   pub words-same : (words : List ℕ) → IsOpen nodes n → node_at (with_node_words nodes n words) n ≡ Some (record { parent = node_parent nodes n; words = words })
-  words-same words is = get_or-set_same nodes n (Some (record { parent = node_parent nodes n; words = words })) None (lt-of-some nodes n is)
-
-  pub words-open : (m : ℕ) (words : List ℕ) → IsOpen nodes n → IsOpen nodes m → IsOpen (with_node_words nodes n words) m
-  words-open m words here is = grind (arith, words-same, words-other)
-
-  pub words-was-open : (m : ℕ) (words : List ℕ) → IsOpen nodes n → IsOpen (with_node_words nodes n words) m → IsOpen nodes m
-  words-was-open m words here is = grind (arith, words-other)
-
-  pub words-parent : (m : ℕ) (words : List ℕ) → IsOpen nodes n → node_parent (with_node_words nodes n words) m ≡ node_parent nodes m
-  words-parent m words here = grind (arith, words-same, words-other)
+  words-same words is = grind (arith, get_or-set_same, lt-of-some)
 
   pub words-here : (words : List ℕ) → IsOpen nodes n → node_words (with_node_words nodes n words) n ≡ words
   words-here words here = ap words_of_node (words-same words here)
-
-  pub words-there : (m : ℕ) (words : List ℕ) → m ≢ n → node_words (with_node_words nodes n words) m ≡ node_words nodes m
-  words-there m words differs = ap words_of_node (words-other m words differs)
-
-  pub words-charge : (words : List ℕ) → IsOpen nodes n → total_charge (with_node_words nodes n words) + charge_at nodes n ≡ total_charge nodes + charge (length words)
-  words-charge words here = omega (arith, charge-words (node_at nodes n), sum_by-set charge_of nodes n (Some (record { parent = node_parent nodes n; words = words })) None (lt-of-some nodes n here))
-
--- words that are changed twice
-pub words-twice : (nodes : Nodes) (n : ℕ) (first second : List ℕ) → IsOpen nodes n → with_node_words (with_node_words nodes n first) n second ≡ with_node_words nodes n second
-words-twice nodes n first second here = grind (arith, set, words-parent, set-set)
 
 -- words that stay
 pub words-stay : (nodes : Nodes) (n : ℕ) → IsOpen nodes n → with_node_words nodes n (node_words nodes n) ≡ nodes
 words-stay [] n is = refl
 words-stay (None ∷ nodes) zero is = absurd (cc is)
 words-stay (Some node ∷ nodes) zero is = refl
-words-stay (e ∷ nodes) (suc n) is = ap (λ (rest : Nodes). e ∷ rest) (words-stay nodes n is)
+words-stay (e ∷ nodes) (suc n) is = grind (arith, words-stay nodes n is)
 
 -- A frame with other words.
 
@@ -78,33 +61,15 @@ with_words_of_nodes-changed nodes new serial words [] all = refl
 with_words_of_nodes-changed nodes new serial words (frame ∷ frames) all = grind (arith, with_words_of_nodes-changed nodes new serial words frames, eqb-true, eqb-false)
 
 -- the charges of frames with words in one
-charged-changed : (nodes : Nodes) (frames : Frames) (serial : ℕ) (words : List ℕ) (frame : Frame ℕ) → AreSerialsRising frames → frame_at frames serial ≡ Some frame →
-    charged_for (with_frame_words serial words (with_words_of_nodes nodes frames)) + charge_at nodes frame.value ≡ charged_for (with_words_of_nodes nodes frames) + charge (length words)
-charged-changed nodes [] serial words frame rising there = absurd (cc there)
-charged-changed nodes (first ∷ frames) serial words frame rising there =
-    elim (cases_Bool (eqb first.serial serial)) [
-      | inl same ↦
-          (let is : first ≡ frame = (let found : Some first ≡ Some frame = rw same at there in cc found) in
-          let e = eqb-true first.serial serial same in
-          let above : AllAboveSerial serial frames = rw (← e) rising.0 in
-          let rest : with_frame_words serial words (with_words_of_nodes nodes frames) ≡ with_words_of_nodes nodes frames = higher-stay nodes frames serial words above in
-          let first_words : charge_at nodes first.value ≡ charge_at nodes frame.value = ap (λ (f : Frame ℕ). charge_at nodes f.value) is in
-          rw (same, rest) (omega (arith, first_words, charged-cons (record { serial = first.serial; path = first.path; state = first.state; value = words }) (with_words_of_nodes nodes frames), charged-cons (map_value (node_words nodes) first) (with_words_of_nodes nodes frames))))
-      | inr other ↦
-          (let rest = charged-changed nodes frames serial words frame rising.1 (rw other at there) in
-          rw other (omega (arith, rest, charged-cons (map_value (node_words nodes) first) (with_frame_words serial words (with_words_of_nodes nodes frames)), charged-cons (map_value (node_words nodes) first) (with_words_of_nodes nodes frames))))
-    ]
-  where
-    higher-stay : (nodes : Nodes) (frames : Frames) (serial : ℕ) (words : List ℕ) → AllAboveSerial serial frames → with_frame_words serial words (with_words_of_nodes nodes frames) ≡ with_words_of_nodes nodes frames
-    higher-stay nodes [] serial words above = refl
-    higher-stay nodes (frame ∷ frames) serial words above = grind (arith, higher-stay nodes frames serial words)
+module _ (serial : ℕ) (words : List ℕ) where
+  higher-stay : (tree : Tree) → AllAboveSerial serial tree → with_frame_words serial words tree ≡ tree
+  higher-stay [] above = refl
+  higher-stay (frame ∷ tree) above = grind (arith, higher-stay tree)
 
--- a node is of one frame alone
-
-other-node : (nodes : Nodes) (trees : Trees) (number serial other_number other_serial : ℕ) (frame other : Frame ℕ) → AreFramesNodes nodes trees → frame_in_trees trees number serial ≡ Some frame → frame_in_trees trees other_number other_serial ≡ Some other →
-    other.value ≡ frame.value → (other_number ≡ number) × (other_serial ≡ serial)
-other-node nodes trees number serial other_number other_serial frame other are there is same =
-    are.once other_number other_serial number serial frame.value (ap node_of is ∙ ap (λ (n : ℕ). Some n) same) (ap node_of there)
+  charged-changed : (tree : Tree) (frame : Frame (List ℕ)) → AreSerialsRising tree → frame_at tree serial ≡ Some frame →
+      charged_for (with_frame_words serial words tree) + charge (length frame.value) ≡ charged_for tree + charge (length words)
+  charged-changed [] frame rising there = absurd (cc there)
+  charged-changed (first ∷ tree) frame rising there = grind (arith, charged-changed tree frame, eqb-true, charged-cons, higher-stay)
 
 -- what is asked of an account whose charge changes with the words
 pub record ChargesWords (old : Parts) (book : Reservations) (name : FrameId) (f : Account → Account) (account : Account) (before after : ℕ) : Type 0 where
@@ -121,7 +86,7 @@ abbrev pub WordsSet : Parts → Nodes → Reservations → FrameId → List ℕ 
 WordsSet old nodes book name words = Stepped old (record old { nodes = nodes; book = book }) name.tenant (holding name.serial words)
 
 -- what a store keeps true is true after a frame got other words
-module _ (old : Parts) (nodes : Nodes) (name : FrameId) (frame : Frame ℕ) (words : List ℕ) (stored : IsStored old) (there : framed old name ≡ Some frame)
+module _ {old : Parts} (nodes : Nodes) (name : FrameId) {frame : Frame ℕ} (words : List ℕ) (stored : IsStored old) (there : framed old name ≡ Some frame)
     (is : nodes ≡ with_node_words old.nodes frame.value words) where
   here : IsOpen old.nodes frame.value
   here = (stored.frames_nodes.nodes_of_frames name.tenant name.serial frame there).is_open
@@ -132,66 +97,51 @@ module _ (old : Parts) (nodes : Nodes) (name : FrameId) (frame : Frame ℕ) (wor
         nodes_of_frames = λ number serial x at.
             let own = stored.frames_nodes.nodes_of_frames number serial x at in
             record {
-              is_open = words-open old.nodes frame.value x.value words here own.is_open;
-              parent = words-parent old.nodes frame.value x.value words here ∙ own.parent;
+              is_open = grind (arith, words-same, words-other);
+              parent = grind (arith, words-same, words-other);
             };
         once = stored.frames_nodes.once;
-        no_other = λ node is_open. stored.frames_nodes.no_other node (words-was-open old.nodes frame.value node words here is_open);
+        no_other = grind (arith, words-other);
       })
-
-  -- the words of another frame
-  other-frame : (number serial : ℕ) (x : Frame ℕ) → frame_in_trees old.trees number serial ≡ Some x → ((number ≡ name.tenant) × (serial ≡ name.serial) → ⊥) →
-      node_words nodes x.value ≡ node_words old.nodes x.value
-  other-frame number serial x at differs =
-      ap (λ (ns : Nodes). node_words ns x.value) is
-      ∙ words-there old.nodes frame.value x.value words (λ same. differs (other-node old.nodes old.trees name.tenant name.serial number serial frame x stored.frames_nodes there at same))
 
   own-changed : with_words_of_nodes nodes (family old name) ≡ with_frame_words name.serial words (tree_in old name.tenant)
   own-changed =
       let frames = family old name in
       with_words_of_nodes-changed old.nodes nodes name.serial words frames
-      (each-frame old stored name.tenant (λ x. (x.serial ≡ name.serial → node_words nodes x.value ≡ words) × (x.serial ≢ name.serial → node_words nodes x.value ≡ node_words old.nodes x.value))
+      (each-frame stored name.tenant (λ x. (x.serial ≡ name.serial → node_words nodes x.value ≡ words) × (x.serial ≢ name.serial → node_words nodes x.value ≡ node_words old.nodes x.value))
       (λ serial x at.
-      let at_serial = found-serial frames serial x at in (
-        λ same.
-            let Q : ℕ → Type 0 = λ n. frame_at frames n ≡ Some x in
-            let found : framed old name ≡ Some x = subst Q (sym at_serial ∙ same) at in
-            let e : frame ≡ x = cc (there, found) in
-            rw (is, ← e) (words-here old.nodes frame.value words here),
-        λ differs. other-frame name.tenant serial x at (λ both. differs (at_serial ∙ both.1)),
-      )))
+      grind (arith, found-serial, words-here, here, words-other)))
 
-  words-step : (book : Reservations) (f : Account → Account) (account : Account) →
+  words-step : {book : Reservations} {f : Account → Account} {account : Account} →
       ChargesWords old book name f account (charge_at old.nodes frame.value) (charge (length words)) → TenantStep old (record old { nodes = nodes; book = book }) name.tenant f account
-  words-step book f account charges =
-      let account_is = its-account old stored name.tenant account charges.there in
+  words-step {book} charges =
       let own_words = own-changed in
-      let total : total_charge nodes + charge_at old.nodes frame.value ≡ total_charge old.nodes + charge (length words) = rw is (words-charge old.nodes frame.value words here) in
-      let rising = tree-rising (family old name) (stored.forest name.tenant) in
-      let own_total = charged-changed old.nodes (family old name) name.serial words frame rising there in
+      let total : total_charge nodes + charge_at old.nodes frame.value ≡ total_charge old.nodes + charge (length words) = grind (arith, here, sum_by-set, lt-of-some) in
+      let rising = tree-rising (tree_in old name.tenant) (tree-map_values (node_words old.nodes) (family old name) (stored.forest name.tenant)) in
+      let own_total = charged-changed name.serial words (tree_in old name.tenant) (map_value (node_words old.nodes) frame) rising (rw (frame_at-map_values (node_words old.nodes) (family old name) name.serial, there) refl) in
       record {
         there = charges.there;
         sound = charges.sound;
         book = charges.changes;
-        trees = record { frames = λ other differs. refl; places = λ other differs. refl };
+        trees = grind arith;
         count = refl;
         tree = stored.forest name.tenant;
         frames_nodes = words-frames-nodes;
-        segments = ap (λ (ns : Nodes). length ns) is ∙ length-set old.nodes frame.value _;
+        segments = grind (arith, length-set);
         charges = omega (arith, total, charges.sum, stored.charges);
         own = grind arith;
         words = λ other differs. with_words_of_nodes-same old.nodes nodes (frames_of old.trees other)
-            (each-frame old stored other (λ x. node_words nodes x.value ≡ node_words old.nodes x.value) (λ serial x at. other-frame other serial x at (λ both. differs both.0)));
+            (each-frame stored other (λ x. node_words nodes x.value ≡ node_words old.nodes x.value) (λ serial x at. grind (arith, words-other)));
         job_lists = refl;
         jobs = λ other differs. refl;
         places = stored.places;
         newest = refl;
       }
 
-  pub words-set : (book : Reservations) (f : Account → Account) (account : Account) →
+  pub words-set : {book : Reservations} {f : Account → Account} {account : Account} →
       ChargesWords old book name f account (charge_at old.nodes frame.value) (charge (length words)) → WordsSet old nodes book name words
-  words-set book f account charges =
-      stepped (holding name.serial words) stored (words-step book f account charges) (rw (charges.reserve, charges.opened, charges.ticks, own-changed) refl)
+  words-set charges =
+      stepped (holding name.serial words) stored (words-step charges) (rw (charges.reserve, charges.opened, charges.ticks, own-changed) refl)
 
 -- Stores into a node, one after another.
 
@@ -207,7 +157,7 @@ first-store stores i d within = rw add-one (drop-cons stores i d within)
 
 outside-set : (stores : Stores) (words : List ℕ) (at word : ℕ) → is_outside stores (set words at word) ≡ is_outside stores words
 outside-set [] words at word = refl
-outside-set (store ∷ stores) words at word = rw (length-set words at word, outside-set stores words at word) refl
+outside-set (store ∷ stores) words at word = grind (arith, length-set, outside-set stores words)
 
 -- what is true after one more store
 pub record StoredMore (stack new start : Nodes) (node : ℕ) (stores : Stores) (i : ℕ) : Type 0 where
@@ -216,12 +166,12 @@ pub record StoredMore (stack new start : Nodes) (node : ℕ) (stores : Stores) (
   pub so_far : stored_in new node (drop (i + 1) stores) ≡ stored_in start node stores
 
 pub store-inside : (stack : Nodes) (node : ℕ) (stores : Stores) (i : ℕ) (d : ℕ × ℕ) → i < length stores → is_outside (drop i stores) (node_words stack node) ≡ false → (get_or stores i d).0 < length (node_words stack node)
-store-inside stack node stores i d within inside = grind (arith, first-store, leb-false, or_parts)
+store-inside stack node stores i d within inside = grind (arith, first-store)
 
 pub store-more : (stack new start : Nodes) (node : ℕ) (stores : Stores) (i : ℕ) (d : ℕ × ℕ) → i < length stores → IsOpen stack node → is_outside (drop i stores) (node_words stack node) ≡ false →
     stored_in stack node (drop i stores) ≡ stored_in start node stores →
     new ≡ with_node_words stack node (set (node_words stack node) (get_or stores i d).0 (get_or stores i d).1) → StoredMore stack new start node stores i
-store-more stack new start node stores i d within is_open inside so_far is = grind (arith, set, first-store, or_parts, words-here, words-open, outside-set, words-twice)
+store-more stack new start node stores i d within is_open inside so_far is = grind (arith, first-store, outside-set, set-set, words-same)
 
 -- after the last store
 pub store-all : (stack start : Nodes) (node : ℕ) (stores : Stores) (i : ℕ) → length stores ≤ i → IsOpen stack node → stored_in stack node (drop i stores) ≡ stored_in start node stores →
@@ -239,21 +189,21 @@ pub record HasNode (parts : Parts) (name : FrameId) (node : ℕ) : Type 0 where
   pub words : words_under (shared_of parts) name ≡ node_words parts.nodes node
 
 -- the node of a frame that the core names; and what changes no charge changes no account
-module _ (parts : Parts) (stored : IsStored parts) (name : FrameId) where
+module _ {parts : Parts} (stored : IsStored parts) (name : FrameId) where
   pub has-node : (node : ℕ) → IsSome (named (shared_of parts) name) → HasValue (framed parts name) node → HasNode parts name node
   has-node node is value =
-      let f = there-frame parts stored name is in
+      let f = there-frame stored name is in
       let same : f.0.value ≡ node = rw f.1 at value in
       record {
         frame = f.0;
         there = f.1;
         value = same;
         is_open = rw same at ((stored.frames_nodes.nodes_of_frames name.tenant name.serial f.0 f.1).is_open);
-        words = ap frame_words (named-found parts stored name ∙ ap (with_words parts) f.1) ∙ ap (node_words parts.nodes) same;
+        words = grind (arith, named-found);
       }
 
-  same-charges : (account : Account) (before after : ℕ) → Owns parts name.tenant account → before ≡ after → ChargesWords parts parts.book name (λ a. a) account before after
-  same-charges account before after own same = grind (arith, changed-nothing)
+  same-charges : {account : Account} (before after : ℕ) → Owns parts name.tenant account → before ≡ after → ChargesWords parts parts.book name (λ a. a) account before after
+  same-charges before after own same = grind (arith, changed-nothing)
 
 charged-changes : (parts : Parts) (book : Reservations) (name : FrameId) (account : Account) (before after added : ℕ) → Owns parts name.tenant account → IsSoundBook book → ChangesOnly parts.book book name.tenant (charged_by added 0) →
     charged_segments book.accounts ≡ charged_segments parts.book.accounts + added → before + added ≡ after → ChargesWords parts book name (charged_by added 0) account before after
@@ -262,20 +212,20 @@ charged-changes parts book name account before after added own sound changes sum
 -- the tenant of a frame with a node has an account
 module _ {parts : Parts} {name : FrameId} {node : ℕ} (is_stored : IsStored parts) (has : HasNode parts name node) where
   own : (a : Account) × Owns parts name.tenant a
-  own = frame-account parts is_stored name.tenant name.serial has.frame has.there
+  own = grind (arith, frame-account)
 
   -- the words of the node become these, and its tenant is charged for them
   set-node : (nodes : Nodes) (book : Reservations) (words : List ℕ) (f : Account → Account) → nodes ≡ with_node_words parts.nodes node words →
       ChargesWords parts book name f own.0 (charge_at parts.nodes node) (charge (length words)) → WordsSet parts nodes book name words
   set-node nodes book words f is charges =
-      words-set parts nodes name has.frame words is_stored has.there (rw has.value is) book f own.0
+      words-set nodes name words is_stored has.there (rw has.value is)
       (subst (λ (n : ℕ). ChargesWords parts book name f own.0 (charge_at parts.nodes n) (charge (length words))) (sym has.value) charges)
 
   pub stores-set : (nodes : Nodes) (stores : Stores) → nodes ≡ stored_in parts.nodes node stores → WordsSet parts nodes parts.book name (stored stores (words_under (shared_of parts) name))
   stores-set nodes stores is =
       let words = node_words parts.nodes node in
       let len = length-stored stores words in
-      let charges = same-charges parts is_stored name own.0 (charge_at parts.nodes node) (charge (length (stored stores words))) own.1 (ap charge (sym len)) in
+      let charges = same-charges is_stored name (charge_at parts.nodes node) (charge (length (stored stores words))) own.1 (ap charge (sym len)) in
       rw has.words (set-node nodes parts.book (stored stores words) (λ a. a) is charges)
 
   -- a node that is longer
@@ -286,37 +236,29 @@ module _ {parts : Parts} {name : FrameId} {node : ℕ} (is_stored : IsStored par
   growth-set nodes book more added is added_is sound changes sum =
       let words = node_words parts.nodes node in
       let longer : List ℕ = words ++ replicate more 0 in
-      let grown : length longer ≡ length words + more = length-append words (replicate more 0) ∙ ap (λ (n : ℕ). length words + n) (length-replicate more 0) in
+      let grown : length longer ≡ length words + more = grind (arith, length-append, length-replicate) in
       let after = ap charge grown in
       let charges = charged-changes parts book name own.0 (charge_at parts.nodes node) (charge (length longer)) added own.1 sound changes sum (omega (arith, after, added_is)) in
       rw has.words (set-node nodes book longer (charged_by added 0) is charges)
 
-  pub growth-within : (more : ℕ) → length (words_under (shared_of parts) name) + more ≤ 128 → length (node_words parts.nodes node) + more ≤ 128
-  growth-within more size = rw has.words at size
-
   pub growth-added : (more len added : ℕ) → len ≡ length (node_words parts.nodes node) → added ≡ growth_charge len more → added ≡ growth_charge (length (words_under (shared_of parts) name)) more
-  growth-added more len added is grown = grown ∙ ap (λ (n : ℕ). growth_charge n more) (is ∙ ap length (sym has.words))
+  growth-added more len added is grown = grind arith
 
 -- no store changes nothing
-pub nothing-stored : (parts : Parts) (name : FrameId) → IsStored parts → IsSome (named (shared_of parts) name) →
+pub nothing-stored : {parts : Parts} (name : FrameId) → IsStored parts → IsSome (named (shared_of parts) name) →
     shared_of parts ≡ on_tenant name.tenant (holding name.serial (words_under (shared_of parts) name)) (shared_of parts)
-nothing-stored parts name is_stored is =
-    let f = there-frame parts is_stored name is in
+nothing-stored {parts} name is_stored is =
+    let f = there-frame is_stored name is in
     let value : HasValue (framed parts name) f.0.value = let there = f.1 in rw there refl in
-    let has = has-node parts is_stored name f.0.value is value in
+    let has = has-node is_stored name f.0.value is value in
     (stores-set is_stored has parts.nodes [] (sym (words-stay parts.nodes f.0.value has.is_open))).shared
 
 -- a segment that a tenant has left is free
-module _ (parts : Parts) (stored : IsStored parts) where
+module _ {parts : Parts} (stored : IsStored parts) where
   pub has-free : (number segments nodes : ℕ) → TenantHasLeft (shared_of parts) number segments nodes → segments ≤ free_segments parts.nodes
   has-free number segments nodes has =
-      let own = left-account parts stored number (λ left. (segments ≤ left.segments) × (nodes ≤ left.nodes)) has in
+      let own = left-account stored number (λ left. (segments ≤ left.segments) × (nodes ≤ left.nodes)) has in
       let within = AllEntries-map (λ e. IsWithinReserve e.1) (λ e. e.1.charged ≤ e.1.reserve.segments) (λ e w. w.charged_within) parts.book.accounts stored.book.within in
       let sums : charged_segments parts.book.accounts + (own.0.reserve.segments - own.0.charged) ≤ reserved_segments parts.book.accounts =
       sum_by-le-with (λ e. e.1.charged) (λ e. e.1.reserve.segments) number own.0 parts.book.accounts own.1.0 within in
-      let enough : segments ≤ own.0.reserve.segments - own.0.charged = own.1.1.0 in
-      omega (arith, sums, enough, stored.charges, stored.segments, stored.book.segments_reserved)
-
-pub not-refused : {T E : Type 0} (result : Result T E) → (IsErr result → ⊥) → IsOk result
-not-refused (Ok value) not = refl
-not-refused (Err error) not = absurd (not refl)
+      grind arith

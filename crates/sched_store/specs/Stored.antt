@@ -35,13 +35,15 @@ pub record IsFrameNode (nodes : Nodes) (frames : List (Frame ℕ)) (frame : Fram
 pub record HasFrame (trees : List (TenantTree ℕ)) (node : ℕ) : Type 0 where
   pub number : ℕ
   pub serial : ℕ
-  pub there : node_of (frame_in_trees trees number serial) ≡ Some node
+  pub frame : Frame ℕ
+  pub there : frame_in_trees trees number serial ≡ Some frame
+  pub value : frame.value ≡ node
 
 -- frames and open nodes are one to one: each frame has an open node, no two share one, and each open node is a frame's
 pub record AreFramesNodes (nodes : Nodes) (trees : List (TenantTree ℕ)) : Type 0 where
   pub nodes_of_frames : (number serial : ℕ) (frame : Frame ℕ) → frame_in_trees trees number serial ≡ Some frame → IsFrameNode nodes (frames_of trees number) frame
-  pub once : (number serial other_number other_serial node : ℕ) → node_of (frame_in_trees trees number serial) ≡ Some node → node_of (frame_in_trees trees other_number other_serial) ≡ Some node →
-      (number ≡ other_number) × (serial ≡ other_serial)
+  pub once : (number serial other_number other_serial : ℕ) (frame other : Frame ℕ) → frame_in_trees trees number serial ≡ Some frame → frame_in_trees trees other_number other_serial ≡ Some other →
+      frame.value ≡ other.value → (number ≡ other_number) × (serial ≡ other_serial)
   pub no_other : (node : ℕ) → IsOpen nodes node → HasFrame trees node
 
 -- a tenant's account and its frames agree: it is charged for its frames, has as many places for them as segments, and their serials were given

@@ -1,13 +1,13 @@
 use Rattle.frame_table.proofs.Common.{refl, ap, ◌∙◌, arith, ReadyFrame}
-use Rattle.frame_table.proofs.Places.{filter-not-remove, filter-not-absent, alike}
+use Rattle.frame_table.proofs.Places.{remove-rising, filter-not-absent, alike}
 use Rattle.frame_table.proofs.ready.forget.Goals.{else-at-len-via-then-at-len+else-at-serial, else-at-len-via-else-at-len}
 use Rattle.frame_table.proofs.ready.forget.Goals as goal
 
 pub returns-then-at-serial : goal.returns-then-at-serial
 returns-then-at-serial g c =
     let frames = c.args.ready.now.list in
-    let gone = filter-not-remove (λ (frame : ReadyFrame). frame.serial) frames c.args.serial c.place_for-at.result c.at.result c.requires c.place_for-at.ensures.place (omega arith) c.at.ensures c.if-at-serial.true in
-    rw (c.remove.ensures.left, gone) refl
+    let gone = remove-rising (λ (frame : ReadyFrame). frame.serial) frames c.place_for-at.result c.at.result c.requires (omega arith) c.at.ensures in
+    rw (c.remove.ensures.left, gone, c.if-at-serial.true) refl
 
 pub returns-else-at-len : goal.returns-else-at-len
 returns-else-at-len g c =

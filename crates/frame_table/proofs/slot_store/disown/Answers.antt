@@ -1,20 +1,16 @@
+use Rattle.frame_table.proofs.Common.{recounted}
+use Rattle.frame_table.proofs.Forest.{with_slot-none}
 use Rattle.frame_table.proofs.Common.{◌-◌, refl, ◌∙◌, arith, ap, sym, slots_in, without_child}
-use Rattle.frame_table.proofs.Forest.{children_at-found, with_slot-set}
-use Rattle.frame_table.proofs.SlotStores.{contains_read}
+use Rattle.frame_table.proofs.Forest.{slot_at-found, with_slot-set}
 use Rattle.frame_table.proofs.Keys.{seen-at, put-slots, put-keys}
 use Rattle.frame_table.proofs.Cutting.{parent-key, no-parent-key}
 use Rattle.frame_table.proofs.slot_store.disown.Goals as goal
-
-pub count_less-requires-clause-there : goal.count_less-requires-clause-there
-count_less-requires-clause-there g c =
-    let p = parent-key _ _ _ _ _ c.in-Some.is c.requires.keys c.requires.above in
-    contains_read c.args.slab.now c.args.order.now.list p.at c.in-Some.key c.requires.keys.here p.key_at.within p.key_at.read
 
 pub count_less-requires-clause-some : goal.count_less-requires-clause-some
 count_less-requires-clause-some g c kept found =
     let p = parent-key _ _ _ _ _ c.in-Some.is c.requires.keys c.requires.above in
     let at = seen-at c.requires.keys p.key_at found in
-    omega (arith, rw p.is at c.requires.counted, children_at-found _ _ _ _ c.requires.rise at)
+    omega (arith, rw (p.is, slot_at-found _ _ _ _ c.requires.rise at) at c.requires.counted)
 
 pub returns-in-Some-clause-keys : goal.returns-in-Some-clause-keys
 returns-in-Some-clause-keys g c =
@@ -26,8 +22,8 @@ returns-in-Some-clause-slots g c =
     let p = parent-key _ _ _ _ _ c.in-Some.is c.requires.keys c.requires.above in
     let at = seen-at c.requires.keys p.key_at p.found in
     put-slots p.found (c.count_less.ensures.put _ p.found) _ p.at c.requires.keys p.key_at.within p.key_at.read
-    ∙ with_slot-set _ p.at p.name (λ slot. record slot { children = slot.children - 1 }) _ c.requires.rise at
+    ∙ with_slot-set _ p.at p.name (recounted (λ n. n - 1)) _ c.requires.rise at
     ∙ ap (λ o. without_child o (slots_in c.args.slab.now c.args.order.now.list)) (sym p.is)
 
 pub returns-in-None-clause-slots : goal.returns-in-None-clause-slots
-returns-in-None-clause-slots g c = rw (no-parent-key c.args.slab.now c.args.order.now.list c.args.parent c.args.above c.in-None.is c.requires.above) refl
+returns-in-None-clause-slots g c = rw (no-parent-key c.args.slab.now c.args.order.now.list c.args.parent c.args.above c.in-None.is c.requires.above) (sym (with_slot-none (slots_in c.args.slab.now c.args.order.now.list) (recounted (λ n. n - 1))))

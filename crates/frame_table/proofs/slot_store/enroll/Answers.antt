@@ -1,13 +1,9 @@
-use Rattle.std.proofs.Common.{◌+◌, Some, refl, sym, ◌∙◌}
-use Rattle.frame_table.proofs.Forest.{count-at, with_slot-set, root_at-found}
-use Rattle.frame_table.proofs.SlotStores.{contains_read, knows-like}
+use Rattle.frame_table.proofs.Common.{recounted}
+use Rattle.std.proofs.Common.{◌+◌, Some, refl, ◌∙◌}
+use Rattle.frame_table.proofs.Forest.{count-at, with_slot-set, slot_at-found}
+use Rattle.frame_table.proofs.SlotStores.{knows-like}
 use Rattle.frame_table.proofs.Keys.{seen-at, knows-key, put-slots, put-like, put-keys}
 use Rattle.frame_table.proofs.slot_store.enroll.Goals as goal
-
-pub index-requires : goal.index-requires
-index-requires g c =
-    let k = c.requires.named in
-    contains_read c.args.slab.now c.args.order.now.list k.0 c.args.key c.requires.keys.here k.1.within k.1.read
 
 pub count_more-requires-clause-few : goal.count_more-requires-clause-few
 count_more-requires-clause-few g c kept found =
@@ -23,12 +19,12 @@ returns-clause-slots g c =
     let k = c.requires.named in
     let at = seen-at c.requires.keys k.1 c.index.ensures in
     put-slots c.index.ensures (c.count_more.ensures.put _ c.index.ensures) _ k.0 c.requires.keys k.1.within k.1.read
-    ∙ with_slot-set _ k.0 c.args.name (λ slot. record slot { children = slot.children + 1 }) _ c.requires.rise at
+    ∙ with_slot-set _ k.0 c.args.name (recounted (λ n. n + 1)) _ c.requires.rise at
 
 pub returns-clause-root : goal.returns-clause-root
 returns-clause-root g c =
     let at = seen-at c.requires.keys c.requires.named.1 c.index.ensures in
-    sym (root_at-found _ _ _ _ c.requires.rise at)
+    rw (slot_at-found _ _ _ _ c.requires.rise at) refl
 
 pub returns-clause-above : goal.returns-clause-above
 returns-clause-above g c =

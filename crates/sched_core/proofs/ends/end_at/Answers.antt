@@ -9,32 +9,32 @@ use Rattle.sched_core.proofs.ends.end_at.Goals as goal
 aborts : (g : Over) (c : After-abort g) →
     (n : IsNamed c.args.store.now c.args.root) × IsWith c.args.store.now c.args.root.tenant (without_under c.args.root.serial n.tenant) c.abort.new.self
 aborts g c =
-    let n = named-there c.args.store.now c.args.root c.requires.there in
-    (n, then-changed _ _ _ _ c.abort.new.self _ (begins c.args.root.tenant n.tenant c.args.store.now n.owner) c.abort.ensures.aborted)
+    let n = named-there c.requires.there in
+    (n, then-changed _ (begins c.args.root.tenant c.args.store.now n.owner) c.abort.ensures.aborted)
 
 pub remove-requires-clause-there : goal.remove-requires-clause-there
 remove-requires-clause-there g c =
     let a = aborts g (goal.at.remove-requires-clause-there g c).After-abort in
     let n = a.0 in
     let shape = shaped-in c.args.root.tenant c.args.store.now.tenants n.tenant c.requires.shaped n.owner in
-    with-named c.args.root _ n.frame (aborted-itself c.args.root.serial n.tenant.frames n.frame shape.tree n.found) _ _ a.1
+    with-named c.args.root _ (aborted-itself c.args.root.serial n.tenant.frames n.frame shape.tree n.found) a.1
 
 pub remove-requires-clause-leaf : goal.remove-requires-clause-leaf
 remove-requires-clause-leaf g c =
     let a = aborts g (goal.at.remove-requires-clause-leaf g c).After-abort in
     let n = a.0 in
     let shape = shaped-in c.args.root.tenant c.args.store.now.tenants n.tenant c.requires.shaped n.owner in
-    aborted-childless c.args.store.now c.abort.new.self c.args.root.tenant n.tenant c.args.root.serial shape.tree a.1
+    aborted-childless n.tenant c.args.root.serial shape.tree a.1
 
 pub end_job-requires-clause-there : goal.end_job-requires-clause-there
 end_job-requires-clause-there g c =
-    let gone = then-changed _ _ _ _ c.remove.new.self _ (aborts g (goal.at.end_job-requires-clause-there g c).After-abort).1 c.remove.ensures in
-    with-there _ _ _ _ gone
+    let gone = then-changed _ (aborts g (goal.at.end_job-requires-clause-there g c).After-abort).1 c.remove.ensures in
+    with-there _ gone
 
 pub returns : goal.returns
 returns g c =
     let a = aborts g (goal.at.returns g c).After-abort in
     let n = a.0 in
-    let gone = then-changed _ _ _ _ c.remove.new.self (without_frame c.args.root.serial) a.1 c.remove.ensures in
-    as-change c.args.store.now c.end_job.new.self c.args.root.tenant n.tenant (ended c.args.root.serial c.args.ended) n.owner
-    (then-changed _ _ _ _ c.end_job.new.self (ending_job c.args.root.serial c.args.ended) gone c.end_job.ensures)
+    let gone = then-changed (without_frame c.args.root.serial) a.1 c.remove.ensures in
+    as-change n.tenant (ended c.args.root.serial c.args.ended) n.owner
+    (then-changed (ending_job c.args.root.serial c.args.ended) gone c.end_job.ensures)

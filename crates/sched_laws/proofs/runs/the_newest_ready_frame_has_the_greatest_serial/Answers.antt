@@ -5,5 +5,5 @@ use Rattle.sched_laws.proofs.runs.the_newest_ready_frame_has_the_greatest_serial
 pub returns : goal.returns
 returns c = record {
   found = λ tenant number name home shape is. newest-found number tenant.frames name home (tree-rising tenant.frames shape.tree) is;
-  none = λ tenant number s frame shape is at. newest-none number tenant.frames (tree-rising tenant.frames shape.tree) is s frame at;
+  none = λ tenant number s frame shape is at. newest-none number tenant.frames s frame is at;
 }

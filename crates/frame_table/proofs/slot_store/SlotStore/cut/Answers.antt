@@ -1,49 +1,36 @@
-use Rattle.frame_table.proofs.Common.{[], refl, ◌∙◌, arith, slots_in}
-use Rattle.frame_table.proofs.Cutting.{HasCut, all-there, marked-there, cut-store, cut-slots, cut-values}
-use Rattle.frame_table.proofs.Aborts.{marks-early, none-marked-early}
+use Rattle.frame_table.proofs.Common.{refl, slots_in, Leaves}
+use Rattle.frame_table.proofs.Cutting.{cut-store, cut-slots}
+use Rattle.frame_table.proofs.Aborts.{leaves-early, none-early, keys-early}
 use Rattle.frame_table.proofs.slot_store.SlotStore.cut.Given.{Over}
-use Rattle.frame_table.proofs.slot_store.SlotStore.cut.Goals.{After-sweep}
+use Rattle.frame_table.proofs.slot_store.SlotStore.cut.Goals.{After-take_under}
 use Rattle.frame_table.proofs.slot_store.SlotStore.cut.Goals as goal
 
--- what the marks and the sweep left
-module _ (g : Over) (c : After-sweep g) where
-  was-cut : HasCut c.args.under c.self.inside.slab c.mark_under.new.slab c.sweep.new.slab c.self.inside.order.list c.sweep.new.order.list
-  was-cut =
-      let marks = rw c.as_slice.ensures.value at c.mark_under.ensures.marked in
-      record { marks = marks; kept = c.sweep.ensures.kept; swept = c.sweep.ensures.slots }
+-- what the first pass leaves of the slots
+module _ (g : Over) (c : After-take_under g) where
+  leaves : Leaves c.args.under (slots_in c.self.inside.slab c.self.inside.order.list) c.self.inside.order.list c.self.inside.slab c.take_under.new.slab
+  leaves = rw c.as_slice.ensures.value at c.take_under.ensures.left
 
-pub mark_under-requires-clause-early : goal.mark_under-requires-clause-early
-mark_under-requires-clause-early g c =
-    let within = rw (← c.self.view_is) at c.requires.within in
-    let named = rw (← c.self.view_is) at c.requires.named in
-    let linked = rw (← c.self.view_is) at c.requires.linked in
-    rw c.as_slice.ensures.value (marks-early c.args.under c.self.inside.slab c.self.inside.order.list c.args.at c.self.invariant.here linked within named)
+pub take_under-requires-clause-early : goal.take_under-requires-clause-early
+take_under-requires-clause-early g c =
+    let q = rw (← c.self.view_is) at c.requires in
+    rw c.as_slice.ensures.value (leaves-early c.args.under c.self.inside.slab c.self.inside.order.list c.args.at c.self.invariant.here q.parents q.rise q.within q.named)
 
-pub sweep-requires-clause-early : goal.sweep-requires-clause-early
-sweep-requires-clause-early g c =
-    let marks = rw c.as_slice.ensures.value at c.mark_under.ensures.marked in
-    let within = rw (← c.self.view_is) at c.requires.within in
-    let named = rw (← c.self.view_is) at c.requires.named in
-    let linked = rw (← c.self.view_is) at c.requires.linked in
-    none-marked-early c.args.under c.self.inside.slab c.self.inside.order.list c.args.at c.self.invariant.here linked within named c.mark_under.new.slab marks
+pub take_under-requires-clause-none : goal.take_under-requires-clause-none
+take_under-requires-clause-none g c =
+    let q = rw (← c.self.view_is) at c.requires in
+    rw c.as_slice.ensures.value (none-early c.args.under c.self.inside.slab c.self.inside.order.list c.args.at c.self.invariant.here q.parents q.rise q.within q.named)
 
-pub sweep-requires-clause-there : goal.sweep-requires-clause-there
-sweep-requires-clause-there g c =
-    let slab = c.self.inside.slab in
-    let order = c.self.inside.order.list in
-    let marks = rw c.as_slice.ensures.value at c.mark_under.ensures.marked in
-    marked-there c.args.under (slots_in slab order) order slab c.mark_under.new.slab marks order (all-there slab [] order c.self.invariant.here)
+pub close_up-requires-clause-early : goal.close_up-requires-clause-early
+close_up-requires-clause-early g c =
+    let q = rw (← c.self.view_is) at c.requires in
+    keys-early c.args.under c.self.inside.slab c.self.inside.order.list c.args.at c.self.invariant.here q.parents q.rise q.within q.named c.take_under.new.slab (leaves g (goal.at.close_up-requires-clause-early g c).After-take_under)
 
 pub invariant_of-self : goal.invariant_of-self
 invariant_of-self g c =
-    let cut = was-cut g (goal.at.invariant_of-self g c).After-sweep in
-    let linked = rw (← c.self.view_is) at c.requires.linked in
-    rw c.sweep.ensures.order_places (cut-store cut c.self.invariant linked (omega (arith, c.sweep.ensures.len, c.mark_under.ensures.len)) (c.sweep.ensures.capacity ∙ c.mark_under.ensures.capacity))
+    let q = rw (← c.self.view_is) at c.requires in
+    let values = rw c.as_slice.ensures.value at c.take_under.ensures.values in
+    rw c.close_up.ensures (cut-store (leaves g (goal.at.invariant_of-self g c).After-take_under) _ _ c.self.invariant q.parents values c.take_under.ensures.len c.take_under.ensures.capacity)
 
 pub returns-clause-kept : goal.returns-clause-kept
 returns-clause-kept g c =
-    rw (← c.self.view_is, cut-slots (was-cut g (goal.at.returns-clause-kept g c).After-sweep) c.self.invariant.here) refl
-
-pub returns-clause-values : goal.returns-clause-values
-returns-clause-values g c =
-    rw (← c.self.view_is, ← cut-values (was-cut g (goal.at.returns-clause-values g c).After-sweep) c.self.invariant.here) c.sweep.ensures.values
+    rw (← c.self.view_is, c.close_up.ensures, cut-slots (leaves g (goal.at.returns-clause-kept g c).After-take_under) c.self.invariant.here) refl

@@ -2,12 +2,6 @@ use Rattle.frame_table.proofs.Common.{[], refl, arith, IsSlotStore}
 use Rattle.frame_table.proofs.SlotStores.{slots_in-length, push-store, push-slots}
 use Rattle.frame_table.proofs.slot_store.SlotStore.push.Goals as goal
 
-pub insert_reserved-key-requires : goal.insert_reserved-key-requires
-insert_reserved-key-requires g c =
-    let less = rw (← c.self.view_is) at c.requires.room in
-    let long = slots_in-length c.self.inside.slab [] c.self.inside.order.list c.self.invariant.here in
-    omega (arith, less, long, c.adopt-root.ensures.keys.counted, c.self.invariant.slab_room, c.adopt-root.ensures.capacity)
-
 pub invariant_of-self : goal.invariant_of-self
 invariant_of-self g c =
     let slab = c.adopt-root.new.slab in

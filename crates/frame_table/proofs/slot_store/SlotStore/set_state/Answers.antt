@@ -1,16 +1,5 @@
 use Rattle.frame_table.proofs.Keys.{key-searched, state-store, state-changes}
-use Rattle.frame_table.proofs.SlotStores.{contains_read}
 use Rattle.frame_table.proofs.slot_store.SlotStore.set_state.Goals as goal
-
-pub put_state-requires : goal.put_state-requires
-put_state-requires g c =
-    let k = c.in-Some.ensures in
-    contains_read c.self.inside.slab c.self.inside.order.list k.0 c.in-Some.key c.self.invariant.here k.1.within k.1.read
-
-pub put_state-requires-in-None : goal.put_state-requires-in-None
-put_state-requires-in-None g c =
-    let k = c.search_key-key.ensures in
-    contains_read c.self.inside.slab c.self.inside.order.list k.0 c.search_key-key.result c.self.invariant.here k.1 k.2
 
 pub invariant_of-self : goal.invariant_of-self
 invariant_of-self g c =

@@ -1,5 +1,4 @@
 use Rattle.frame_table.proofs.Common.{◌≡◌, ◌+◌, length, [], refl, arith, remove, length-remove, slots_in}
-use Rattle.frame_table.proofs.Forest.{linked_rises}
 use Rattle.frame_table.proofs.SlotStores.{slots_in-length}
 use Rattle.frame_table.proofs.Keys.{are-keys}
 use Rattle.frame_table.proofs.Cutting.{has-taken, taken-slots, taken-store, taken-knows, rises-remove, taken-read}
@@ -10,18 +9,18 @@ disown-requires g c =
     let slab = c.self.inside.slab in
     let order = c.self.inside.order.list in
     let within = rw (← c.self.view_is, slots_in-length slab [] order c.self.invariant.here) at c.requires.within in
-    let linked = rw (← c.self.view_is) at c.requires.linked in
+    let rise = rw (← c.self.view_is) at c.requires.rise in
     let leaf = rw (← c.self.view_is) at c.requires.leaf in
     let taken = has-taken within c.remove-key.ensures.value c.remove-gone.ensures.value c.remove-gone.ensures.updates in
     let long : length (remove order c.args.at) + 1 ≡ length order = omega (arith, length-remove order c.args.at within) in
-    let store = taken-store taken c.self.invariant.here c.self.invariant (linked_rises [] _ linked) leaf long c.remove-gone.ensures.len c.remove-gone.ensures.capacity in
-    let slots = taken-slots taken c.self.invariant.here c.self.invariant.apart (linked_rises [] _ linked) in
+    let store = taken-store taken c.self.invariant.here c.self.invariant rise leaf long c.remove-gone.ensures.len c.remove-gone.ensures.capacity in
+    let slots = taken-slots taken c.self.invariant.here c.self.invariant.apart rise in
     let are = are-keys _ _ _ _ store in
     let counted = (rw (← c.self.view_is) at c.requires.counted) c.remove-gone.result.slot (taken-read taken c.self.invariant.here) in
     rw c.remove-key.ensures.left (record {
       keys = are;
-      rise = rw slots (rises-remove (slots_in slab order) c.args.at (linked_rises [] _ linked) (rw (← c.self.view_is) at c.requires.within));
-      above = taken-knows taken c.self.invariant.here linked are;
+      rise = rw slots (rises-remove (slots_in slab order) c.args.at c.remove-gone.result.slot rise (rw (← c.self.view_is) at c.requires.within) (taken-read taken c.self.invariant.here));
+      above = taken-knows taken c.self.invariant.here c.self.invariant.apart are;
       counted = rw slots counted;
     })
 
@@ -45,9 +44,9 @@ returns-clause-left g c =
     let slab = c.self.inside.slab in
     let order = c.self.inside.order.list in
     let within = rw (← c.self.view_is, slots_in-length slab [] order c.self.invariant.here) at c.requires.within in
-    let linked = rw (← c.self.view_is) at c.requires.linked in
+    let rise = rw (← c.self.view_is) at c.requires.rise in
     let taken = has-taken within c.remove-key.ensures.value c.remove-gone.ensures.value c.remove-gone.ensures.updates in
-    let slots = taken-slots taken c.self.invariant.here c.self.invariant.apart (linked_rises [] _ linked) in
+    let slots = taken-slots taken c.self.invariant.here c.self.invariant.apart rise in
     rw (← c.self.view_is, c.remove-key.ensures.left, (rw c.remove-key.ensures.left at c.disown.ensures.slots), slots) refl
 
 pub returns-clause-value : goal.returns-clause-value

@@ -2,14 +2,6 @@ use Rattle.std.proofs.Common.{refl, ◌∙◌, arith}
 use Rattle.frame_table.proofs.Tenants.{has-tree, new-sound, new-frames, new-keeps}
 use Rattle.frame_table.proofs.table.FrameTable.remove_all.Goals as goal
 
-pub remove_all-requires : goal.remove_all-requires
-remove_all-requires g c =
-    omega (arith, c.clear.ensures.len, c.clear.ensures.capacity, has-tree c.self.invariant c.get_mut-tree.ensures.value)
-
-pub overflow_sub-self : goal.overflow_sub-self
-overflow_sub-self g c =
-    omega (arith, has-tree c.self.invariant c.get_mut-tree.ensures.value, c.ready-before.ensures)
-
 pub invariant_of-self : goal.invariant_of-self
 invariant_of-self g c =
     let tree = has-tree c.self.invariant c.get_mut-tree.ensures.value in

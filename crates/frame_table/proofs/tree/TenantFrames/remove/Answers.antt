@@ -1,60 +1,63 @@
-use Rattle.frame_table.proofs.Common.{[], refl, sym, ◌∙◌, arith, remove, length-remove, without_child, is_ready}
-use Rattle.frame_table.proofs.Forest.{linked_rises}
-use Rattle.frame_table.proofs.Finds.{seen-frame, ready_frames-length, length-filter-remove}
-use Rattle.frame_table.proofs.Changes.{lost-counted, leaf-slots, lost, lost-sound, lost-frames, recount-less}
-use Rattle.frame_table.proofs.Readies.{is-tenant, tenant-rises, ready_in-remove}
-use Rattle.frame_table.proofs.Keys.{found-at, seen-by, removed-index}
+use Rattle.frame_table.proofs.Changes.{count-without}
+use Rattle.frame_table.proofs.Common.{ap}
+use Rattle.frame_table.proofs.Changes.{keeps-left, left-counted}
+use Rattle.frame_table.proofs.Common.{IsSeenAt, Slot, [], children_of, frames_from, get_or, is_ready, length-map, length-remove, recounted, remove, sym, ◌-◌, ◌∙◌, ◌≡◌}
+use Rattle.frame_table.proofs.Finds.{keeps-rises, keeps-view, kept-found}
+use Rattle.frame_table.proofs.Keys.{removed-index, seen-by, serials_of-recounted}
+use Rattle.frame_table.proofs.Readies.{is-tenant, ready_in-recounted, ready_in-remove, tenant-rises}
+use Rattle.frame_table.proofs.TreeLaws.{tree-rising}
+use Rattle.frame_table.specs.Slots.{if_named}
+use Rattle.frame_table.proofs.Common.{refl, arith}
+use Rattle.frame_table.proofs.tree.TenantFrames.remove.Given.{Over}
+use Rattle.frame_table.proofs.tree.TenantFrames.remove.Goals.{After-known_place-at}
 use Rattle.frame_table.proofs.tree.TenantFrames.remove.Goals as goal
 
-pub take-slot-requires-clause-leaf : goal.take-slot-requires-clause-leaf
-take-slot-requires-clause-leaf g c =
-    let place = found-at _ _ c.self.invariant.index _ _ c.known_place-at.ensures.within c.known_place-at.ensures.found in
-    rw place.found (leaf-slots c.self.inside.store.slots c.args.serial c.self.invariant.sound.linked (rw (← c.self.view_is) at c.requires.leaf))
+-- the frame's slot and that it has no child
+module _ (g : Over) (c : After-known_place-at g) where
+  seen : {slot : Slot g.row.T.Denot} → slot ≡ get_or c.self.inside.store.slots c.known_place-at.result slot → IsSeenAt c.self.inside.store.slots c.args.serial c.known_place-at.result slot
+  seen read = seen-by _ _ c.self.invariant.index c.known_place-at.ensures.within c.known_place-at.ensures.found read
+
+  leaf : children_of (frames_from [] c.self.inside.store.slots) c.args.serial ≡ []
+  leaf = rw (← c.self.view_is) at c.requires.leaf
 
 pub take-slot-requires-clause-counted : goal.take-slot-requires-clause-counted
 take-slot-requires-clause-counted g c slot is =
-    let seen = seen-by _ _ c.self.invariant.index c.known_place-at.ensures.within c.known_place-at.ensures.found is in
-    let leaf = rw (← c.self.view_is) at c.requires.leaf in
-    lost-counted _ _ slot (lost c.self.invariant.sound seen leaf)
+    left-counted c.self.invariant.sound (seen g (goal.at.take-slot-requires-clause-counted g c).After-known_place-at is) (leaf g (goal.at.take-slot-requires-clause-counted g c).After-known_place-at)
 
 pub leave-requires : goal.leave-requires
-leave-requires g c = tenant-rises _ _ _ _ c.self.invariant
+leave-requires g c = tenant-rises c.self.invariant
 
 pub invariant_of-self : goal.invariant_of-self
 invariant_of-self g c =
-    let seen = seen-by _ _ c.self.invariant.index c.known_place-at.ensures.within c.known_place-at.ensures.found c.take-slot.ensures.value in
+    let seen = seen g (goal.at.invariant_of-self g c).After-known_place-at c.take-slot.ensures.value in
+    let leaf = leaf g (goal.at.invariant_of-self g c).After-known_place-at in
     let slots = c.self.inside.store.slots in
-    let leaf = rw (← c.self.view_is) at c.requires.leaf in
-    let gone = ready_in-remove slots c.known_place-at.result c.args.serial c.take-slot.result (linked_rises [] slots c.self.invariant.sound.linked) seen in
-    let left = remove slots c.known_place-at.result in
-    let same = recount-less c.take-slot.result.parent left in
-    rw (c.take-slot.ensures.left, c.leave.ensures, c.remove.ensures.left) (is-tenant _ _ _ _ _
-    (lost-sound c.self.invariant.sound seen leaf)
-    (removed-index slots _ c.self.invariant.index c.known_place-at.result ∙ sym same.serials)
-    (rw (same.ready, c.self.invariant.ready_frames) gone)
-    (omega (arith, c.self.invariant.within, length-remove slots c.known_place-at.result seen.within, same.long))
+    let less = remove slots c.known_place-at.result in
+    let gone = ready_in-remove slots c.known_place-at.result c.args.serial c.take-slot.result (keeps-rises c.self.invariant.sound) seen in
+    rw (c.take-slot.ensures.left, c.leave.ensures, c.remove.ensures.left) (is-tenant (keeps-left c.self.invariant.sound seen leaf)
+    (removed-index slots _ c.self.invariant.index c.known_place-at.result ∙ sym (serials_of-recounted c.take-slot.result.parent (λ n. n - 1) less))
+    (rw (ready_in-recounted c.take-slot.result.parent (λ n. n - 1) less, c.self.invariant.ready_frames) gone)
+    (omega (arith, c.self.invariant.within, length-remove slots c.known_place-at.result seen.within, length-map less (if_named c.take-slot.result.parent (recounted (λ n. n - 1)))))
     c.self.invariant.few
     c.self.invariant.serial_places
     c.self.invariant.ready_places)
 
 pub returns-clause-left : goal.returns-clause-left
 returns-clause-left g c =
-    let seen = seen-by _ _ c.self.invariant.index c.known_place-at.ensures.within c.known_place-at.ensures.found c.take-slot.ensures.value in
-    let leaf = rw (← c.self.view_is) at c.requires.leaf in
-    rw (← c.self.view_is, c.take-slot.ensures.left, (lost-frames c.self.invariant.sound seen leaf)) refl
+    let seen = seen g (goal.at.returns-clause-left g c).After-known_place-at c.take-slot.ensures.value in
+    let leaf = leaf g (goal.at.returns-clause-left g c).After-known_place-at in
+    rw (← c.self.view_is, c.take-slot.ensures.left, keeps-view (keeps-left c.self.invariant.sound seen leaf)) refl
 
 pub returns-clause-value : goal.returns-clause-value
 returns-clause-value g c =
-    let seen = seen-by _ _ c.self.invariant.index c.known_place-at.ensures.within c.known_place-at.ensures.found c.take-slot.ensures.value in
-    rw (← c.self.view_is, (seen-frame c.self.invariant.sound.linked seen).1.at) refl
+    let f = kept-found c.self.invariant.sound (seen g (goal.at.returns-clause-value g c).After-known_place-at c.take-slot.ensures.value) in
+    rw (← c.self.view_is, f.at) (ap (λ (s : Slot g.row.T.Denot). s.value) (sym f.is))
 
 pub returns-clause-count : goal.returns-clause-count
 returns-clause-count g c =
-    let seen = seen-by _ _ c.self.invariant.index c.known_place-at.ensures.within c.known_place-at.ensures.found c.take-slot.ensures.value in
-    let slots = c.self.inside.store.slots in
-    let slot = c.take-slot.result in
-    let left = remove slots c.known_place-at.result in
-    let old = ready_frames-length {T = g.row.T.Denot} [] slots in
-    let new = ready_frames-length {T = g.row.T.Denot} [] (without_child slot.parent left) in
-    let same = (recount-less slot.parent left).chosen (λ x. is_ready x.state) (λ x k. refl) in
-    rw (← c.self.view_is, c.take-slot.ensures.left, old, new, same) (length-filter-remove (λ x. is_ready x.state) slots c.known_place-at.result slot seen.within seen.read)
+    let k = c.self.invariant.sound in
+    let seen = seen g (goal.at.returns-clause-count g c).After-known_place-at c.take-slot.ensures.value in
+    let leaf = leaf g (goal.at.returns-clause-count g c).After-known_place-at in
+    let f = kept-found k seen in
+    let state = ap (λ (s : Slot g.row.T.Denot). s.state) f.is in
+    rw (← c.self.view_is, c.take-slot.ensures.left, keeps-view (keeps-left k seen leaf), state) (count-without (λ x. is_ready x.state) c.args.serial _ f.frame (tree-rising _ k.tree) f.at)

@@ -5,7 +5,7 @@ use Rattle.sched_core.proofs.engine.Engine.accepted.Goals as goal
 pub returns-in_err-seen-clause-refusal : goal.returns-in_err-seen-clause-refusal
 returns-in_err-seen-clause-refusal g c =
     let p = err_from_is_err_and c.from_residual.result c.from_residual.ensures.1 in
-    passed-on _ _ _ p.1 p.2 _ (lost _ (g.P.Procedure.functions c.args.self.now.procedure) c.args.self.now.store
+    passed-on p.1 p.2 _ (lost _ (g.P.Procedure.functions c.args.self.now.procedure) c.args.self.now.store
     (Answer c.args.worker c.args.name c.args.answer.now) c.args.name refl refl (λ tenant none. rw none refl) c.in_err-seen.ensures.frame)
 
 pub returns-in_err-first_of_four-clause-refusal : goal.returns-in_err-first_of_four-clause-refusal
@@ -16,17 +16,8 @@ returns-in_err-first_of_four-clause-refusal g c =
     let other : c.ne.result ≡ not (functions.same (functions.asked c.args.answer.now) (functions.input (words_under c.args.self.now.store c.args.name))) =
     cc (g.met.P.Procedure.compares c.args.self.now.procedure, words) in
     let p = err_from_is_err_and c.from_residual-in_err-first_of_four.result c.from_residual-in_err-first_of_four.ensures.1 in
-    passed-on _ _ _ p.1 p.2 _ (sym (answer-told functions c.args.self.now.store c.args.worker c.args.name c.args.answer.now s.0 s.1
-    c.in_ok-seen.field-0.seen c.is_computed_by.result _ c.is_outside.result _ s.2
-    (rw (← c.number.ensures.value) c.is_computed_by.ensures) (grind (arith, other)) (cc words) c.in_err-first_of_four.ensures))
+    passed-on p.1 p.2 _ (sym (answer-told functions c.args.worker c.args.answer.now s.2
+    (rw (← c.number.ensures.value) c.is_computed_by.ensures) (grind arith) (cc words) c.in_err-first_of_four.ensures))
 
 pub returns-clause-refusal : goal.returns-clause-refusal
-returns-clause-refusal g c =
-    let s = c.in_ok-seen.ensures.frame in
-    let words = c.in_ok-seen.ensures.words in
-    let functions = g.P.Procedure.functions c.args.self.now.procedure in
-    let other : c.ne.result ≡ not (functions.same (functions.asked c.args.answer.now) (functions.input (words_under c.args.self.now.store c.args.name))) =
-    cc (g.met.P.Procedure.compares c.args.self.now.procedure, words) in
-    answer-told functions c.args.self.now.store c.args.worker c.args.name c.args.answer.now s.0 s.1 c.in_ok-seen.field-0.seen
-    c.is_computed_by.result _ c.is_outside.result _ s.2
-    (rw (← c.number.ensures.value) c.is_computed_by.ensures) (grind (arith, other)) (cc words) c.in_ok-first_of_four.ensures
+returns-clause-refusal g c = grind arith

@@ -4,5 +4,5 @@ use Rattle.sched_core.proofs.engine.Engine.admit.Goals as goal
 
 pub returns-clause-admitted : goal.returns-clause-admitted
 returns-clause-admitted g c =
-    step_result-admission _ c.args.self.now.store _ _ _ _ _ c.in_ok-may_admit.ensures.refusal c.as_memory_allows.ensures c.admit.ensures.ok c.admit.ensures.err
-    (admit-taken _ c.args.self.now.store c.admit.new.self c.args.number c.args.reserve c.in_ok-may_admit.ensures.known c.in_ok-may_admit.ensures.refusal)
+    step_result-admission _ c.in_ok-may_admit.ensures.refusal c.as_memory_allows.ensures c.admit.ensures.ok c.admit.ensures.err
+    (admit-taken c.in_ok-may_admit.ensures.known c.in_ok-may_admit.ensures.refusal)

@@ -14,5 +14,5 @@ raise-requires-clause-room g c =
 
 pub returns-clause-admitted : goal.returns-clause-admitted
 returns-clause-admitted g c =
-    step_result-admission _ _ _ _ _ _ _ c.in_ok-may_admit_more.ensures.refusal c.as_memory_allows.ensures c.raise.ensures.ok c.raise.ensures.err
-    (raise-taken _ c.args.self.now.store c.args.number c.args.reserve c.raise.new.self c.in_ok-may_admit_more.ensures.refusal)
+    step_result-admission _ c.in_ok-may_admit_more.ensures.refusal c.as_memory_allows.ensures c.raise.ensures.ok c.raise.ensures.err
+    (raise-taken _ c.args.self.now.store c.args.number c.args.reserve c.in_ok-may_admit_more.ensures.refusal)

@@ -20,15 +20,15 @@ set : (g : Over) (c : In_ok-may_do g) →
     c.in_ok-seen.ensures.frame.1 c.next_of-act.result
 set g c =
     let s = c.in_ok-seen.ensures.frame in
-    sets-out _ _ _ _ s.0 s.1 _ _ s.2 (rw c.in_ok-seen.ensures.sight at c.next_of-act.ensures)
+    sets-out s.2 (rw c.in_ok-seen.ensures.sight at c.next_of-act.ensures)
     (c.in_ok-may_do.ensures s.0 s.1 _ s.2.seen_so refl c.in_ok-seen.ensures.words)
 
 pub returns-in_err-may_do-clause-step_result : goal.returns-in_err-may_do-clause-step_result
 returns-in_err-may_do-clause-step_result g c =
     let s = c.in_ok-seen.ensures.frame in
     let p = err_from_is_err_and c.from_residual-in_err-may_do.result c.from_residual-in_err-may_do.ensures.1 in
-    step_result-refused _ _ _ _ _ _ _ p.1 p.2
-    (advance-told (g.P.Procedure.functions c.args.self.now.procedure) _ _ _ s.0 s.1 _ _ _ (rw c.in_ok-seen.ensures.sight at c.next_of-act.ensures)
+    step_result-refused p.1 p.2
+    (advance-told (g.P.Procedure.functions c.args.self.now.procedure) _ (rw c.in_ok-seen.ensures.sight at c.next_of-act.ensures)
     (c.in_err-may_do.ensures s.0 s.1 _ s.2.seen_so refl c.in_ok-seen.ensures.words) s.2) refl
 
 pub count_step-requires : goal.count_step-requires

@@ -9,17 +9,17 @@ use Rattle.sched_core.proofs.engine.Engine.answer.Goals as goal
 -- the answer is allowed, and the stores that it asks for are made
 accepted : (g : Over) (c : After-store_all g) →
     IsAnswered (g.P.Procedure.functions c.args.self.now.procedure) c.args.self.now.store c.args.worker c.args.name c.args.answer.now c.store_all.new.self
-accepted g c = is-answered _ _ _ _ _ _ c.in_ok-stores.ensures.refusal (rw (c.as_slice.ensures, c.in_ok-stores.ensures.stores) at c.store_all.ensures)
+accepted g c = is-answered c.in_ok-stores.ensures.refusal (rw (c.as_slice.ensures, c.in_ok-stores.ensures.stores) at c.store_all.ensures)
 
 pub run-requires-clause-there : goal.run-requires-clause-there
 run-requires-clause-there g c =
     let a = accepted g (goal.at.run-requires-clause-there g c).After-store_all in
-    with-named c.args.name _ _ a.has_frame _ _ a.has_words
+    with-named c.args.name _ a.has_frame a.has_words
 
 pub run-requires-clause-free : goal.run-requires-clause-free
 run-requires-clause-free g c =
     let a = accepted g (goal.at.run-requires-clause-free g c).After-store_all in
-    may-hold c.args.name _ _ a.has_frame c.store_all.new.self c.args.worker a.has_words.there (computes-holds c.args.worker _ (not-false _ a.going.passes.0))
+    may-hold c.args.name _ a.has_frame c.store_all.new.self c.args.worker a.has_words.there (computes-holds c.args.worker _ (not-false _ a.going.passes.0))
 
 pub run-requires-clause-left : goal.run-requires-clause-left
 run-requires-clause-left g c =
@@ -29,5 +29,5 @@ run-requires-clause-left g c =
 pub returns-clause-step_result : goal.returns-clause-step_result
 returns-clause-step_result g c =
     let a = accepted g (goal.at.returns-clause-step_result g c).After-store_all in
-    step_result-taken (g.P.Procedure.functions c.args.self.now.procedure) c.args.self.now.store _ _ _ _ a.going.among refl
-    (rw (found-serial a.going.tenant.frames c.args.name.serial a.going.frame a.going.found) (then-run a.has_words _ _ _ c.run.ensures.ran).is)
+    step_result-taken a.going.among refl
+    (rw (found-serial a.going.tenant.frames c.args.name.serial a.going.frame a.going.found) (then-run a.has_words _ _ c.run.ensures.ran).is)

@@ -1,4 +1,4 @@
-use Rattle.sched_core.proofs.Common.{refl, Cancelled as CancelledJob, Cancel, ended}
+use Rattle.sched_core.proofs.Common.{refl, Cancelled as CancelledJob, ended}
 use Rattle.sched_core.proofs.TakenStep.{begins, then-changed, step_result-taken}
 use Rattle.sched_core.proofs.Ending.{cancel-going, cancel-root}
 use Rattle.sched_core.proofs.engine.Engine.cancel.Goals as goal
@@ -11,6 +11,6 @@ end_at-requires-clause-there g c =
 pub returns-clause-step_result : goal.returns-clause-step_result
 returns-clause-step_result g c =
     let l = cancel-going c.args.self.now.store c.args.number c.args.job _ (g.P.Procedure.functions c.args.self.now.procedure) c.in_ok-serial.ensures.root in
-    let w = begins c.args.number l.tenant c.args.self.now.store l.owner in
-    let w1 = then-changed _ _ _ _ c.end_at.new.store (ended c.in_ok-serial.serial CancelledJob) w c.end_at.ensures in
-    step_result-taken (g.P.Procedure.functions c.args.self.now.procedure) c.args.self.now.store (Cancel c.args.number c.args.job) _ _ _ l.among refl w1.is
+    let w = begins c.args.number c.args.self.now.store l.owner in
+    let w1 = then-changed (ended c.in_ok-serial.serial CancelledJob) w c.end_at.ensures in
+    step_result-taken l.among refl w1.is

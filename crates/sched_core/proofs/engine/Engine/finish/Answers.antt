@@ -7,17 +7,17 @@ pub count_step-requires : goal.count_step-requires
 count_step-requires g c =
     let functions = g.P.Procedure.functions c.args.self.now.procedure in
     let t = finish-going functions c.args.self.now.store c.args.name c.args.worker c.in_ok-may_finish.ensures.refusal in
-    let w = begins c.args.name.tenant t.tenant c.args.self.now.store t.owner in
-    step-left (then-changed _ _ _ _ c.end_at.new.store (ended c.args.name.serial (Done c.of-kept.result)) w c.end_at.ensures) t.passes.1.0
+    let w = begins c.args.name.tenant c.args.self.now.store t.owner in
+    step-left (then-changed (ended c.args.name.serial (Done c.of-kept.result)) w c.end_at.ensures) t.passes.1.0
 
 pub returns-clause-step_result : goal.returns-clause-step_result
 returns-clause-step_result g c =
     let functions = g.P.Procedure.functions c.args.self.now.procedure in
     let t = finish-going functions c.args.self.now.store c.args.name c.args.worker c.in_ok-may_finish.ensures.refusal in
-    let w = begins c.args.name.tenant t.tenant c.args.self.now.store t.owner in
-    let w1 = then-changed _ _ _ _ c.end_at.new.store (ended c.args.name.serial (Done c.of-kept.result)) w c.end_at.ensures in
-    let w2 = then-changed _ _ _ _ c.count_step.new.self counted w1 c.count_step.ensures in
-    let words = named-words c.args.self.now.store c.args.name t.tenant t.frame t.owner t.found in
+    let w = begins c.args.name.tenant c.args.self.now.store t.owner in
+    let w1 = then-changed (ended c.args.name.serial (Done c.of-kept.result)) w c.end_at.ensures in
+    let w2 = then-changed counted w1 c.count_step.ensures in
+    let words = named-words c.args.self.now.store c.args.name t.owner t.found in
     let kept : c.of-kept.result ≡ kept_words t.frame.value = c.of-kept.ensures ∙ rw (c.own.ensures, words) refl in
     let serial = found-serial t.tenant.frames c.args.name.serial t.frame t.found in
-    step_result-taken _ c.args.self.now.store _ _ _ _ t.among (rw (serial, c.job_under-job.ensures, t.owner) refl) (rw (serial, ← kept) w2.is)
+    step_result-taken t.among (rw (serial, c.job_under-job.ensures, t.owner) refl) (rw (serial, ← kept) w2.is)

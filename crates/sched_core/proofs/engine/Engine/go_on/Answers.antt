@@ -9,47 +9,42 @@ open-requires-clause-parent g c =
 
 pub returns-in-Go-clause-came : goal.returns-in-Go-clause-came
 returns-in-Go-clause-came g c tenant frame on root =
-    go-came (g.P.Procedure.functions c.args.self.now.procedure) c.args.self.now.store c.args.worker c.args.name tenant frame _ on.owner c.in-Go.is
+    go-came (g.P.Procedure.functions c.args.self.now.procedure) c.args.self.now.store c.args.worker c.args.name frame on.owner c.in-Go.is
 
 pub returns-in-Grow-clause-came : goal.returns-in-Grow-clause-came
 returns-in-Grow-clause-came g c tenant frame on root =
-    grow-came (g.P.Procedure.functions c.args.self.now.procedure) _ c.args.worker c.args.name tenant frame _ on.owner _ _ c.in-Grow.is on.found c.grow.ensures
+    grow-came (g.P.Procedure.functions c.args.self.now.procedure) _ c.args.worker c.args.name frame on.owner c.in-Grow.is on.found c.grow.ensures
 
 pub returns-in-Spawn-clause-came : goal.returns-in-Spawn-clause-came
 returns-in-Spawn-clause-came g c tenant frame on root =
-    spawn-came (g.P.Procedure.functions c.args.self.now.procedure) c.args.self.now.store c.args.worker c.args.name tenant frame c.args.after.now on.owner
-    c.open.new.self c.open.result _ _ c.in-Spawn.is (rw (c.as_slice.ensures.words, c.number.ensures.value) at c.open.ensures.opened) c.open.ensures.name
+    spawn-came (g.P.Procedure.functions c.args.self.now.procedure) c.args.self.now.store c.args.worker c.args.name frame on.owner c.in-Spawn.is (rw (c.as_slice.ensures.words, c.number.ensures.value) at c.open.ensures.opened) c.open.ensures.name
 
 pub returns-in-Compute-clause-came : goal.returns-in-Compute-clause-came
 returns-in-Compute-clause-came g c tenant frame on root =
-    compute-came (g.P.Procedure.functions c.args.self.now.procedure) c.args.self.now.store c.args.worker c.args.name tenant frame c.args.after.now on.owner
-    c.hold.new.self c.input-input.result c.in-Compute.is on.found (rw c.number-in-Compute.ensures.value at c.hold.ensures)
+    compute-came (g.P.Procedure.functions c.args.self.now.procedure) c.args.self.now.store c.args.worker c.args.name frame on.owner c.in-Compute.is on.found (rw c.number-in-Compute.ensures.value at c.hold.ensures)
     (rw (← c.own.ensures) c.input-input.ensures)
 
 pub returns-then-not-has_child-clause-came : goal.returns-then-not-has_child-clause-came
 returns-then-not-has_child-clause-came g c tenant frame on root =
-    wait-came (g.P.Procedure.functions c.args.self.now.procedure) _ c.args.worker c.args.name _ frame _ on.owner c.in-Wait.is (sym c.if-not-has_child.ensures)
+    wait-came (g.P.Procedure.functions c.args.self.now.procedure) _ c.args.worker c.args.name frame on.owner c.in-Wait.is (sym c.if-not-has_child.ensures)
 
 pub returns-else-not-has_child-clause-came : goal.returns-else-not-has_child-clause-came
 returns-else-not-has_child-clause-came g c tenant frame on root =
-    waits-came (g.P.Procedure.functions c.args.self.now.procedure) c.args.self.now.store c.args.worker c.args.name tenant frame c.args.after.now on.owner
-    c.let_go.new.self (inl c.in-Wait.is) (sym c.if-not-has_child.ensures) c.let_go.ensures
+    waits-came (g.P.Procedure.functions c.args.self.now.procedure) c.args.self.now.store c.args.worker c.args.name frame on.owner (inl c.in-Wait.is) (sym c.if-not-has_child.ensures) c.let_go.ensures
 
 pub returns-then-has_child-clause-came : goal.returns-then-has_child-clause-came
 returns-then-has_child-clause-came g c tenant frame on root =
-    waits-came (g.P.Procedure.functions c.args.self.now.procedure) c.args.self.now.store c.args.worker c.args.name tenant frame c.args.after.now on.owner
-    c.let_go-then-has_child.new.self (inr c.in-Return.is) (sym c.if-has_child.ensures) c.let_go-then-has_child.ensures
+    waits-came (g.P.Procedure.functions c.args.self.now.procedure) c.args.self.now.store c.args.worker c.args.name frame on.owner (inr c.in-Return.is) (sym c.if-has_child.ensures) c.let_go-then-has_child.ensures
 
 pub returns-else-has_child-clause-came : goal.returns-else-has_child-clause-came
 returns-else-has_child-clause-came g c tenant frame on root =
-    return-came (g.P.Procedure.functions c.args.self.now.procedure) c.args.self.now.store c.args.worker c.args.name tenant frame c.args.after.now on.owner
-    c.let_go-in-Return.new.self c.args.is_root c.in-Return.is on.found (sym c.if-has_child.ensures) c.let_go-in-Return.ensures root
+    return-came (g.P.Procedure.functions c.args.self.now.procedure) c.args.self.now.store c.args.worker c.args.name frame on.owner c.in-Return.is on.found (sym c.if-has_child.ensures) c.let_go-in-Return.ensures root
 
 pub let_go-requires-clause-held : goal.let_go-requires-clause-held
-let_go-requires-clause-held g c = let s = c.requires in held-by-runner c.args.self.now.store c.args.name c.args.worker c.args.after.now s.0 s.1 s.2
+let_go-requires-clause-held g c = let s = c.requires in held-by-runner s.2
 
 pub let_go-requires-then-has_child-clause-held : goal.let_go-requires-then-has_child-clause-held
-let_go-requires-then-has_child-clause-held g c = let s = c.requires in held-by-runner _ c.args.name c.args.worker c.args.after.now s.0 s.1 s.2
+let_go-requires-then-has_child-clause-held g c = let s = c.requires in held-by-runner s.2
 
 pub let_go-requires-in-Return-clause-held : goal.let_go-requires-in-Return-clause-held
-let_go-requires-in-Return-clause-held g c = let s = c.requires in held-by-runner c.args.self.now.store c.args.name c.args.worker c.args.after.now s.0 s.1 s.2
+let_go-requires-in-Return-clause-held g c = let s = c.requires in held-by-runner s.2

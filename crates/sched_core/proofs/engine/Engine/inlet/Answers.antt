@@ -12,12 +12,12 @@ inlet_of-act-requires g c so =
     let s = c.in_ok-own.ensures.frame in
     let procedure = c.args.self.now.procedure in
     rw (c.in_ok-own.ensures.words, c.known-state.ensures.words)
-    (parent-fits (g.P.Procedure.fits procedure) (g.P.Procedure.rooted procedure) c.args.self.now.store c.args.name _ s.0 s.1 _ (c.requires.fit so) s.3)
+    (parent-fits (g.P.Procedure.fits procedure) (g.P.Procedure.rooted procedure) (c.requires.fit so) s.3)
 
 pub known-state-requires : goal.known-state-requires
 known-state-requires g c =
     let s = c.in_ok-own.ensures.frame in
-    parent-there c.args.self.now.store c.args.name s.0 s.1 _ c.in_ok-own.parent s.3.seen_so s.3.above
+    parent-there s.3.seen_so s.3.above
 
 -- the act is the procedure's inlet of the words of both
 acts : (g : Over) (c : After-may_take_in g) →
@@ -32,7 +32,7 @@ out : (g : Over) (c : After-as_slice g) →
 out g c =
     let s = c.in_ok-own.ensures.frame in
     let does = acts g (goal.at.store_all-requires-clause-there g c).After-may_take_in in
-    takes-out _ _ _ _ _ s.0 s.1 _ _ _ c.requires.kept.shaped s.3 c.known-state.ensures.rising does
+    takes-out c.requires.kept.shaped s.3 c.known-state.ensures.rising does
     (rw c.known-state.ensures.words at c.in_ok-may_take_in.ensures) c.take_out-aborted.ensures.left
 
 pub returns-in_err-may_take_in-clause-step_result : goal.returns-in_err-may_take_in-clause-step_result
@@ -40,7 +40,7 @@ returns-in_err-may_take_in-clause-step_result g c =
     let s = c.in_ok-own.ensures.frame in
     let p = err_from_is_err_and c.from_residual-in_err-may_take_in.result c.from_residual-in_err-may_take_in.ensures.1 in
     let does = acts g (goal.at.returns-in_err-may_take_in-clause-step_result g c).After-may_take_in in
-    step_result-refused _ _ _ _ _ _ _ p.1 p.2 (inlet-told (g.P.Procedure.functions c.args.self.now.procedure) _ _ _ s.0 s.1 _ _ _ _
+    step_result-refused p.1 p.2 (inlet-told (g.P.Procedure.functions c.args.self.now.procedure) _
     c.known-state.ensures.rising s.3 does (rw c.known-state.ensures.words at c.in_err-may_take_in.ensures)) refl
 
 pub take_out-aborted-requires : goal.take_out-aborted-requires
@@ -48,7 +48,7 @@ take_out-aborted-requires g c =
     let told = rw c.known-state.ensures.words at c.in_ok-may_take_in.ensures in
     let s = c.in_ok-own.ensures.frame in
     let does = acts g (goal.at.take_out-aborted-requires g c).After-may_take_in in
-    let takes = takes-in (g.P.Procedure.functions c.args.self.now.procedure) _ _ _ _ s.0 s.1 _ does _ s.3 c.known-state.ensures.rising told in
+    let takes = takes-in (g.P.Procedure.functions c.args.self.now.procedure) does s.3 c.known-state.ensures.rising told in
     (_, _, may-be-taken-in takes c.requires.kept.shaped)
 
 pub store_all-requires-clause-there : goal.store_all-requires-clause-there

@@ -4,7 +4,6 @@ use Rattle.sched_core.proofs.engine.Engine.is_spendable.Goals as goal
 
 pub returns-in-Running : goal.returns-in-Running
 returns-in-Running g c tenant frame is =
-    c.is_err.ensures.value ∙ spend-running (g.P.Procedure.functions c.args.self.now.procedure) c.args.self.now.store c.args.name tenant frame c.args.seen
-    c.next-act.result c.in-Running.field-0 c.may_act.result is c.in-Running.is c.if-seen-eq0.false
+    c.is_err.ensures.value ∙ spend-running (g.P.Procedure.functions c.args.self.now.procedure) c.next-act.result is c.in-Running.is c.if-seen-eq0.false
     (rw (← c.sight.ensures) c.next-act.ensures)
     (c.may_act.ensures tenant frame (seen-words is ∙ sym c.own-words.ensures) (rw (seen-child is) (c.has_child_for-has_child.ensures _)) (sym is.left))

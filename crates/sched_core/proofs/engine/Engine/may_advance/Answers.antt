@@ -8,4 +8,4 @@ returns g c =
     let functions = g.P.Procedure.functions c.args.self.now.procedure in
     let does = c.next-act.ensures ∙ ap functions.next c.in_ok-found.ensures.sight in
     let told = c.may_do.ensures s.0 s.1 _ s.2.seen_so refl c.in_ok-found.ensures.words in
-    record { refusal = advance-told functions c.args.self.now.store c.args.worker c.args.name s.0 s.1 _ c.next-act.result _ does told s.2 }
+    record { refusal = advance-told functions c.args.worker does told s.2 }

@@ -4,7 +4,7 @@ use Rattle.sched_core.proofs.engine.Engine.may_inlet.Goals as goal
 pub known-above-requires : goal.known-above-requires
 known-above-requires g c =
     let s = c.in_ok-own.ensures.frame in
-    parent-there c.args.self.now.store c.args.name s.0 s.1 _ c.in_ok-own.parent s.3.seen_so s.3.above
+    parent-there s.3.seen_so s.3.above
 
 pub returns : goal.returns
 returns g c =
@@ -12,6 +12,5 @@ returns g c =
     let own = c.in_ok-own.ensures.words in
     let words = c.known-above.ensures.words in
     record {
-      refusal = inlet-told (g.P.Procedure.functions c.args.self.now.procedure) c.args.self.now.store c.args.worker c.args.name s.0 s.1 _ c.in_ok-own.parent
-          c.inlet-act.result c.may_take_in.result c.known-above.ensures.rising s.3 (rw (own, words) at c.inlet-act.ensures) (rw words at c.may_take_in.ensures);
+      refusal = inlet-told (g.P.Procedure.functions c.args.self.now.procedure) c.args.worker c.known-above.ensures.rising s.3 (rw (own, words) at c.inlet-act.ensures) (rw words at c.may_take_in.ensures);
     }

@@ -6,6 +6,6 @@ pub returns-in_err-seen : goal.returns-in_err-seen
 returns-in_err-seen g c =
     let p = err_from_is_err_and c.from_residual.result c.from_residual.ensures.1 in
     record {
-      refusal = passed-on _ _ _ p.1 p.2 _ (lost _ (g.P.Procedure.functions c.args.self.now.procedure) c.args.self.now.store
+      refusal = passed-on p.1 p.2 _ (lost _ (g.P.Procedure.functions c.args.self.now.procedure) c.args.self.now.store
           (Spend c.args.name) c.args.name refl refl (λ tenant none. rw none refl) c.in_err-seen.ensures);
     }

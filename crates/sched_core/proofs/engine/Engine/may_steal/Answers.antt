@@ -5,7 +5,7 @@ use Rattle.sched_core.proofs.engine.Engine.may_steal.Goals as goal
 pub returns-in_err-seen-clause-refusal : goal.returns-in_err-seen-clause-refusal
 returns-in_err-seen-clause-refusal g c =
     let p = err_from_is_err_and c.from_residual.result c.from_residual.ensures.1 in
-    passed-on _ _ _ p.1 p.2 _ (lost _ (g.P.Procedure.functions c.args.self.now.procedure) c.args.self.now.store
+    passed-on p.1 p.2 _ (lost _ (g.P.Procedure.functions c.args.self.now.procedure) c.args.self.now.store
     (Steal c.args.worker c.args.from c.args.name) c.args.name refl refl (λ tenant none. rw none refl) c.in_err-seen.ensures)
 
 pub returns-clause-refusal : goal.returns-clause-refusal

@@ -5,10 +5,10 @@ use Rattle.sched_core.proofs.engine.Engine.take.Goals as goal
 pub run-requires-clause-left : goal.run-requires-clause-left
 run-requires-clause-left g c =
     let t = take-going (g.P.Procedure.functions c.args.self.now.procedure) c.args.self.now.store c.args.worker c.args.name c.in_ok-may_take.ensures.refusal in
-    step-left (begins c.args.name.tenant t.tenant c.args.self.now.store t.owner) t.passes.1.1.0
+    step-left (begins c.args.name.tenant c.args.self.now.store t.owner) t.passes.1.1.0
 
 pub returns-clause-step_result : goal.returns-clause-step_result
 returns-clause-step_result g c =
     let t = take-going (g.P.Procedure.functions c.args.self.now.procedure) c.args.self.now.store c.args.worker c.args.name c.in_ok-may_take.ensures.refusal in
-    let w = begins c.args.name.tenant t.tenant c.args.self.now.store t.owner in
-    step_result-taken _ _ _ _ _ _ t.among refl (rw (found-serial t.tenant.frames c.args.name.serial t.frame t.found) (then-run w _ _ _ c.run.ensures.ran).is)
+    let w = begins c.args.name.tenant c.args.self.now.store t.owner in
+    step_result-taken t.among refl (rw (found-serial t.tenant.frames c.args.name.serial t.frame t.found) (then-run w _ _ c.run.ensures.ran).is)

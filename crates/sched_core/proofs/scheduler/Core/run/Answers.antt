@@ -1,13 +1,14 @@
-use Rattle.sched_core.proofs.Common.{◌∙◌, refl, arith, take_more}
-use Rattle.sched_core.proofs.Stepping.{runs-begin, runs-on, runs-out, fits-on}
+use Rattle.sched_core.proofs.Common.{append-nil}
+use Rattle.sched_core.proofs.Common.{arith, take_more}
+use Rattle.sched_core.proofs.Stepping.{runs-on, runs-out, fits-on}
 use Rattle.sched_core.proofs.scheduler.Core.run.Goals as goal
 use Rattle.std.proofs.lemmas.List.{take_all}
 
 pub loop-step-init : goal.loop-step-init
-loop-step-init g c = let r = c.in_ok-reserve.ensures in record { procedure = refl; room = omega (arith, r.ok); runs = runs-begin _ _ _ }
+loop-step-init g c = grind (arith, append-nil)
 
 pub push_reserved-requires : goal.push_reserved-requires
-push_reserved-requires g c = let h = c.loop-step.invariant.room in let k = c.loop-step-test.true in omega (arith, h, k)
+push_reserved-requires g c = grind arith
 
 pub loop-step-preserved : goal.loop-step-preserved
 loop-step-preserved g c =
@@ -16,17 +17,15 @@ loop-step-preserved g c =
     let more = take_more c.args.steps.now c.loop-step.step-index c.step-item.result c.loop-step-test.true in
     let p = c.push_reserved.ensures in
     record {
-      procedure = c.step-answer.ensures.procedure ∙ i.procedure;
+      procedure = grind arith;
       room = omega (arith, p.len, p.capacity, i.room);
-      runs = rw (more, ← c.step-item.is, p.items) (runs-on _ _ _ _ _ _ c.step-item.result c.step-answer.result _ i.runs (rw i.procedure at one));
+      runs = grind (arith, runs-on);
     }
 
 pub returns-clause-headline : goal.returns-clause-headline
 returns-clause-headline g c =
     let runs = rw (take_all c.loop-step.step-index c.args.steps.now c.loop-step-test.false, c.in_ok-reserve.ensures.items) at c.loop-step.invariant.runs in
-    runs-out (g.P.Procedure.functions c.args.self.now.procedure) c.args.self.now.shared c.args.steps.now c.args.answers.now.items c.loop-step.answers.items
-    c.loop-step.self.shared
-    (rw (← c.self.view_is) c.self.invariant.kept.known) runs
+    runs-out (rw (← c.self.view_is) c.self.invariant.kept.known) runs
 
 pub returns-clause-fitting : goal.returns-clause-fitting
 returns-clause-fitting g c =
@@ -34,5 +33,5 @@ returns-clause-fitting g c =
     let procedure = c.args.self.now.procedure in
     let own = g.met.P.Procedure in
     fits-on {functions = g.P.Procedure.functions procedure} {fits = g.P.Procedure.fits procedure} {rooted = g.P.Procedure.rooted procedure}
-    c.args.self.now.shared (record { next = own.next_keeps procedure; inlet = own.inlet_keeps procedure; accept = own.accept_keeps procedure })
-    c.args.steps.now c.args.answers.now.items c.loop-step.answers.items c.loop-step.self.shared (rw (← c.self.view_is) c.self.invariant.kept) runs
+    (record { next = own.next_keeps procedure; inlet = own.inlet_keeps procedure; accept = own.accept_keeps procedure })
+    (rw (← c.self.view_is) c.self.invariant.kept) runs

@@ -11,7 +11,7 @@ invariant_of-self g c =
     c.self.invariant c.step.ensures.one c.stays_fitting-self-inside.ensures.before (λ so ok. c.stays_fitting-self-inside.ensures.root so))
 
 pub returns-clause-known : goal.returns-clause-known
-returns-clause-known g c = (kept-still _ _ _ _ _ c.self.invariant.kept c.step.ensures.one).known
+returns-clause-known g c = (kept-still _ c.self.invariant.kept c.step.ensures.one).known
 
 pub returns-clause-known_before : goal.returns-clause-known_before
 returns-clause-known_before g c = rw (← c.self.view_is) c.self.invariant.kept.known
@@ -21,12 +21,11 @@ returns-clause-fitting g c =
     let procedure = c.self.inside.engine.procedure in
     let own = g.met.P.Procedure in
     rw (← c.self.view_is)
-    (fits-still {functions = g.P.Procedure.functions procedure} {fits = g.P.Procedure.fits procedure} {rooted = g.P.Procedure.rooted procedure} _
-    (record { next = own.next_keeps procedure; inlet = own.inlet_keeps procedure; accept = own.accept_keeps procedure })
-    _ _ _ c.self.invariant.kept c.step.ensures.one)
+    (fits-still {functions = g.P.Procedure.functions procedure} {fits = g.P.Procedure.fits procedure} {rooted = g.P.Procedure.rooted procedure}
+    (record { next = own.next_keeps procedure; inlet = own.inlet_keeps procedure; accept = own.accept_keeps procedure }) c.self.invariant.kept c.step.ensures.one)
 
 pub returns-clause-kept : goal.returns-clause-kept
-returns-clause-kept g c = kept-still _ _ _ _ _ c.self.invariant.kept c.step.ensures.one
+returns-clause-kept g c = kept-still _ c.self.invariant.kept c.step.ensures.one
 
 pub returns-clause-kept_before : goal.returns-clause-kept_before
 returns-clause-kept_before g c = rw (← c.self.view_is) c.self.invariant.kept
@@ -38,7 +37,7 @@ pub returns-clause-one : goal.returns-clause-one
 returns-clause-one g c = rw (← c.self.view_is) c.step.ensures.one
 
 pub returns-clause-refused : goal.returns-clause-refused
-returns-clause-refused g c = rw (← c.self.view_is) (stays-on-err _ _ _ _ _ c.step.ensures.one)
+returns-clause-refused g c = rw (← c.self.view_is) (stays-on-err _ c.step.ensures.one)
 
 pub returns-clause-procedure : goal.returns-clause-procedure
 returns-clause-procedure g c = rw (← c.self.view_is) c.step.ensures.procedure

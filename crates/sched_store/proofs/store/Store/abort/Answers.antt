@@ -8,34 +8,32 @@ use Rattle.sched_store.proofs.store.Store.abort.Goals as goal
 -- what the nodes gave back
 freed : (g : _) (c : After-free_count g) → AreFreed (parts_of c.self.inside) c.args.name (stays c.args.name.serial) c.free_count-before.result c.free_count.result
 freed g c =
-    nodes-free _ c.close_all.new.self _ _ _ _ c.self.invariant (rw (← c.self.view_is) at c.requires)
+    nodes-free _ _ _ _ c.self.invariant (rw (← c.self.view_is) at c.requires)
     (abort-gone (parts_of c.self.inside) _ c.args.name c.remove_under-nodes.result.now c.remove_under-nodes.ensures.values c.close_all.ensures) c.free_count-before.ensures c.free_count.ensures
 
 -- what the table, the stack and the book told
 told : (g : _) (c : After-give_back g) → Stepped (parts_of c.self.inside) (with_parts (parts_of c.self.inside) c.close_all.new.self c.remove_under-nodes.follows.lender-at-none c.give_back.new.self) c.args.name.tenant (without_under c.args.name.serial)
 told g c =
     let under = c.remove_under-nodes.follows.holds-at-none in
-    gone-step _ _ _ _ c.args.name (stays c.args.name.serial) c.free_count-before.result c.free_count.result (aborted c.args.name.serial) c.self.invariant (record {
+    gone-step c.args.name (stays c.args.name.serial) c.free_count-before.result c.free_count.result c.self.invariant (record {
       some = rw (← c.self.view_is) at c.requires;
-      gone = abort-gone (parts_of c.self.inside) _ c.args.name c.remove_under-nodes.result.now c.remove_under-nodes.ensures.values c.close_all.ensures;
+      gone = grind arith;
       was_free = c.free_count-before.ensures;
       is_free = c.free_count.ensures;
-      cut = abort-cut (parts_of c.self.inside) c.self.invariant c.args.name c.remove_under-nodes.follows.lender-at-none under.0 under.1;
+      cut = abort-cut c.self.invariant c.args.name c.remove_under-nodes.follows.lender-at-none under.0 under.1;
       keeps = under.1;
       credited = c.give_back.ensures.credits;
       sum = c.give_back.ensures.sum;
-      others = c.give_back.ensures.others;
       sound = c.give_back.ensures.sound;
-    }) (abort-words (parts_of c.self.inside) c.args.name)
+    }) (aborted c.args.name.serial) (abort-words (parts_of c.self.inside) c.args.name)
 
 pub remove_under-nodes-requires : goal.remove_under-nodes-requires
 remove_under-nodes-requires g c =
-    there-has (parts_of c.self.inside) c.self.invariant c.args.name (rw (← c.self.view_is) at c.requires)
+    there-has c.self.invariant c.args.name (rw (← c.self.view_is) at c.requires)
 
 pub close_all-requires : goal.close_all-requires
 close_all-requires g c =
-    let closes = abort-closes (parts_of c.self.inside) c.self.invariant c.args.name c.remove_under-nodes.result.now c.remove_under-nodes.ensures.values in
-    record { are_open = closes.are_open; once = closes.once; with_children = closes.with_children }
+    let closes = abort-closes c.self.invariant c.args.name c.remove_under-nodes.result.now c.remove_under-nodes.ensures.values in grind arith
 
 pub overflow_sub-freed : goal.overflow_sub-freed
 overflow_sub-freed g c = (freed g (goal.at.overflow_sub-freed g c).After-free_count).more
@@ -55,5 +53,5 @@ returns-clause-aborted g c =
 
 pub returns-clause-count : goal.returns-clause-count
 returns-clause-count g c =
-    abort-count (parts_of c.self.inside) c.self.invariant c.args.name c.remove_under-nodes.result.now c.remove_under-nodes.ensures.values
+    abort-count c.self.invariant c.args.name c.remove_under-nodes.result.now c.remove_under-nodes.ensures.values
     ∙ ap (λ (s : CoreState). length (frames_under c.args.name.serial (frames_in_core s c.args.name.tenant))) c.self.view_is

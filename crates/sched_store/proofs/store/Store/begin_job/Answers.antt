@@ -9,17 +9,17 @@ use Rattle.sched_store.proofs.store.Store.begin_job.Goals as goal
 put : (g : _) (c : After-begin g) → JobsPut (parts_of c.self.inside) c.args.tenant c.begin.new.self (λ jobs. jobs ++ Live c.args.root ∷ [])
 put g c =
     let own = there-account-in (parts_of c.self.inside) c.args.tenant c.self.view_is c.requires.there in
-    jobs-put (parts_of c.self.inside) c.args.tenant own.0 (λ jobs. jobs ++ Live c.args.root ∷ []) c.self.invariant own.1 c.get_mut-job_list.result.now c.begin.new.self c.get_mut-job_list.ensures.value c.begin.ensures
+    jobs-put c.args.tenant (λ jobs. jobs ++ Live c.args.root ∷ []) c.self.invariant own.1 c.get_mut-job_list.ensures.value c.begin.ensures
 
 pub get_mut-job_list-requires : goal.get_mut-job_list-requires
 get_mut-job_list-requires g c = record {
-  rising = job_lists-rise (parts_of c.self.inside) c.self.invariant;
-  there = has-job_list (parts_of c.self.inside) c.args.tenant c.self.invariant c.self.view_is c.requires.there;
+  rising = job_lists-rise c.self.invariant;
+  there = has-job_list c.args.tenant c.self.invariant c.self.view_is c.requires.there;
 }
 
 pub begin-requires : goal.begin-requires
 begin-requires g c =
-    let found = jobs-found (parts_of c.self.inside) c.self.invariant c.args.tenant ∙ job_list-jobs c.args.tenant c.self.inside.job_lists c.get_mut-job_list.result.now c.get_mut-job_list.ensures.value in
+    let found = jobs-found c.self.invariant c.args.tenant ∙ job_list-jobs c.args.tenant c.self.inside.job_lists c.get_mut-job_list.result.now c.get_mut-job_list.ensures.value in
     record { room = rw found at (rw (← c.self.view_is) at c.requires.room); fresh = rw found at (rw (← c.self.view_is) at c.requires.fresh) }
 
 pub invariant_of-self : goal.invariant_of-self

@@ -8,12 +8,12 @@ use Rattle.sched_store.proofs.store.Store.end_job.Goals as goal
 put : (g : _) (c : After-end g) → JobsPut (parts_of c.self.inside) c.args.tenant c.end.new.self (with_ended c.args.root c.args.ended)
 put g c =
     let own = there-account-in (parts_of c.self.inside) c.args.tenant c.self.view_is c.requires.there in
-    jobs-put (parts_of c.self.inside) c.args.tenant own.0 (with_ended c.args.root c.args.ended) c.self.invariant own.1 c.get_mut-job_list.result.now c.end.new.self c.get_mut-job_list.ensures.value c.end.ensures
+    jobs-put c.args.tenant (with_ended c.args.root c.args.ended) c.self.invariant own.1 c.get_mut-job_list.ensures.value c.end.ensures
 
 pub get_mut-job_list-requires : goal.get_mut-job_list-requires
 get_mut-job_list-requires g c = record {
-  rising = job_lists-rise (parts_of c.self.inside) c.self.invariant;
-  there = has-job_list (parts_of c.self.inside) c.args.tenant c.self.invariant c.self.view_is c.requires.there;
+  rising = job_lists-rise c.self.invariant;
+  there = has-job_list c.args.tenant c.self.invariant c.self.view_is c.requires.there;
 }
 
 pub invariant_of-self : goal.invariant_of-self

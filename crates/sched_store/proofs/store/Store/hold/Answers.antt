@@ -1,6 +1,6 @@
 use Rattle.sched_store.proofs.Common.{◌≡◌, length, Some, set, parts_of}
-use Rattle.sched_store.proofs.Lookups.{there-has}
-use Rattle.sched_store.proofs.States.{StateSet, takes-set}
+use Rattle.sched_store.proofs.Lookups.{there-frame, there-has}
+use Rattle.sched_store.proofs.States.{StateSet, held-set}
 use Rattle.sched_store.proofs.store.Store.hold.Goals.{After-set_state}
 use Rattle.sched_store.proofs.store.Store.hold.Goals as goal
 
@@ -10,11 +10,12 @@ taken g c =
     let limits = c.number-number.ensures.limits in
     -- (an array is as long as its type says: the sixth of what the fields' types tell is that of `places`)
     let long : length c.self.inside.places ≡ 33 = c.self.ranges.1.1.1.1.1.0.1.0.1 in
-    takes-set _ _ _ c.args.name c.args.state c.self.invariant c.self.view_is (record { frames = c.set_state.ensures.frames; kept = c.set_state.ensures.kept }) c.requires.there long limits.0 limits.1
-    (rw (← c.number-number.ensures.value) at c.requires.free) (rw (← c.number-number.ensures.value) at c.requires.names)
+    let own = there-frame c.self.invariant c.args.name (rw (← c.self.view_is) at c.requires.there) in
+    held-set c.args.name c.args.state c.self.invariant (record { frames = c.set_state.ensures.frames; kept = c.set_state.ensures.kept }) own.1 _ long limits.0 limits.1
+    (rw (← c.self.view_is, ← c.number-number.ensures.value) at c.requires.free) (rw (← c.number-number.ensures.value) at c.requires.names)
 
 pub set_state-requires : goal.set_state-requires
-set_state-requires g c = there-has (parts_of c.self.inside) c.self.invariant c.args.name (rw (← c.self.view_is) at c.requires.there)
+set_state-requires g c = there-has c.self.invariant c.args.name (rw (← c.self.view_is) at c.requires.there)
 
 pub invariant_of-self : goal.invariant_of-self
 invariant_of-self g c = (taken g (goal.at.invariant_of-self g c).After-set_state).stored

@@ -30,22 +30,22 @@ told g c =
 pub remove_all-nodes-requires : goal.remove_all-nodes-requires
 remove_all-nodes-requires g c =
     let a = there-account-in (parts_of c.self.inside) c.args.tenant c.self.view_is c.requires in
-    has-places (parts_of c.self.inside) c.self.invariant c.args.tenant a.0 a.1
+    has-places c.self.invariant c.args.tenant a.1
 
 pub close_all-requires : goal.close_all-requires
 close_all-requires g c =
-    let closes = leave-closes (parts_of c.self.inside) c.args.tenant c.remove_all-nodes.result.now c.self.invariant c.remove_all-nodes.ensures.values in
+    let closes = leave-closes c.args.tenant c.remove_all-nodes.result.now c.self.invariant c.remove_all-nodes.ensures.values in
     record { are_open = closes.are_open; once = closes.once; with_children = closes.with_children }
 
 pub release-requires-clause-there : goal.release-requires-clause-there
 release-requires-clause-there g c =
     let a = there-account-in (parts_of c.self.inside) c.args.tenant c.self.view_is c.requires in
-    rw (c.remove_all-nodes.follows.holds-at-none.1.places c.args.tenant) (has-places (parts_of c.self.inside) c.self.invariant c.args.tenant a.0 a.1)
+    rw (c.remove_all-nodes.follows.holds-at-none.1.places c.args.tenant) (has-places c.self.invariant c.args.tenant a.1)
 
 pub remove-requires : goal.remove-requires
 remove-requires g c = record {
-  rising = job_lists-rise (parts_of c.self.inside) c.self.invariant;
-  there = has-job_list (parts_of c.self.inside) c.args.tenant c.self.invariant c.self.view_is c.requires;
+  rising = job_lists-rise c.self.invariant;
+  there = has-job_list c.args.tenant c.self.invariant c.self.view_is c.requires;
 }
 
 pub release-requires-2 : goal.release-requires-2
@@ -53,7 +53,7 @@ release-requires-2 g c =
     rw (there-account-in (parts_of c.self.inside) c.args.tenant c.self.view_is c.requires).1 refl
 
 pub invariant_of-self : goal.invariant_of-self
-invariant_of-self g c = leave-stored _ _ _ _ _ _ _ _ c.self.invariant (told g (goal.at.invariant_of-self g c).After-release-2).1
+invariant_of-self g c = leave-stored c.self.invariant (told g (goal.at.invariant_of-self g c).After-release-2).1
 
 pub returns : goal.returns
-returns g c = leave-shared _ _ _ _ _ _ _ _ c.self.invariant (told g (goal.at.returns g c).After-release-2).1 ∙ ap (with_departed c.args.tenant) c.self.view_is
+returns g c = leave-shared c.self.invariant (told g (goal.at.returns g c).After-release-2).1 ∙ ap (with_departed c.args.tenant) c.self.view_is

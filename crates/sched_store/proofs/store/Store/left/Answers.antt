@@ -4,6 +4,6 @@ use Rattle.sched_store.proofs.store.Store.left.Goals as goal
 
 pub returns : goal.returns
 returns g c = record {
-  left = rw (← c.self.view_is) (c.left.ensures.left ∙ sym (left-found (parts_of c.self.inside) c.self.invariant c.args.tenant));
+  left = rw (← c.self.view_is) (c.left.ensures.left ∙ sym (left-found c.self.invariant c.args.tenant));
   free = rw (← c.self.view_is) (left-free (parts_of c.self.inside) c.self.invariant c.left.result c.left.ensures.there);
 }

@@ -5,32 +5,32 @@ use Rattle.sched_store.proofs.Removing.{child-or-root, own-words-shown}
 use Rattle.sched_store.proofs.store.Store.look_up.Goals as goal
 
 pub own-requires : goal.own-requires
-own-requires g c = entry-open (parts_of c.self.inside) c.self.invariant c.args.name c.in-Some.entry c.in-Some.ensures.entry
+own-requires g c = entry-open c.self.invariant c.args.name c.in-Some.ensures.entry
 
 pub sight-requires : goal.sight-requires
-sight-requires g c = entry-open (parts_of c.self.inside) c.self.invariant c.args.name c.in-Some.entry c.in-Some.ensures.entry
+sight-requires g c = entry-open c.self.invariant c.args.name c.in-Some.ensures.entry
 
 pub returns-in-Some : goal.returns-in-Some
 returns-in-Some g c =
     let parts = parts_of c.self.inside in
     let found = c.in-Some.ensures.entry in
     record {
-      frame = rw (← c.self.view_is) (frame-found parts c.self.invariant c.args.name c.in-Some.entry found);
-      root = child-or-root parts c.self.invariant c.args.name c.in-Some.entry found ∙ ap (λ (s : CoreState). not (is_root (path_of (named s c.args.name)))) c.self.view_is;
-      words = own-words-shown parts c.self.invariant c.args.name c.in-Some.entry c.own.result found c.own.ensures
+      frame = rw (← c.self.view_is) (frame-found c.self.invariant c.args.name found);
+      root = child-or-root c.self.invariant c.args.name found ∙ ap (λ (s : CoreState). not (is_root (path_of (named s c.args.name)))) c.self.view_is;
+      words = own-words-shown c.self.invariant c.args.name found c.own.ensures
           ∙ ap (λ (s : CoreState). words_under s c.args.name) c.self.view_is;
-      sight = sight-found parts c.self.invariant c.args.name c.in-Some.entry c.sight.result found c.sight.ensures
+      sight = sight-found c.self.invariant c.args.name found c.sight.ensures
           ∙ ap (λ (s : CoreState). sight_of s c.args.name) c.self.view_is;
-      tree = rw (← c.self.view_is) (tree-found parts c.self.invariant c.args.name.tenant);
+      tree = rw (← c.self.view_is) (tree-found c.self.invariant c.args.name.tenant);
       rising = rw (← c.self.view_is) (rising-found parts c.self.invariant);
     }
 
 pub returns-in-None : goal.returns-in-None
 returns-in-None g c = record {
-  frame = rw (← c.self.view_is) (no-frame-found (parts_of c.self.inside) c.self.invariant c.args.name c.in-None.ensures.entry);
+  frame = rw (← c.self.view_is) (no-frame-found c.self.invariant c.args.name c.in-None.ensures.entry);
   root = tt;
   words = tt;
   sight = tt;
-  tree = rw (← c.self.view_is) (tree-found (parts_of c.self.inside) c.self.invariant c.args.name.tenant);
+  tree = rw (← c.self.view_is) (tree-found c.self.invariant c.args.name.tenant);
   rising = rw (← c.self.view_is) (rising-found (parts_of c.self.inside) c.self.invariant);
 }

@@ -1,6 +1,6 @@
-use Rattle.sched_store.proofs.Common.{sym, ◌∙◌, parts_of}
+use Rattle.sched_store.proofs.Common.{sym, ◌∙◌}
 use Rattle.sched_store.proofs.Lookups.{newest-ready-found}
 use Rattle.sched_store.proofs.store.Store.newest_ready.Goals as goal
 
 pub returns : goal.returns
-returns g c = rw (← c.self.view_is) (c.newest_ready.ensures ∙ sym (newest-ready-found (parts_of c.self.inside) c.self.invariant c.args.tenant))
+returns g c = rw (← c.self.view_is) (c.newest_ready.ensures ∙ sym (newest-ready-found c.self.invariant c.args.tenant))

@@ -6,20 +6,20 @@ use Rattle.sched_store.proofs.store.Store.raise.Goals as goal
 
 -- so much can be reserved
 can : (g : _) (c : After-segments g) → CanBeRaised (parts_of c.self.inside) c.args.tenant c.args.reserve
-can g c = can-be-raised _ _ _ c.self.invariant c.self.view_is c.requires.above c.requires.room
+can g c = grind (arith, can-be-raised)
 
 -- what the table and the book told
 told : (g : _) (c : After-unwrap g) → Stepped (parts_of c.self.inside) (with_more (parts_of c.self.inside) c.reserve.new.self c.raise.new.self) c.args.tenant (with_reserve c.args.reserve)
 told g c =
-    let able = can-be-raised (parts_of c.self.inside) c.args.tenant c.args.reserve c.self.invariant c.self.view_is c.requires.above c.requires.room in
+    let able = can-be-raised c.args.tenant c.args.reserve c.self.invariant c.self.view_is c.requires.above c.requires.room in
     let table = c.in_ok-reserve.ensures in
-    raised _ _ _ _ c.args.reserve c.self.invariant (record {
+    raised c.args.reserve c.self.invariant (record {
       can = able;
       places = table.places ∙ c.segments.ensures.value;
       frames = table.frames;
       kept = table.kept;
-      count = table.as_many (omega (arith, able.places, able.some));
-      raises = rw (c.unwrap.ensures, able.there) at c.raise.ensures.raises;
+      count = grind arith;
+      raises = grind arith;
       sound = c.raise.ensures.sound;
     })
 
@@ -30,14 +30,13 @@ reserve-requires-clause-more g c =
 
 pub reserve-requires-clause-free : goal.reserve-requires-clause-free
 reserve-requires-clause-free g c =
-    let able = can g (goal.at.reserve-requires-clause-free g c).After-segments in
-    λ none. absurd (omega (arith, able.places, able.some, none))
+    let able = can g (goal.at.reserve-requires-clause-free g c).After-segments in grind arith
 
 pub raise-requires : goal.raise-requires
 raise-requires g c = rw (can g (goal.at.raise-requires g c).After-segments).there refl
 
 pub unwrap-requires : goal.unwrap-requires
-unwrap-requires g c = c.raise.ensures.ok.1 (book-raises _ _ _ (can g (goal.at.unwrap-requires g c).After-segments))
+unwrap-requires g c = c.raise.ensures.ok.1 (book-raises (can g (goal.at.unwrap-requires g c).After-segments))
 
 pub invariant_of-self-2 : goal.invariant_of-self-2
 invariant_of-self-2 g c = (told g (goal.at.invariant_of-self-2 g c).After-unwrap).stored

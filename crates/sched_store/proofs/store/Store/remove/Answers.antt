@@ -8,40 +8,39 @@ use Rattle.sched_store.proofs.store.Store.remove.Goals as goal
 -- what the node gave back
 freed : (g : _) (c : After-free_count g) → AreFreed (parts_of c.self.inside) c.args.name (others_stay c.args.name.serial) c.free_count-before.result c.free_count.result
 freed g c =
-    nodes-free _ c.close.new.self _ _ _ _ c.self.invariant (rw (← c.self.view_is) at c.requires.there)
-    (leaf-gone (parts_of c.self.inside) c.self.invariant c.args.name _ c.remove-node.result c.remove-node.ensures.value c.close.ensures) c.free_count-before.ensures c.free_count.ensures
+    nodes-free _ _ _ _ c.self.invariant (rw (← c.self.view_is) at c.requires.there)
+    (leaf-gone c.self.invariant c.args.name _ c.remove-node.result c.remove-node.ensures.value c.close.ensures) c.free_count-before.ensures c.free_count.ensures
 
 -- what the table, the stack and the book told
 told : (g : _) (c : After-give_back g) → Stepped (parts_of c.self.inside) (with_parts (parts_of c.self.inside) c.close.new.self c.remove-node.new.self c.give_back.new.self) c.args.name.tenant (without_frame c.args.name.serial)
 told g c =
     let back = c.give_back.ensures in
-    let leaf = no-children (parts_of c.self.inside) c.self.invariant c.args.name (rw (← c.self.view_is) at c.requires.leaf) in
-    gone-step _ _ _ _ c.args.name (others_stay c.args.name.serial) c.free_count-before.result c.free_count.result (frames_without c.args.name.serial) c.self.invariant (record {
+    let leaf = no-children c.self.invariant c.args.name (rw (← c.self.view_is) at c.requires.leaf) in
+    gone-step c.args.name (others_stay c.args.name.serial) c.free_count-before.result c.free_count.result c.self.invariant (record {
       some = rw (← c.self.view_is) at c.requires.there;
-      gone = leaf-gone (parts_of c.self.inside) c.self.invariant c.args.name _ c.remove-node.result c.remove-node.ensures.value c.close.ensures;
+      gone = leaf-gone c.self.invariant c.args.name _ c.remove-node.result c.remove-node.ensures.value c.close.ensures;
       was_free = c.free_count-before.ensures;
       is_free = c.free_count.ensures;
-      cut = leaf-cut (parts_of c.self.inside) c.self.invariant c.args.name c.remove-node.new.self leaf c.remove-node.ensures.frames c.remove-node.ensures.kept;
+      cut = leaf-cut c.self.invariant c.args.name c.remove-node.new.self leaf c.remove-node.ensures.frames c.remove-node.ensures.kept;
       keeps = c.remove-node.ensures.kept;
       credited = back.credits;
       sum = back.sum;
-      others = back.others;
       sound = back.sound;
-    }) (leaf-words (parts_of c.self.inside) c.args.name)
+    }) (frames_without c.args.name.serial) (leaf-words (parts_of c.self.inside) c.args.name)
 
 pub remove-node-requires : goal.remove-node-requires
 remove-node-requires g c = record {
-  there = there-has (parts_of c.self.inside) c.self.invariant c.args.name (rw (← c.self.view_is) at c.requires.there);
-  leaf = no-children (parts_of c.self.inside) c.self.invariant c.args.name (rw (← c.self.view_is) at c.requires.leaf);
+  there = there-has c.self.invariant c.args.name (rw (← c.self.view_is) at c.requires.there);
+  leaf = no-children c.self.invariant c.args.name (rw (← c.self.view_is) at c.requires.leaf);
 }
 
 pub close-requires : goal.close-requires
 close-requires g c =
-    let leaf = no-children (parts_of c.self.inside) c.self.invariant c.args.name (rw (← c.self.view_is) at c.requires.leaf) in
+    let leaf = no-children c.self.invariant c.args.name (rw (← c.self.view_is) at c.requires.leaf) in
     let f = has-value (frame_at (frames_of c.self.inside.table c.args.name.tenant) c.args.name.serial) c.remove-node.result c.remove-node.ensures.value in
     record {
       is_open = subst (λ (n : ℕ). IsOpen c.self.inside.stack n) f.2 (c.self.invariant.frames_nodes.nodes_of_frames c.args.name.tenant c.args.name.serial f.0 f.1).is_open;
-      no_child = subst (λ (n : ℕ). HasNoChild c.self.inside.stack n) f.2 (leaf-node (parts_of c.self.inside) c.self.invariant c.args.name f.0 f.1 leaf);
+      no_child = subst (λ (n : ℕ). HasNoChild c.self.inside.stack n) f.2 (leaf-node c.self.invariant c.args.name f.0 f.1 leaf);
     }
 
 pub overflow_sub-freed : goal.overflow_sub-freed

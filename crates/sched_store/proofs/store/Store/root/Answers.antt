@@ -1,4 +1,4 @@
-use Rattle.sched_store.proofs.Common.{ℕ, List, ap, sym, ◌∙◌, FrameId, root_of, CoreState, parts_of, path_of}
+use Rattle.sched_store.proofs.Common.{ℕ, List, ap, sym, ◌∙◌, FrameId, root_of, CoreState, path_of}
 use Rattle.sched_rules.specs.Views.{named}
 use Rattle.sched_store.proofs.Lookups.{there-has}
 use Rattle.sched_store.proofs.Removing.{path-shown}
@@ -7,12 +7,12 @@ use Rattle.sched_store.proofs.store.Store.root.Goals as goal
 pub root-requires : goal.root-requires
 root-requires g c =
     let some = rw (← c.self.view_is) at c.requires in
-    there-has (parts_of c.self.inside) c.self.invariant c.args.name some
+    there-has c.self.invariant c.args.name some
 
 pub returns : goal.returns
 returns g c =
     let some = rw (← c.self.view_is) at c.requires in
-    let path = sym (path-shown (parts_of c.self.inside) c.self.invariant c.args.name some) ∙ ap (λ (s : CoreState). path_of (named s c.args.name)) c.self.view_is in
+    let path = sym (path-shown c.self.invariant c.args.name some) ∙ ap (λ (s : CoreState). path_of (named s c.args.name)) c.self.view_is in
     c.root.ensures ∙ ap (λ (p : List ℕ). made p) path
   where
     made : List ℕ → FrameId

@@ -6,10 +6,10 @@ use Rattle.sched_store.proofs.store.Store.store_some.Goals as goal
 
 -- the node of the frame
 has : (g : _) (c : After-node_of-node g) → HasNode (parts_of c.self.inside) c.args.name c.node_of-node.result
-has g c = has-node _ c.self.invariant _ _ (rw (← c.self.view_is) at c.requires.there) c.node_of-node.ensures
+has g c = has-node c.self.invariant _ _ (rw (← c.self.view_is) at c.requires.there) c.node_of-node.ensures
 
 pub node_of-node-requires : goal.node_of-node-requires
-node_of-node-requires g c = there-has (parts_of c.self.inside) c.self.invariant c.args.name (rw (← c.self.view_is) at c.requires.there)
+node_of-node-requires g c = there-has c.self.invariant c.args.name (rw (← c.self.view_is) at c.requires.there)
 
 pub store_words-requires : goal.store_words-requires
 store_words-requires g c =

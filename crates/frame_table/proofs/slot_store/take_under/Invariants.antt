@@ -1,0 +1,7 @@
+use Rattle.std.proofs.Common.{◌≡◌, vec_capacity}
+use Rattle.frame_table.proofs.SlotStores.{HasLeft}
+use Rattle.frame_table.proofs.slot_store.take_under.Given as goal
+
+abbrev pub invariant-loop-at : goal.invariant-loop-at
+invariant-loop-at g l =
+    HasLeft l.under l.initial.slab l.slab l.order l.initial.removed.items l.removed.items l.at × (vec_capacity l.removed ≡ vec_capacity l.initial.removed)
