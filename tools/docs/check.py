@@ -32,7 +32,7 @@ LIST = re.compile(r"(<!--made:([\w:,-]+)-->\n).*?(<!--/made-->)", re.S)
 PROMISES = TOP / "docs/promises"
 BY_HAND = [PROMISES / "HOW-TO-READ.md", PROMISES / "WHAT-IS-ASSUMED.md"]
 VERSIONED = {  # where the version stands beside VERSION itself; in documents it stands in the names of a release's files
-    "crates/command_line/src/commands.rt": r'const VERSION: &str = "(.*?)"',
+    "crates/commands/src/command_line/commands.rt": r'const VERSION: &str = "(.*?)"',
     "crates/othello_site/src/running.rt": r'"othello_site (.*?)\\n"',
     "crates/othello_site/src/telling.rt": r'version=\\"(.*?)\\"',
     "crates/server_tests/src/tests/servers/programs.rt": r'"othello (\d.*?)\\n"',

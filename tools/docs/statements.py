@@ -106,11 +106,12 @@ class Specs:
         self.imports = {}
         self.meant = {}  # what each definition's own names mean
         self.crates = {path.name for path in CRATES.iterdir() if path.is_dir()}
-        for path in sorted(CRATES.glob("*/specs/*.antt")):
+        for path in sorted(CRATES.glob("*/specs/**/*.antt")):
             self.read(path)
 
     def read(self, path):
-        crate, file = path.parent.parent.name, path.stem
+        crate, _, *file = path.relative_to(CRATES).with_suffix("").parts
+        file = "/".join(file)
         lines = path.read_text().splitlines()
         self.imports[crate, file] = imported(lines)
         current = None
@@ -144,10 +145,12 @@ class Specs:
         if "declared" in path:
             if home is None:
                 return ("std", ".".join(path), there)
-            return ("type", home, path[path.index("declared") + 2] if "TheConstants" not in path else there)
+            owner = next((part for part in path[path.index("declared") + 1:] if part[0].isupper()), there)
+            return ("type", home, owner if "TheConstants" not in path else there)
         if home is None:
             return ("std", ".".join(path), there)
-        if found := self.at(home, path[-1], there):
+        below = len(path) - path[::-1].index(home)
+        if found := self.at(home, "/".join(part for part in path[below:] if part != "specs"), there):
             return ("spec", found)
         return ("unknown", ".".join(path), there)
 
@@ -238,13 +241,17 @@ class Code:
 
     @staticmethod
     def exported(root):
-        """The names that a crate's root file shows: of `pub use` lines, its own items, and modules that are public."""
+        """The names that a crate's root file shows, or a module's: of `pub use` lines, its own items, and modules that are public, with what those show."""
         text = blanked(root.read_text())
         names = set(re.findall(r"^pub (?:fn|struct|enum|trait|type|const) (\w+)", text, re.M))
         for match in re.finditer(r"^pub use ([\w:]+)(?:::\{([^}]*)\})?;", text, re.M):
             for part in (match[2] or match[1].split("::")[-1]).split(","):
                 names.add(part.split(" as ")[-1].strip())
         modules = set(re.findall(r"^pub mod (\w+)", text, re.M))
+        folder = root.parent if root.stem in ("lib", "main") else root.with_suffix("")
+        for inner in [folder / f"{module}.rt" for module in sorted(modules)]:
+            shown = Code.exported(inner) if inner.exists() and inner.with_suffix("").is_dir() else (set(), set())
+            names, modules = names | shown[0], modules | shown[1]
         return names, modules
 
     def is_shown(self, crate, path, name):

@@ -247,7 +247,7 @@ def read_definitions(path, text):
 def parts_of(top, crate):
     """What a crate says, file by file."""
     parts, home = [], top / "crates" / crate
-    for path in sorted(home.glob("specs/*.antt")):
+    for path in sorted(home.glob("specs/**/*.antt")):
         parts += read_definitions(str(path.relative_to(top)), path.read_text())
     root = next((home / "src" / name for name in ("lib.rt", "main.rt") if (home / "src" / name).exists()), None)
     if root is None:

@@ -206,7 +206,7 @@ def all_weakenings(top):
     for crate in sums.crates_of(top):
         root = next(top / f"crates/{crate}/src/{name}.rt" for name in ("lib", "main") if (top / f"crates/{crate}/src/{name}.rt").exists())
         parts = sums.parts_of(top, crate)
-        for path in sorted([*top.glob(f"crates/{crate}/specs/*.antt"), *top.glob(f"crates/{crate}/src/**/*.rt")]):
+        for path in sorted([*top.glob(f"crates/{crate}/specs/**/*.antt"), *top.glob(f"crates/{crate}/src/**/*.rt")]):
             if "tests" in path.parts or path.name == "tests.rt":
                 continue
             text, name = path.read_text(), str(path.relative_to(top))
@@ -327,7 +327,7 @@ def same(top, draw):
     """Edits that say the same, one of a crate at most: a comment, a body, an attribute, an import that no statement uses."""
     for crate in sums.crates_of(top):
         code = [path for path in sorted(top.glob(f"crates/{crate}/src/**/*.rt")) if "tests" not in path.parts]
-        specs = sorted(top.glob(f"crates/{crate}/specs/*.antt"))
+        specs = sorted(top.glob(f"crates/{crate}/specs/**/*.antt"))
         rule = draw.choice(["comment", "body", "attribute", "import", "definition's comment"])
         path = draw.choice(specs if rule == "definition's comment" and specs else code)
         text = path.read_text()

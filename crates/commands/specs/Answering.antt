@@ -5,11 +5,11 @@ use Rattle.clap.specs.declared.error.kind.ErrorKind.{ErrorKind}
 use Rattle.line_io.specs.declared.faults.LineFault.{LineFault}
 use Rattle.line_io.specs.Streams.{ReadAnswer, WriteAnswer}
 use Rattle.solve_engine.specs.Solving.{OrderedRun, SolvedRun, VisitedRun}
-use Rattle.command_line.specs.declared.options.Options.{Options}
-use Rattle.command_line.specs.declared.options.Options.TheVariants.{Serve, Solve, SolveOrdered}
-use Rattle.command_line.specs.declared.faults.WordsFault.{WordsFault}
-use Rattle.command_line.specs.CommandLine.{options_asked, program}
-use Rattle.command_line.specs.Faults.{IsRefusalOf, exit_status}
+use Rattle.commands.specs.declared.command_line.options.Options.{Options}
+use Rattle.commands.specs.declared.command_line.options.Options.TheVariants.{Serve, Solve, SolveOrdered}
+use Rattle.commands.specs.declared.command_line.faults.WordsFault.{WordsFault}
+use Rattle.commands.specs.command_line.CommandLine.{options_asked, program}
+use Rattle.commands.specs.command_line.Faults.{IsRefusalOf, exit_status}
 
 -- what the words of a command line are read as, by the faults that are found in them and what they ask for: that,
 -- where they have no fault; or they are refused, for a fault that they have or for want of memory

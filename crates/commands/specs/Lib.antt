@@ -1,2 +1,3 @@
+pub mod command_line
 pub mod Answering
 pub mod Running

@@ -5,9 +5,9 @@ use Rattle.std.specs.declared.net.SocketAddr.{SocketAddr}
 use Rattle.clap.specs.Words.{Text}
 use Rattle.line_io.specs.Streams.{ReadAnswer, WriteAnswer}
 use Rattle.line_io.specs.Writes.{IsWritten}
-use Rattle.command_line.specs.declared.options.Options.{Options}
-use Rattle.command_line.specs.declared.options.Options.TheVariants.{Serve, Solve, SolveOrdered}
-use Rattle.command_line.specs.declared.faults.WordsFault.{WordsFault}
+use Rattle.commands.specs.declared.command_line.options.Options.{Options}
+use Rattle.commands.specs.declared.command_line.options.Options.TheVariants.{Serve, Solve, SolveOrdered}
+use Rattle.commands.specs.declared.command_line.faults.WordsFault.{WordsFault}
 use Rattle.commands.specs.Answering.{IsSolvedAsAsked}
 use Rattle.commands.specs.declared.service.Service.{Service}
 

@@ -15,6 +15,7 @@
 #![tactic(auto)]
 
 mod answering;
+pub mod command_line;
 mod explaining;
 mod running;
 mod saying;

@@ -1,16 +1,16 @@
 //! What the program does, over any streams: from the words of the command line to the exit status.
 ghost use Rattle.std.specs.Prelude.{map, Result};
-ghost use Rattle.command_line.specs.declared.options.Options.{Options};
-ghost use Rattle.command_line.specs.declared.faults.WordsFault.{WordsFault};
+ghost use Rattle.commands.specs.declared.command_line.options.Options.{Options};
+ghost use Rattle.commands.specs.declared.command_line.faults.WordsFault.{WordsFault};
 ghost use Rattle.commands.specs.Answering.{IsReadOf};
 ghost use Rattle.commands.specs.Running.{IsFollowed};
 
 use crate::answering::{answer, answer_ordered};
+use crate::command_line::Options;
 use crate::saying::refuse;
 use crate::service::Service;
 use crate::serving::{Unserved, failed, serve_as_asked};
 use crate::streams::{ProgramInput, ProgramOutput, Streams};
-use command_line::Options;
 use line_io::Sink;
 use std::alloc::Global;
 use std::convert::AsStr;

@@ -1,8 +1,8 @@
 //! What a program says of itself, and of words that it can't follow.
 ghost use Rattle.std.specs.Prelude.{◌≡◌};
-ghost use Rattle.command_line.specs.Faults.{exit_status};
+ghost use Rattle.commands.specs.command_line.Faults.{exit_status};
 
-use command_line::WordsFault;
+use crate::command_line::WordsFault;
 use line_io::{Sink, write_text};
 use std::fmt::{self, Display, Write as _};
 

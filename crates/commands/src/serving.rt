@@ -11,10 +11,10 @@ ghost use Rattle.hall.specs.Halls.{empty_hall};
 ghost use Rattle.commands.specs.declared.serving.Unserved.TheVariants.{Uncounted};
 ghost use Rattle.commands.specs.Running.{IsServed, ended_text, listening_text};
 
+use crate::command_line::Options;
 use crate::saying::say;
 use crate::service::Service;
 use crate::{EXIT_FAILED, EXIT_OK};
-use command_line::Options;
 use line_io::{Sink, write_text};
 use sched_rules::Worker;
 use std::alloc::{AllocError, Global};
@@ -67,7 +67,7 @@ impl From<ServeFault> for Unserved {
 }
 
 impl Service {
-    ghost use Rattle.command_line.specs.CommandLine.{AreWithinLimits};
+    ghost use Rattle.commands.specs.command_line.CommandLine.{AreWithinLimits};
     ghost use Rattle.commands.specs.Running.{IsServiceOf};
 
     /// The server that these options ask for, with each amount as it was read; `None` exactly where they ask for

@@ -1,9 +1,9 @@
 //! The words that a process was started with.
 ghost use Rattle.std.specs.Prelude.{◌≡◌, ◌⊎◌, IfErr};
 
+use crate::command_line::WordsFault;
 use crate::saying::say;
 use crate::{EXIT_FAILED, EXIT_REFUSED};
-use command_line::WordsFault;
 use line_io::Sink;
 use std::alloc::{AllocError, Global};
 use std::env::Args;

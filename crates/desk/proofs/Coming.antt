@@ -1,17 +1,11 @@
 -- What lies under the lock has come by the steps of the history, one after the other.
-use Rattle.desk.proofs.Common.{◌≡◌, ℕ, ◌+◌, ◌<◌, ◌≤◌, List, [], ◌∷◌, ◌++◌, true, false, refl, sym, ap, ◌∙◌, subst, arith, None, Result, Ok, Err, OnOk, OnErr, IsPrefix, Quota, Refusal, Admit, Leave, DidOf, Left, refusal_in, tenant_of, only, alone_from, CoreState, tenant_in, shared_run, newest_after, IsOneStep, AreNumbersGiven, step-taken, known-number, tenant_in-new, Leaf, LeafAnswer, jamboree, HallOf, IsOffered, hall_after, IsExplained, own, Known, SeatOf, seeing, steps_of, core_at, is_admit, with_taken, is_leave, AreStepsOfSeat, HasNoLeave, HasOwners, IsAtEndOf, IsComeBy, IsThere, IsLook, IsToldOf}
+use Rattle.desk.proofs.Common.{◌≡◌, ℕ, ◌+◌, ◌<◌, ◌≤◌, List, [], ◌∷◌, ◌++◌, true, false, refl, sym, ap, ◌∙◌, subst, arith, None, Result, Ok, Err, OnOk, OnErr, IsPrefix, Quota, Refusal, Admit, Leave, DidOf, Left, refusal_in, tenant_of, only, alone_from, CoreState, tenant_in, shared_run, newest_after, IsOneStep, AreNumbersGiven, step-taken, known-number, tenant_in-new, Leaf, LeafAnswer, jamboree, HallOf, hall_after, IsExplained, own, Known, SeatOf, seeing, steps_of, core_at, is_admit, with_taken, is_leave, AreStepsOfSeat, HasNoLeave, HasOwners, IsAtEndOf, IsComeBy, IsThere, IsLook, IsToldOf}
 use Rattle.desk.proofs.Judged.{run-more, taken-more, no-first, newest-stays, Rights, Headlines, isolated}
 use Rattle.desk.proofs.Staying.{there-more, seat-stays, leaves}
 use Rattle.desk.proofs.Owners.{Step, Entries, IsOfSeat, steps_of-more, owners-more, owners-admit, steps-are-mine, unused, unmade, upto-more}
 
 abbrev Answer : Type 0
 Answer = Result (DidOf Leaf) Refusal
-
--- what an offer did to the hall
-pub offered : (before : HallOf) (step : Step) (answer : Answer) (after : HallOf) → IsOneStep (jamboree before.grain) before.shared step answer after.shared → OnOk answer (after ≡ hall_after before step after.shared) →
-    OnErr answer (after ≡ before) → IsOffered before step answer after
-offered before step (Ok did) after one taken refused = record { one = one; left = taken }
-offered before step (Err refusal) after one taken refused = record { one = one; left = refused }
 
 -- nothing has come by yet
 pub come-begun : (begun hall : HallOf) → hall ≡ begun → IsExplained hall → IsComeBy begun hall.grain hall.shared []

@@ -6,3 +6,4 @@ pub mod Judged
 pub mod Staying
 pub mod Owners
 pub mod Coming
+pub mod Noting

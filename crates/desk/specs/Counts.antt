@@ -1,21 +1,19 @@
 -- Meaning: what contracts see of what lies under the lock, what one call does to the hall there, and for what is waited.
 use Rattle.std.specs.Prelude.{◌≡◌, ℕ, ◌+◌, ◌==◌, Bool, false, not, List, Option, Some, None, Result, Ok, Err}
 use Rattle.frame_table.specs.Frames.{IsReadyAt}
-use Rattle.pool_rules.specs.declared.task.Task.{Task}
+use Rattle.jamboree_rules.specs.declared.pool_rules.task.Task.{Task}
 use Rattle.sched_rules.specs.declared.refusal.Refusal.{Refusal}
 use Rattle.sched_rules.specs.declared.step.StepOf.{StepOf}
 use Rattle.sched_rules.specs.declared.step.StepOf.TheVariants.{Leave}
 use Rattle.sched_rules.specs.declared.step.DidOf.{DidOf}
 use Rattle.sched_rules.specs.declared.step.DidOf.TheVariants.{Left}
 use Rattle.sched_rules.specs.Cores.{CoreState}
-use Rattle.sched_rules.specs.Headline.{IsOneStep}
 use Rattle.sched_rules.specs.Views.{job_of, named, ready_count}
 use Rattle.hall.specs.jamboree_rules.declared.leaf.Leaf.{Leaf}
 use Rattle.hall.specs.jamboree_rules.declared.leaf.LeafAnswer.{LeafAnswer}
-use Rattle.hall.specs.jamboree_rules.Procedure.{jamboree}
-use Rattle.hall.specs.Halls.{HallOf, hall_after}
+use Rattle.hall.specs.Halls.{HallOf, IsDecided}
 use Rattle.desk.specs.Seats.{SeatOf}
-use Rattle.desk_rules.specs.Changes.{is_some_live}
+use Rattle.hall.specs.desk_rules.Changes.{is_some_live}
 
 -- what contracts see of what lies under the lock: the hall, how many badges were given, and the steps taken since the desk was
 -- made, each with the number of its maker
@@ -24,20 +22,9 @@ pub record LockedHallOf : Type 0 where
   pub badges : ℕ
   pub history : List (ℕ × StepOf LeafAnswer)
 
--- the hall after this answer to a step: where it was taken it is written into the journals, and what the tenants share
--- is that of `after`; where it was refused nothing has changed
-abbrev pub after_offer : HallOf → StepOf LeafAnswer → Result (DidOf Leaf) Refusal → HallOf → HallOf
-after_offer before step (Ok did) after = hall_after before step after.shared
-after_offer before step (Err refusal) after = before
-
--- one step was offered to the hall, and nothing else was done to it
-pub record IsOffered (before : HallOf) (step : StepOf LeafAnswer) (answer : Result (DidOf Leaf) Refusal) (after : HallOf) : Type 0 where
-  pub one : IsOneStep (jamboree before.grain) before.shared step answer after.shared
-  pub left : after ≡ after_offer before step answer after
-
 -- the hall took a Leave of the seat's tenant, and then keeps the seat's share too, and 1 more for the Leave
 pub record IsLeft (before : HallOf) (seat : SeatOf) (after : HallOf) : Type 0 where
-  pub step : IsOffered before (Leave seat.tenant) (Ok Left) (record after { kept = before.kept })
+  pub step : IsDecided before (Leave seat.tenant) (Ok Left) (record after { kept = before.kept })
   pub kept : after.kept ≡ before.kept + seat.share + 1
 
 -- what lies under the lock, where the hall keeps so many more steps

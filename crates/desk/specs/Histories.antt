@@ -20,7 +20,7 @@ use Rattle.sched_rules.specs.Views.{job_of}
 use Rattle.hall.specs.jamboree_core.declared.outcomes.Outcome.{Outcome}
 use Rattle.hall.specs.jamboree_core.Outcomes.{IsOutcomeIn}
 use Rattle.desk.specs.Seats.{SeatOf, seeing}
-use Rattle.desk_rules.specs.Asked.{seat_asked_at, IsToldBy}
+use Rattle.hall.specs.desk_rules.Asked.{seat_asked_at, IsToldBy}
 
 -- the steps of a history, in order
 abbrev pub steps_of : List (ℕ × StepOf LeafAnswer) → List (StepOf LeafAnswer)

@@ -6,3 +6,4 @@ pub mod Seats
 pub mod Counts
 pub mod Parts
 pub mod Histories
+pub mod Noted

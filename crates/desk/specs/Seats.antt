@@ -4,8 +4,9 @@ use Rattle.sched_rules.specs.declared.refusal.Refusal.{Refusal}
 use Rattle.sched_rules.specs.declared.refusal.Refusal.TheVariants.{NoTenant, NoJobsLeft, Full, OldTenant, OutOfMemory, Lower}
 use Rattle.sched_rules.specs.declared.step.StepOf.{StepOf}
 use Rattle.hall.specs.jamboree_rules.declared.leaf.LeafAnswer.{LeafAnswer}
+use Rattle.atomic_table.specs.Seated.{TableId}
 use Rattle.desk.specs.Traces.{Known}
-use Rattle.desk_rules.specs.declared.asked.SeatAsked.{SeatAsked}
+use Rattle.hall.specs.declared.desk_rules.asked.SeatAsked.{SeatAsked}
 
 -- a seat: its tenant, the number of its own steps, what it asked, from job 1 on, and what it knows of the desk's history
 pub record SeatOf : Type 0 where
@@ -13,6 +14,11 @@ pub record SeatOf : Type 0 where
   pub share : ℕ
   pub asked : List SeatAsked
   pub known : Known (StepOf LeafAnswer)
+
+-- what each desk's seat is made of: of which history it knows, and the seat
+pub record SeatCoreOf : Type 0 where
+  pub id : TableId
+  pub seat : SeatOf
 
 -- the seat that now knows this
 abbrev pub seeing : Known (StepOf LeafAnswer) → SeatOf → SeatOf

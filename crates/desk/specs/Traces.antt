@@ -85,3 +85,13 @@ pub record Known (S : Type 0) : Type 0 where
   pub maker : ℕ
   pub seen : List (ℕ × S)
   pub mine : List S
+
+-- a history: which one it is, and its entries
+pub record StepLogOf (S : Type 0) : Type 0 where
+  pub id : TableId
+  pub entries : List (ℕ × S)
+
+-- a maker's token: of which history it is, and what the maker knows of that
+pub record TokenOf (S : Type 0) : Type 0 where
+  pub id : TableId
+  pub known : Known S

@@ -11,7 +11,7 @@ ghost use Rattle.sched_rules.specs.declared.step.StepOf.{StepOf};
 ghost use Rattle.sched_rules.specs.declared.step.StepOf.TheVariants.{AdmitMore, Submit, Cancel, Leave};
 ghost use Rattle.sched_rules.specs.Cores.{tenant_in};
 ghost use Rattle.sched_rules.specs.Views.{left_in_core, live_of};
-ghost use Rattle.desk_rules.specs.Asked.{found_or_no_tenant, ask_refusals, cancel_refusals, seat_asked_at, IsShown};
+ghost use Rattle.hall.specs.desk_rules.Asked.{found_or_no_tenant, ask_refusals, cancel_refusals, seat_asked_at, IsShown};
 ghost use Rattle.desk.specs.Seats.{admit_refusals, reserve_refusals, seeing, stepped, IsAsked};
 ghost use Rattle.desk.specs.Histories.{core_at, steps_of, AreTaken, IsAtEndOf, IsSeated, IsLook, IsShownAt, IsToldOf, IsTrueTo, Saw, Took};
 
@@ -23,7 +23,7 @@ use crate::seat::Seat;
 use crate::shares::{Badge, DeskLedger, PARTS};
 use frame_table::FrameId;
 use hall::{Hall, Jamboree, Outcome, Refusal, Step, StepAnswer};
-use position_text::Position;
+use othello_board::position_text::Position;
 use std::alloc::{Allocator, Global};
 use std::sync::Wait;
 use std::sync::ledger::{Blank, Share};

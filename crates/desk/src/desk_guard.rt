@@ -11,9 +11,9 @@ use crate::bells::bell_of;
 use crate::lock::{DeskLock, Kept};
 use crate::under_lock::UnderLock;
 use crate::worker_badge::WorkerBadge;
-use desk_rules::Change;
+use hall::desk_rules::Change;
 use hall::{DidOf, Jamboree, Step, StepAnswer};
-use pool_rules::Task;
+use jamboree_rules::pool_rules::Task;
 use std::marker::Model;
 use std::sync::{MutexGuard, Wait};
 

@@ -7,10 +7,11 @@
 //! ([`Desk::wait`]); a step wakes only those who wait for what it changed.
 //!
 //! The lock, the bells and who holds the desk are one for all desks: [`DeskLock`] over a value that is [`UnderLock`], of
-//! which `Desk` is the one with a [`LockedHall`], and a site's desk that with its book.
+//! which `Desk` is the one with a [`LockedHall`], and a site's desk that with its book. What their calls do to the hall is one too:
+//! [`NotedHall`] is a hall with the history of its steps, and [`SeatCore`] what each desk's seat is made of.
 //!
 //! Behind a lock a contract can't say what a call did to the hall, as other threads use it too. So the steps taken since
-//! the desk was made, each with the number of its maker, are a history ([`History`]) that lies beside the hall, in
+//! the desk was made, each with the number of its maker, are a history ([`StepLog`], by its desk's name [`History`]) that lies beside the hall, in
 //! proofs alone; a seat and a badge are makers, and a seat knows what it has seen of the history and which steps are its
 //! own. What a call did is said of these (`specs/Histories.antt`): a step that was taken is the last of the history that
 //! the seat has then seen, and its own steps grew by just it; a refusal is the one that the core at the end of that history
@@ -61,6 +62,7 @@ mod desk_guard;
 mod history;
 mod lock;
 mod locked_hall;
+mod noted_hall;
 mod passes;
 pub mod reading;
 mod seat;
@@ -70,16 +72,17 @@ mod worker_badge;
 
 pub use desk::Desk;
 pub use desk_guard::DeskGuard;
-pub use desk_rules::SeatAsked;
+pub use hall::desk_rules::SeatAsked;
 pub use hall::{
     Config, Did, DidOf, Hall, Jamboree, Leaf, LeafAnswer, Outcome, Refusal, Reply, Step,
     StepAnswer, StepOf, Worker,
 };
-pub use history::{History, Opened, Trace};
+pub use history::{History, Opened, StepLog, Token, Trace};
 pub use lock::{DeskLock, Kept};
 pub use locked_hall::LockedHall;
+pub use noted_hall::NotedHall;
 pub use passes::Naming;
-pub use seat::Seat;
+pub use seat::{Seat, SeatCore};
 pub use shares::{Badge, DeskLedger, PARTS};
 pub use under_lock::UnderLock;
 pub use worker_badge::WorkerBadge;

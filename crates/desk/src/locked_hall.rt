@@ -1,55 +1,45 @@
-//! What lies under the lock: the hall, the book of the shares, and the history of the steps.
-ghost use Rattle.std.specs.Prelude.{◌≡◌, ◌≢◌, ◌+◌, ◌%◌, ◌^◌, ◌<◌, ◌≤◌, ◌==◌, ◌↔◌, not, [], true, false, length, Ok, Err, Some, None, Contains, IfErr, IfNone, IfOk, IfSome, IsNone, OnSome, Option, MatchResult, option_copied};
-ghost use Rattle.sched_rules.specs.declared.step.DidOf.TheVariants.{Left as HasLeft};
+//! What lies under the lock: the hall with the history of its steps, and the book of the shares.
+ghost use Rattle.std.specs.Prelude.{◌≡◌, ◌≢◌, ◌+◌, ◌^◌, ◌<◌, ◌≤◌, [], true, length, Err, None, Contains, IfErr, IfNone, IfOk, IfSome, OnSome, Option, MatchResult};
 ghost use Rattle.sched_rules.specs.declared.refusal.Refusal.TheVariants.{NoJob, OutOfMemory};
 ghost use Rattle.sched_rules.specs.declared.step.StepOf.TheVariants.{Admit, AdmitMore, Submit, Cancel, Leave};
-ghost use Rattle.sched_rules.specs.declared.step.DidOf.{DidOf};
-ghost use Rattle.hall.specs.jamboree_rules.declared.leaf.Leaf.{Leaf as LeafOf};
 ghost use Rattle.hall.specs.jamboree_rules.Places.{root_words, frame_size};
 ghost use Rattle.hall.specs.jamboree_rules.Procedure.{jamboree};
 ghost use Rattle.hall.specs.jamboree_rules.othello_eval.othello_moves.declared.choices.TheConstants.{DEEPEST};
 ghost use Rattle.hall.specs.Journals.{is_worker_step};
-ghost use Rattle.hall.specs.Halls.{count_of};
-ghost use Rattle.sched_rules.specs.Headline.{is_admission};
+ghost use Rattle.hall.specs.Halls.{count_of, IsDecided};
 ghost use Rattle.sched_rules.specs.Cores.{tenant_in};
 ghost use Rattle.sched_rules.specs.Views.{left_in_core, live_of, job_of};
-ghost use Rattle.hall.specs.jamboree_core.Replies.{IsSearch};
 ghost use Rattle.hall.specs.jamboree_core.declared.outcomes.Outcome.{Outcome as OutcomeOf};
 ghost use Rattle.hall.specs.jamboree_core.Outcomes.{IsOutcomeIn};
-ghost use mathlib.Core.List.{IsPrefix};
-ghost use Rattle.desk.specs.Traces.{own};
-ghost use Rattle.sched_rules.specs.Runs.{tenant_of};
 ghost use Rattle.desk.specs.Seats.{admit_refusals, reserve_refusals, seeing, stepped, IsAsked};
-ghost use Rattle.desk_rules.specs.Asked.{ask_refusals, cancel_refusals, seat_asked_at, IsShown, IsToldBy, found_or_no_tenant};
-ghost use Rattle.desk.specs.Histories.{core_at, steps_of, is_admit, is_leave, is_seat_step, with_taken, AreStepsOfSeat, AreTaken, HasNoLeave, IsAtEndOf, IsSeated, IsLook, IsShownAt, IsToldOf, IsTrueTo, Saw, Took};
-ghost use Rattle.desk.specs.Counts.{IsOffered, IsLeft, with_kept};
+ghost use Rattle.hall.specs.desk_rules.Asked.{ask_refusals, cancel_refusals, seat_asked_at, IsShown, IsToldBy, found_or_no_tenant};
+ghost use Rattle.desk.specs.Histories.{core_at, steps_of, AreTaken, IsAtEndOf, IsSeated, IsLook, IsShownAt, IsToldOf, IsTrueTo, Saw, Took};
+ghost use Rattle.desk.specs.Counts.{IsLeft, with_kept};
+ghost use Rattle.desk.specs.Noted.{IsDone};
 
 use crate::history::{History, Opened, Trace};
-use crate::reading::{has_ready, is_awaited, left_of, live_of, next_ready, told_of};
+use crate::noted_hall::NotedHall;
+use crate::reading::{has_ready, is_awaited, next_ready};
 use crate::seat::Seat;
 use crate::shares::{Badge, DeskLedger, PARTS};
 use crate::under_lock::UnderLock;
-use arrayvec::ArrayVec;
-use desk_rules::{Backoff, JOBS, SeatAsked, seat_asked_at};
-use hall::{Hall, Jamboree, Outcome, Refusal, Step, StepAnswer, StepOf, submit};
-use pool_rules::Task;
-use position_text::Position;
-use sched_rules::laws::{each_step_has_a_right_answer, no_tenant_is_disturbed};
+use hall::desk_rules::Backoff;
+use hall::{Hall, Jamboree, Outcome, Refusal, Step, StepAnswer};
+use jamboree_rules::pool_rules::Task;
+use othello_board::position_text::Position;
 use std::alloc::{Allocator, Global};
-use std::marker::Model;
+use std::marker::{Model, PhantomData};
 use std::sync::ledger::{Blank, Book, Share};
 use tenant_quota::{Left, Reserve};
 
 /// The most badges that one desk ever gives.
 const BADGES: u64 = 1 << 62;
 
-/// What lies under the desk's lock: the hall, the ledger that counts the steps taken since the desk was made, and the
-/// history of these steps.
+/// What lies under the desk's lock: the hall with the history of the steps taken since the desk was made, and the ledger that
+/// counts them.
 #[derive(Drop)]
 pub struct LockedHall<L: DeskLedger, A: Allocator = Global> {
-    hall: Hall<A>,
-    /// The steps taken since the desk was made. It exists in proofs alone, but for one word.
-    history: History<Step<Jamboree>, L>,
+    noted: NotedHall<A>,
     /// Its total is the number of steps taken since the desk was made.
     book: Book<L>,
     /// The share that no seat and no badge has: parts that can be given, and the steps of seats that have left.
@@ -68,15 +58,15 @@ impl<L: DeskLedger, A: Allocator> Model for LockedHall<L, A> {
     ghost use Rattle.hall.specs.Halls.{count_of};
     ghost use Rattle.desk.specs.Counts.{LockedHallOf};
     ghost use Rattle.desk.specs.Parts.{ledger_parts};
-    ghost use Rattle.desk.specs.Histories.{IsComeBy};
+    ghost use Rattle.desk.specs.Noted.{HasCome};
 
     ghost Value = { LockedHallOf };
 
-    ghost view = { λ k. record { hall = k.hall; badges = k.badges; history = k.history } };
+    ghost view = { λ k. record { hall = k.noted.hall; badges = k.badges; history = k.noted.history } };
 
-    ghost invariant = { λ k. (count_of k.hall ≡ k.before + k.book.total) × (k.hall.kept ≡ k.before + k.spare.amount) × (k.spare.parts ≡ k.parts)
-        × (L.all ≡ ledger_parts) × (k.parts ≤ ledger_parts) × (ledger_parts ≤ k.parts + k.badges + k.hall.shared.newest) × (k.badges ≤ 2 ^ 62)
-        × IsComeBy L.begun k.hall.grain k.hall.shared k.history × (k.before ≡ count_of L.begun) };
+    ghost invariant = { λ k. (count_of k.noted.hall ≡ k.before + k.book.total) × (k.noted.hall.kept ≡ k.before + k.spare.amount) × (k.spare.parts ≡ k.parts)
+        × (L.all ≡ ledger_parts) × (k.parts ≤ ledger_parts) × (ledger_parts ≤ k.parts + k.badges + k.noted.hall.shared.newest) × (k.badges ≤ 2 ^ 62)
+        × HasCome L.begun k.noted × (k.before ≡ count_of L.begun) × (k.noted.id ≡ L.table) };
 }
 
 impl<L: DeskLedger, A: Allocator + Clone> LockedHall<L, A> {
@@ -96,75 +86,17 @@ impl<L: DeskLedger, A: Allocator + Clone> LockedHall<L, A> {
         ensures no_steps { result.history ≡ [] }
     {
         let (book, spare) = blank.open::<L>();
-        let mut hall = hall;
         let before = hall.count();
-        hall.keep(before);
+        let mut noted = NotedHall::new(hall, opened);
+        noted.keep(before);
         LockedHall {
-            hall,
-            history: opened.named::<L>(),
+            noted,
             book,
             spare,
             parts: PARTS,
             badges: 0,
             before,
         }
-    }
-
-    /// Offers a step of this maker to the hall. If the hall takes it, the share `mine` and the book count it, and the
-    /// history ends with it. A seat step is by the maker who admitted its tenant.
-    fn take(
-        &mut self,
-        mine: &mut Share<L>,
-        trace: &mut Trace<Step<Jamboree>, L>,
-        step: &Step<Jamboree>,
-    ) -> StepAnswer
-        requires search { IsSearch step.now }
-        requires part { 0 < mine.old.parts }
-        requires admitted { is_admit step.now ≡ false }
-        requires owner { is_seat_step step.now ≡ true → AreStepsOfSeat (tenant_of step.now) trace.old.mine }
-        ensures told { IsToldOf L.begun trace.old step.now result trace.new }
-        ensures seen { trace.new.seen ≡ self.new.history }
-        ensures true_to { is_seat_step step.now ≡ true → IsTrueTo L.begun (tenant_of step.now) trace.new }
-        ensures owner { is_seat_step step.now ≡ true → AreStepsOfSeat (tenant_of step.now) trace.new.mine }
-        ensures stays { is_leave step.now ≡ false → HasNoLeave trace.old.mine → HasNoLeave trace.new.mine }
-        ensures left { is_leave step.now ≡ true → HasNoLeave trace.old.mine → result ≡ Ok HasLeft }
-        ensures step { IsOffered self.old.hall step.now result self.new.hall }
-        ensures others { self.new.badges ≡ self.old.badges }
-        ensures amount { MatchResult result (λ _. mine.new.amount ≡ mine.old.amount + 1) (λ _. mine.new.amount ≡ mine.old.amount) }
-        ensures parts { mine.new.parts ≡ mine.old.parts }
-        ensures bound { mine.new.amount ≤ 2 ^ 84 }
-        ensures memory { is_admission step.now ≡ false → result ≢ Err OutOfMemory }
-    {
-        let LockedHall {
-            hall,
-            history,
-            book,
-            ..
-        } = self;
-        let answer = hall.offer(step);
-        note(history, trace, step, &answer);
-        if answer.is_ok() {
-            book.add(mine, 1);
-        }
-        book.audit(mine);
-        trace.recall();
-        answer
-    }
-
-    /// Offers a step for a seat; the seat's share and its number of steps count it if the hall took it.
-    fn take_for(&mut self, seat: &mut Seat<L>, step: &Step<Jamboree>) -> StepAnswer
-        requires search { IsSearch step.now }
-        requires own { (is_seat_step step.now ≡ true) × (is_admit step.now ≡ false) × (is_leave step.now ≡ false) × (tenant_of step.now ≡ seat.old.tenant) }
-        ensures share { MatchResult result (λ _. seat.new ≡ stepped seat.new.known seat.old) (λ _. seat.new ≡ seeing seat.new.known seat.old) }
-        ensures told { IsToldOf L.begun seat.old.known step.now result seat.new.known }
-        ensures step { IsOffered self.old.hall step.now result self.new.hall }
-        ensures others { self.new.badges ≡ self.old.badges }
-    {
-        let answer = self.take(&mut seat.mine, &mut seat.trace, step);
-        if answer.is_ok() {
-            seat.steps += 1;
-        }
-        answer
     }
 
     /// Admits a tenant under the number after the greatest so far, and returns its seat. The seat's share, with one
@@ -174,34 +106,18 @@ impl<L: DeskLedger, A: Allocator + Clone> LockedHall<L, A> {
         ensures seat { IfOk result (λ seat. (seat.tenant ≡ self.old.hall.shared.newest + 1) × (seat.share ≡ 1) × (seat.asked ≡ [])) }
         ensures admitted { IfOk result (IsSeated reserve) }
         ensures new { IfOk result (λ seat. tenant_in L.begun.shared.tenants seat.tenant ≡ None) }
-        ensures step { MatchResult result
-            (λ _. (did : DidOf LeafOf) × IsOffered self.old.hall (Admit (self.old.hall.shared.newest + 1) reserve) (Ok did) self.new.hall)
-            (λ refusal. IsOffered self.old.hall (Admit (self.old.hall.shared.newest + 1) reserve) (Err refusal) self.new.hall) }
+        ensures step { IsDone self.old.hall (Admit (self.old.hall.shared.newest + 1) reserve) result self.new.hall }
         ensures refused { IfErr result (Contains admit_refusals) }
         ensures others { self.new.badges ≡ self.old.badges }
     {
-        let LockedHall {
-            hall,
-            history,
-            book,
-            spare,
-            parts,
-            ..
-        } = self;
-        let tenant = hall.next_tenant();
-        let step = StepOf::Admit(tenant, reserve);
-        hall.offer(&step)?;
-        let mut trace = history.begin();
-        history.add(&mut trace, &step);
-        let mut mine = spare.split_off(1, 0);
-        *parts -= 1;
-        book.add(&mut mine, 1);
+        let core = self.noted.admit(reserve)?;
+        let mut mine = self.spare.split_off(1, 0);
+        self.parts -= 1;
+        self.book.add(&mut mine, 1);
         Ok(Seat {
-            tenant,
+            core,
             mine,
-            trace,
             steps: 1,
-            asked: ArrayVec::new(),
         })
     }
 
@@ -210,15 +126,13 @@ impl<L: DeskLedger, A: Allocator + Clone> LockedHall<L, A> {
     pub(crate) fn reserve(&mut self, seat: &mut Seat<L>, reserve: Reserve) -> Result<(), Refusal>
         ensures share { MatchResult result (λ _. seat.new ≡ stepped seat.new.known seat.old) (λ _. seat.new ≡ seeing seat.new.known seat.old) }
         ensures told { IsToldOf L.begun seat.old.known (AdmitMore seat.old.tenant reserve) result seat.new.known }
-        ensures step { MatchResult result
-            (λ _. (did : DidOf LeafOf) × IsOffered self.old.hall (AdmitMore seat.old.tenant reserve) (Ok did) self.new.hall)
-            (λ refusal. IsOffered self.old.hall (AdmitMore seat.old.tenant reserve) (Err refusal) self.new.hall) }
+        ensures step { IsDone self.old.hall (AdmitMore seat.old.tenant reserve) result self.new.hall }
         ensures refused { IfErr result (Contains reserve_refusals) }
         ensures others { self.new.badges ≡ self.old.badges }
     {
-        let step = StepOf::AdmitMore(seat.tenant, reserve);
-        self.take_for(seat, &step)?;
-        Ok(())
+        let answer = self.noted.reserve(&mut seat.core, reserve);
+        tally(&mut self.book, &mut seat.mine, &mut seat.steps, &answer);
+        answer
     }
 
     /// Submits the search of a position for a seat, adds it to the seat's list, and returns the job's number, the
@@ -236,20 +150,11 @@ impl<L: DeskLedger, A: Allocator + Clone> LockedHall<L, A> {
         ensures refused { IfErr result (Contains ask_refusals) }
         ensures full { length seat.old.asked ≡ 256 → (self.new ≡ self.old) × (seat.new ≡ seat.old) }
         ensures told { length seat.old.asked ≢ 256 → IsToldOf L.begun seat.old.known (Submit seat.old.tenant (root_words position.now.board.own position.now.board.opp depth) frame_size) result seat.new.known }
-        ensures step { MatchResult result
-            (λ _. (did : DidOf LeafOf) × IsOffered self.old.hall (Submit seat.old.tenant (root_words position.now.board.own position.now.board.opp depth) frame_size) (Ok did) self.new.hall)
-            (λ refusal. length seat.old.asked ≢ 256 → IsOffered self.old.hall (Submit seat.old.tenant (root_words position.now.board.own position.now.board.opp depth) frame_size) (Err refusal) self.new.hall) }
+        ensures step { length seat.old.asked ≢ 256 → IsDone self.old.hall (Submit seat.old.tenant (root_words position.now.board.own position.now.board.opp depth) frame_size) result self.new.hall }
     {
-        if seat.asked.len() == JOBS {
-            return Err(Refusal::NoJobsLeft);
-        }
-        let search = submit(seat.tenant, position, depth);
-        self.take_for(seat, &search)?;
-        seat.asked.push(SeatAsked {
-            board: position.board,
-            depth,
-        });
-        Ok(seat.asked.len() as u64)
+        let answer = self.noted.ask(&mut seat.core, position, depth);
+        tally(&mut self.book, &mut seat.mine, &mut seat.steps, &answer);
+        answer
     }
 
     /// Cancels a seat's job. Where the seat asked for no job of this number the hall isn't asked, and the refusal is
@@ -258,18 +163,13 @@ impl<L: DeskLedger, A: Allocator + Clone> LockedHall<L, A> {
         ensures share { MatchResult result (λ _. seat.new ≡ stepped seat.new.known seat.old) (λ _. seat.new ≡ seeing seat.new.known seat.old) }
         ensures none { seat_asked_at seat.old.asked job ≡ None → (result ≡ Err NoJob) × (self.new ≡ self.old) × (seat.new ≡ seat.old) }
         ensures told { seat_asked_at seat.old.asked job ≢ None → IsToldOf L.begun seat.old.known (Cancel seat.old.tenant job) result seat.new.known }
-        ensures step { MatchResult result
-            (λ _. (did : DidOf LeafOf) × IsOffered self.old.hall (Cancel seat.old.tenant job) (Ok did) self.new.hall)
-            (λ refusal. seat_asked_at seat.old.asked job ≢ None → IsOffered self.old.hall (Cancel seat.old.tenant job) (Err refusal) self.new.hall) }
+        ensures step { seat_asked_at seat.old.asked job ≢ None → IsDone self.old.hall (Cancel seat.old.tenant job) result self.new.hall }
         ensures others { self.new.badges ≡ self.old.badges }
         ensures refused { IfErr result (Contains cancel_refusals) }
     {
-        if seat_asked_at(seat.asked.as_slice(), job).is_none() {
-            return Err(Refusal::NoJob);
-        }
-        let step = StepOf::Cancel(seat.tenant, job);
-        self.take_for(seat, &step)?;
-        Ok(())
+        let answer = self.noted.cancel(&mut seat.core, job);
+        tally(&mut self.book, &mut seat.mine, &mut seat.steps, &answer);
+        answer
     }
 
     /// Offers a worker's step to the hall; the badge's share counts it if the hall took it.
@@ -277,14 +177,12 @@ impl<L: DeskLedger, A: Allocator + Clone> LockedHall<L, A> {
         requires worker { is_worker_step step.now ≡ true }
         requires few { badge.old + 1 < 2 ^ 64 }
         ensures share { MatchResult result (λ _. badge.new ≡ badge.old + 1) (λ _. badge.new ≡ badge.old) }
-        ensures step { IsOffered self.old.hall step.now result self.new.hall }
+        ensures step { IsDecided self.old.hall step.now result self.new.hall }
         ensures others { self.new.badges ≡ self.old.badges }
         ensures memory { result ≢ Err OutOfMemory }
     {
-        let answer = self.take(&mut badge.mine, &mut badge.trace, step);
-        if answer.is_ok() {
-            badge.steps += 1;
-        }
+        let answer = self.noted.offer(&mut badge.token, step);
+        tally(&mut self.book, &mut badge.mine, &mut badge.steps, &answer);
         answer
     }
 
@@ -293,7 +191,7 @@ impl<L: DeskLedger, A: Allocator + Clone> LockedHall<L, A> {
         ensures shown { IsShown (seat_asked_at seat.now.asked job) result }
         ensures told { (told : Option OutcomeOf) × IsOutcomeIn (job_of self.now.hall.shared seat.now.tenant job) told × IsToldBy (seat_asked_at seat.now.asked job) told result }
     {
-        told_of(&self.hall, seat.tenant(), seat.asked(), job)
+        self.noted.get(&seat.core, job)
     }
 
     /// Lets a seat see the history so far.
@@ -302,11 +200,7 @@ impl<L: DeskLedger, A: Allocator + Clone> LockedHall<L, A> {
         ensures look { IsLook L.begun seat.old seat.new }
         ensures core { self.old.hall.shared ≡ core_at L.begun seat.new.known.seen }
     {
-        no_tenant_is_disturbed::<Jamboree>();
-        each_step_has_a_right_answer::<Jamboree>();
-        // Its contract gives the prover a procedure of the hall's grain, for which these laws are told.
-        let _core = self.hall.core();
-        self.history.show(&mut seat.trace);
+        self.noted.show(&mut seat.core);
     }
 
     /// Lets two makers see the history so far.
@@ -321,8 +215,7 @@ impl<L: DeskLedger, A: Allocator + Clone> LockedHall<L, A> {
         ensures history { one.new.seen ≡ other.new.seen }
         ensures legal { AreTaken (jamboree L.begun.grain) L.begun.shared (steps_of one.new.seen) }
     {
-        self.history.show(one);
-        self.history.show(other);
+        self.noted.compare(&mut one.token, &mut other.token);
     }
 
     /// As `get`, and the seat has then seen the history so far.
@@ -357,21 +250,21 @@ impl<L: DeskLedger, A: Allocator + Clone> LockedHall<L, A> {
     pub(crate) fn count(&self) -> u128
         ensures { result ≡ count_of self.now.hall }
     {
-        self.hall.count()
+        self.noted.hall().count()
     }
 
     /// The segments, nodes and steps that a tenant has left; `NoTenant` where it isn't there.
     pub(crate) fn quota(&self, tenant: u64) -> Result<Left, Refusal>
         ensures { result ≡ found_or_no_tenant (left_in_core self.now.hall.shared tenant) }
     {
-        left_of(&self.hall, tenant)
+        self.noted.quota(tenant)
     }
 
     /// How many frames a tenant has, and how many words these have together; `NoTenant` where it isn't there.
     pub(crate) fn live(&self, tenant: u64) -> Result<(usize, usize), Refusal>
         ensures { result ≡ found_or_no_tenant (live_of self.now.hall.shared tenant) }
     {
-        live_of(&self.hall, tenant)
+        self.noted.live(tenant)
     }
 
     /// A new badge with a share of 0, which has one part of the spare share. `None` only after 2^62 badges.
@@ -385,14 +278,14 @@ impl<L: DeskLedger, A: Allocator + Clone> LockedHall<L, A> {
             return None;
         }
         // This call tells the prover what `IsExplained` says of the tenants' numbers.
-        let _next = self.hall.next_tenant();
+        let _next = self.noted.hall().next_tenant();
         let mine = self.spare.split_off(1, 0);
-        let trace = self.history.begin();
+        let token = self.noted.begin();
         self.parts -= 1;
         self.badges += 1;
         Some(Badge {
             mine,
-            trace,
+            token,
             steps: 0,
             parts: 1,
             backoff: Backoff::new(),
@@ -410,15 +303,17 @@ impl<L: DeskLedger, A: Allocator + Clone> LockedHall<L, A> {
         ensures others { self.new.badges ≡ self.old.badges }
     {
         let Seat {
-            tenant,
+            core,
             mut mine,
-            mut trace,
             steps,
-            ..
         } = seat;
-        let _left = self.take(&mut mine, &mut trace, &StepOf::Leave(tenant));
+        let token = self.noted.leave(core);
+        self.book.add(&mut mine, 1);
         self.keep_share(mine, steps + 1);
-        trace
+        Trace {
+            token,
+            of: PhantomData,
+        }
     }
 
     /// Adds the share of a seat that has left to the spare one, and its number of steps to the hall's number `kept`.
@@ -432,9 +327,9 @@ impl<L: DeskLedger, A: Allocator + Clone> LockedHall<L, A> {
         self.book.audit(&mut self.spare);
         self.parts += 1;
         // This call tells the prover what `IsExplained` says of the counts.
-        let _count = self.hall.count();
-        let kept = self.hall.kept();
-        self.hall.keep(kept + steps);
+        let _count = self.noted.hall().count();
+        let kept = self.noted.hall().kept();
+        self.noted.keep(kept + steps);
     }
 
     /// Takes the hall and its history out, and gives the share that has all parts of the ledger where this badge has those that the
@@ -453,13 +348,17 @@ impl<L: DeskLedger, A: Allocator + Clone> LockedHall<L, A> {
         ensures whole { IfSome result.1 (λ whole. count_of result.0 ≡ count_of L.begun + whole.amount) }
     {
         let LockedHall {
-            hall,
-            history,
+            noted,
             mut book,
             mut spare,
             parts,
             ..
         } = self;
+        let (hall, log) = noted.into_parts();
+        let history = History {
+            log,
+            of: PhantomData,
+        };
         let Badge {
             mine,
             parts: out,
@@ -475,11 +374,12 @@ impl<L: DeskLedger, A: Allocator + Clone> LockedHall<L, A> {
 }
 
 impl<L: DeskLedger, A: Allocator + Clone> UnderLock for LockedHall<L, A> {
-    ghost use Rattle.desk.specs.Counts.{IsOffered, IsNextReady, has_ready, is_awaited};
+    ghost use Rattle.hall.specs.Halls.{IsDecided};
+    ghost use Rattle.desk.specs.Counts.{IsNextReady, has_ready, is_awaited};
 
     type Badge = Badge<L>;
 
-    ghost is_offered = { λ before step answer after. IsOffered before.hall step answer after.hall };
+    ghost is_offered = { λ before step answer after. IsDecided before.hall step answer after.hall };
 
     ghost has_ready = { λ kept. has_ready kept.hall.shared };
 
@@ -495,15 +395,15 @@ impl<L: DeskLedger, A: Allocator + Clone> UnderLock for LockedHall<L, A> {
     }
 
     fn has_ready(&self) -> bool {
-        has_ready(&self.hall)
+        has_ready(self.noted.hall())
     }
 
     fn waits_on(&self, tenant: u64, job: u64) -> bool {
-        is_awaited(&self.hall, tenant, job)
+        is_awaited(self.noted.hall(), tenant, job)
     }
 
     fn next_task(&mut self) -> Option<Task> {
-        next_ready(&self.hall)
+        next_ready(self.noted.hall())
     }
 
     fn pick(&mut self) -> Option<Task> {
@@ -513,20 +413,25 @@ impl<L: DeskLedger, A: Allocator + Clone> UnderLock for LockedHall<L, A> {
     fn charge(&mut self, _tenant: u64, _amount: u64) {}
 }
 
-/// Adds a step with this answer to the history where it was taken, and lets its maker see all of it.
-fn note<L: DeskLedger>(
-    history: &mut History<Step<Jamboree>, L>,
-    trace: &mut Trace<Step<Jamboree>, L>,
-    step: &Step<Jamboree>,
-    answer: &StepAnswer,
+/// Counts a step with this answer where it was taken: in the share of who made it, in the number beside that, and in the book.
+fn tally<L: DeskLedger, X>(
+    book: &mut Book<L>,
+    mine: &mut Share<L>,
+    steps: &mut u128,
+    answer: &Result<X, Refusal>,
 )
-    ensures history { history.new ≡ with_taken history.old (trace.old.maker, step.now) answer.now }
-    ensures trace { trace.new ≡ record { maker = trace.old.maker; seen = history.new; mine = with_taken trace.old.mine step.now answer.now } }
-    ensures seen { IsPrefix trace.old.seen history.old }
-    ensures own { own trace.old.maker history.old ≡ trace.old.mine }
+    requires part { 0 < mine.old.parts }
+    requires amount { mine.old.amount ≡ steps.old }
+    requires few { steps.old < 2 ^ 100 }
+    ensures steps { MatchResult answer.now (λ _. steps.new ≡ steps.old + 1) (λ _. steps.new ≡ steps.old) }
+    ensures total { MatchResult answer.now (λ _. book.new.total ≡ book.old.total + 1) (λ _. book.new.total ≡ book.old.total) }
+    ensures amount { mine.new.amount ≡ steps.new }
+    ensures parts { mine.new.parts ≡ mine.old.parts }
+    ensures bound { mine.new.amount ≤ book.new.total }
 {
-    match answer {
-        Ok(_) => history.add(trace, step),
-        Err(_) => history.show(trace),
+    if answer.is_ok() {
+        book.add(mine, 1);
+        *steps += 1;
     }
+    book.audit(mine);
 }

@@ -3,12 +3,12 @@ ghost use Rattle.std.specs.Prelude.{◌≡◌, Option};
 ghost use Rattle.sched_rules.specs.Views.{job_of, left_in_core, live_of as live_in_core};
 ghost use Rattle.hall.specs.jamboree_core.declared.outcomes.Outcome.{Outcome as OutcomeOf};
 ghost use Rattle.hall.specs.jamboree_core.Outcomes.{IsOutcomeIn};
-ghost use Rattle.desk_rules.specs.Asked.{seat_asked_at, IsShown, IsToldBy, found_or_no_tenant};
+ghost use Rattle.hall.specs.desk_rules.Asked.{seat_asked_at, IsShown, IsToldBy, found_or_no_tenant};
 ghost use Rattle.desk.specs.Counts.{has_ready, is_awaited, IsNextReady};
 
-use desk_rules::{SeatAsked, seat_asked_at, shown};
+use hall::desk_rules::{SeatAsked, seat_asked_at, shown};
 use hall::{Hall, Outcome, Refusal};
-use pool_rules::Task;
+use jamboree_rules::pool_rules::Task;
 use std::alloc::Allocator;
 use tenant_quota::Left;
 

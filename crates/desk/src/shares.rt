@@ -2,10 +2,10 @@
 ghost use Rattle.std.specs.Prelude.{◌≡◌, ℕ, ◌+◌, ◌*◌, ◌<◌, ◌≤◌};
 ghost use Rattle.desk.specs.Parts.{ledger_parts};
 
-use crate::history::Trace;
+use crate::history::Token;
 use crate::passes::Naming;
 use crate::worker_badge::WorkerBadge;
-use desk_rules::Backoff;
+use hall::desk_rules::Backoff;
 use hall::{Jamboree, Step};
 use std::marker::{Brand, Model};
 use std::sync::ledger::{Ledger, Share};
@@ -43,7 +43,7 @@ pub struct Badge<L: DeskLedger> {
     /// Its parts of the desk's ledger, whose amount is `steps`. It takes no bytes.
     pub(crate) mine: Share<L>,
     /// What it knows of the desk's history, as the maker of its own steps. It takes no bytes.
-    pub(crate) trace: Trace<Step<Jamboree>, L>,
+    pub(crate) token: Token<Step<Jamboree>>,
     /// Its share.
     pub(crate) steps: u128,
     /// How many parts it has: one for itself, and one for each badge that was joined to it.
@@ -58,7 +58,7 @@ impl<L: DeskLedger> Model for Badge<L> {
 
     ghost view = { λ b. b.steps };
 
-    ghost invariant = { λ b. (b.mine.amount ≡ b.steps) × (b.mine.parts ≡ b.parts) × (0 < b.parts) × (L.all ≡ ledger_parts) × (b.steps ≤ b.parts * 18446744073709551615) };
+    ghost invariant = { λ b. (b.mine.amount ≡ b.steps) × (b.mine.parts ≡ b.parts) × (b.token.id ≡ L.table) × (0 < b.parts) × (L.all ≡ ledger_parts) × (b.steps ≤ b.parts * 18446744073709551615) };
 }
 
 impl<L: DeskLedger> WorkerBadge for Badge<L> {
@@ -99,7 +99,7 @@ impl<L: DeskLedger> Badge<L> {
     {
         let Badge {
             mut mine,
-            trace,
+            token,
             steps,
             parts,
             backoff,
@@ -113,7 +113,7 @@ impl<L: DeskLedger> Badge<L> {
         mine.merge(more);
         Badge {
             mine,
-            trace,
+            token,
             steps: steps + also,
             parts: parts + others,
             backoff,

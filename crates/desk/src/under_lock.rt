@@ -1,12 +1,12 @@
 //! What lies under a desk's lock, as the lock and the workers of a pool see it.
 use crate::worker_badge::WorkerBadge;
 use hall::{Jamboree, Step, StepAnswer};
-use pool_rules::Task;
+use jamboree_rules::pool_rules::Task;
 
 /// A hall under a lock, and what lies beside it. The lock's methods are one line each over these, whose contracts say what they did.
 pub trait UnderLock {
     ghost use Rattle.std.specs.Prelude.{◌≡◌, ◌≢◌, ◌+◌, ◌<◌, ◌^◌, ℕ, Bool, true, Option, IfSome, Result, Err};
-    ghost use Rattle.pool_rules.specs.declared.task.Task.{Task};
+    ghost use Rattle.jamboree_rules.specs.declared.pool_rules.task.Task.{Task};
     ghost use Rattle.sched_rules.specs.declared.refusal.Refusal.{Refusal};
     ghost use Rattle.sched_rules.specs.declared.refusal.Refusal.TheVariants.{OutOfMemory};
     ghost use Rattle.sched_rules.specs.declared.step.DidOf.{DidOf};

@@ -1,5 +1,5 @@
 //! What a worker offers steps with.
-use desk_rules::Backoff;
+use hall::desk_rules::Backoff;
 
 /// What a worker offers steps with: it counts those that were taken, and knows how long its worker waits for the lock.
 pub trait WorkerBadge: Drop {

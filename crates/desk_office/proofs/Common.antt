@@ -29,8 +29,8 @@ pub use Rattle.desk.specs.jamboree.declared.reply.Reply.{Reply}
 pub use Rattle.desk.specs.jamboree_core.Outcomes.{IsOutcomeIn, IsOutcomeOf, IsReplyOf}
 pub use Rattle.desk.specs.jamboree_core.declared.outcomes.Outcome.{Outcome}
 pub use Rattle.desk.specs.jamboree_core.declared.outcomes.Outcome.TheVariants.{Done}
-pub use Rattle.desk_rules.specs.Asked.{IsShown, IsShownOf, IsToldBy, Shows, ask_refusals, cancel_refusals, found_or_no_tenant, seat_asked_at}
-pub use Rattle.desk_rules.specs.declared.asked.SeatAsked.{SeatAsked}
+pub use Rattle.hall.specs.desk_rules.Asked.{IsShown, IsShownOf, IsToldBy, Shows, ask_refusals, cancel_refusals, found_or_no_tenant, seat_asked_at}
+pub use Rattle.hall.specs.declared.desk_rules.asked.SeatAsked.{SeatAsked}
 pub use Rattle.jamboree_core.proofs.JournalLemmas.{journal-searches}
 pub use Rattle.jamboree_core.proofs.Serving.{tenant-replies}
 pub use Rattle.jamboree_core.specs.Journals.{AreTakenFrom, IsJournalOf, StaysTaken}
@@ -46,7 +46,7 @@ pub use Rattle.othello_board.specs.declared.cells.Cell.{Cell}
 pub use Rattle.othello_eval.specs.Minimax.{best_choice, minimax}
 pub use Rattle.othello_eval.specs.Tables.{IsTable}
 pub use Rattle.othello_eval.specs.othello_moves.Depths.{greatest_depth}
-pub use Rattle.position_text.specs.declared.positions.Side.{Side}
+pub use Rattle.othello_board.specs.declared.position_text.positions.Side.{Side}
 pub use Rattle.sched_laws.specs.Fitted.{origins_of, submits}
 pub use Rattle.sched_rules.proofs.Tenants.{tenant_in-with_outcome, tenant_in-other-with_outcome}
 pub use Rattle.sched_rules.specs.Cores.{CoreState, admit_tests, is_beyond, meets_busy, reservations_in, reserved_by, shared_after, shared_refusal, shared_run}

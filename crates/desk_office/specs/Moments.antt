@@ -16,8 +16,8 @@ use Rattle.desk.specs.hall.jamboree_rules.declared.leaf.LeafAnswer.{LeafAnswer}
 use Rattle.desk.specs.hall.Halls.{HallOf}
 use Rattle.desk.specs.jamboree_core.declared.outcomes.Outcome.{Outcome}
 use Rattle.desk.specs.jamboree_core.Outcomes.{IsOutcomeIn}
-use Rattle.desk_rules.specs.declared.asked.SeatAsked.{SeatAsked}
-use Rattle.desk_rules.specs.Asked.{found_or_no_tenant, seat_asked_at, IsShown, IsToldBy}
+use Rattle.hall.specs.declared.desk_rules.asked.SeatAsked.{SeatAsked}
+use Rattle.hall.specs.desk_rules.Asked.{found_or_no_tenant, seat_asked_at, IsShown, IsToldBy}
 use Rattle.desk.specs.Seats.{SeatOf, seeing}
 use Rattle.desk.specs.Histories.{core_at, lone_tenant, IsSeated, IsLook, IsTrueTo, Saw, Took}
 use Rattle.session.specs.Asks.{KeepsAsks}

@@ -11,7 +11,7 @@ use Rattle.session.specs.declared.standings.Analysis.{Analysis}
 use Rattle.session.specs.declared.standings.Standing.{Standing}
 use Rattle.session.specs.declared.standings.Standing.TheVariants.{Pending as pending, Done as done, Spent as spent, Cancelled as cancelled}
 use Rattle.session.specs.Asks.{Asked}
-use Rattle.desk_rules.specs.declared.asked.SeatAsked.{SeatAsked}
+use Rattle.hall.specs.declared.desk_rules.asked.SeatAsked.{SeatAsked}
 use Rattle.desk.specs.Seats.{SeatOf}
 
 -- what a seat asked, as a session sees it: a list of cells and a depth

@@ -2,7 +2,7 @@
 use Rattle.std.specs.Prelude.{◌≡◌, ◌⊎◌, ℕ, zero, suc, Option, Some, None, is_some}
 use Rattle.sched_rules.specs.Cores.{CoreState}
 use Rattle.sched_rules.specs.Views.{newest_ready_in}
-use Rattle.pool_rules.specs.declared.task.Task.{Task}
+use Rattle.jamboree_rules.specs.declared.pool_rules.task.Task.{Task}
 use Rattle.fair_share.specs.Lines.{place_named}
 use Rattle.fair_share.specs.Shares.{SharesOf, pick_counted, IsPick, IsNobody, tenant_in_place, tenant_seen, served_all}
 

@@ -7,7 +7,7 @@ ghost use Rattle.fair_share.specs.Picks.{charged_to, seen_all, IsFairTask, IsNoT
 use crate::line::PLACES;
 use crate::shares::FairShare;
 use hall::Hall;
-use pool_rules::Task;
+use jamboree_rules::pool_rules::Task;
 use std::alloc::Allocator;
 
 /// Sees of all tenants whether they have a ready frame, for one more pick.

@@ -1,5 +1,5 @@
 -- The steps that entries stand for: how many they are, and one more.
-use Rattle.hall.proofs.Common.{◌≡◌, ℕ, ◌+◌, ◌<◌, false, List, [], ◌∷◌, ◌++◌, length, drop, refl, ap, ◌∙◌, arith, append-nil, if◌then◌else◌, false≢true, StepOf, LeafAnswer, JournalEntry, Long, LongEntry, is_long, long_steps, short_steps, long_step, steps_in, long_count, JournalOf, longer, places_with, longs_with, raise_count, raise_in}
+use Rattle.hall.proofs.Common.{◌≡◌, ℕ, ◌+◌, ◌<◌, false, List, [], ◌∷◌, ◌++◌, length, refl, arith, append-nil, if◌then◌else◌, false≢true, StepOf, LeafAnswer, JournalEntry, Long, LongEntry, is_long, long_steps, short_steps, long_step, steps_in, long_count, JournalOf, longer, places_with, longs_with, raise_count, raise_in}
 use Rattle.hall.proofs.Lists.{further}
 
 abbrev Step : Type 0
@@ -12,7 +12,7 @@ short-one n e short = grind (arith, false≢true)
 -- one entry more
 pub long_count-more : (e : JournalEntry) (es : List JournalEntry) → long_count (es ++ e ∷ []) ≡ long_count es + (if is_long e then 1 else 0)
 long_count-more e [] = omega arith
-long_count-more e (f ∷ es) = (let rest = long_count-more e es in omega (arith, rest))
+long_count-more e (f ∷ es) = grind (arith, long_count-more e es)
 
 -- as many steps as entries
 pub steps_in-length : (n : ℕ) (es : List JournalEntry) (ls : List LongEntry) → long_count es ≡ length ls → length (steps_in n es ls) ≡ length es
@@ -23,7 +23,7 @@ steps_in-length n (e ∷ es) (l ∷ ls) count = grind (arith, steps_in-length n 
 -- as many long steps as long entries
 long_steps-append : (js ks : List Step) → long_steps (js ++ ks) ≡ long_steps js + long_steps ks
 long_steps-append [] ks = omega arith
-long_steps-append (j ∷ js) ks = (let rest = long_steps-append js ks in omega (arith, rest))
+long_steps-append (j ∷ js) ks = grind (arith, long_steps-append js ks)
 
 short-none : (n : ℕ) (e : JournalEntry) → is_long e ≡ false → long_steps (short_steps n e) ≡ 0
 short-none n e short = grind (arith, false≢true)
@@ -39,7 +39,7 @@ steps_in-longs n (e ∷ es) (l ∷ ls) count = grind (arith, steps_in-longs n es
 -- one short entry more
 pub steps_in-short : (n : ℕ) (e : JournalEntry) (es : List JournalEntry) (ls : List LongEntry) → is_long e ≡ false → steps_in n (es ++ e ∷ []) ls ≡ steps_in n es ls ++ short_steps n e
 steps_in-short n e [] ls short = rw short (append-nil (short_steps n e))
-steps_in-short n e (f ∷ es) ls short = grind (arith, steps_in-short n e es (drop 1 ls) short, steps_in-short n e es ls short)
+steps_in-short n e (f ∷ es) ls short = grind (arith, steps_in-short n e es, steps_in-short n e es ls short)
 
 -- one long entry more
 pub steps_in-long : (n : ℕ) (l : LongEntry) (es : List JournalEntry) (ls : List LongEntry) → long_count es ≡ length ls →
@@ -59,7 +59,7 @@ pub record AreAsMany (many few raised : ℕ) (j : JournalOf) : Type 0 where
   pub longs : long_steps j.steps ≡ few
   pub raises : raise_count j.steps ≡ raised
 
-module _ (n p q : ℕ) (es : List JournalEntry) (ls : List LongEntry) (j : JournalOf) (is : seen n p q es ls ≡ j) where
+module _ {n p q : ℕ} (es : List JournalEntry) (ls : List LongEntry) {j : JournalOf} (is : seen n p q es ls ≡ j) where
   -- a step is written as a short entry
   pub written-short : (e : JournalEntry) (new : List JournalEntry) (step : Step) → new ≡ es ++ e ∷ [] → is_long e ≡ false → short_steps j.tenant e ≡ step ∷ [] → seen n p q new ls ≡ further step j
   written-short e new step pushed short one = grind (arith, steps_in-short, further)
@@ -83,6 +83,4 @@ module _ (n p q : ℕ) (es : List JournalEntry) (ls : List LongEntry) (j : Journ
 
       -- a step that raises what is reserved is written as a long one, in the places that it makes
       pub written-raise : (r s : ℕ) → r ≡ places_with (raise_in step) j → s ≡ longs_with (raise_in step) j → seen n r s new more ≡ longer step j
-      written-raise r s places longs =
-          ap (λ (k : JournalOf). record { tenant = k.tenant; places = r; longs = s; steps = k.steps }) written-long
-          ∙ (λ i. record { tenant = j.tenant; places = places i; longs = longs i; steps = j.steps ++ step ∷ [] })
+      written-raise r s places longs = grind (arith, written-long)

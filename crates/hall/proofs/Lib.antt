@@ -1,3 +1,4 @@
+pub mod DeskRules
 mod Common
 pub mod Using
 pub mod Longs

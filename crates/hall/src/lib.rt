@@ -45,6 +45,7 @@
 
 pub use jamboree_core::jamboree;
 
+pub mod desk_rules;
 mod entry;
 mod hall;
 mod journal;

@@ -25,8 +25,8 @@ use jamboree_rules::Leaf;
 use jamboree_rules::leaf_search::INF;
 use jamboree_rules::sched_rules::{Continuation, GivenWords, Stores};
 use othello_board::Board;
+use othello_board::position_text::Position;
 use othello_moves::{DEEPEST, choice_count};
-use position_text::Position;
 
 /// The size of a new frame in words, after which the entries of its choices stand.
 pub(crate) const SIZE: usize = 12;

@@ -6,8 +6,8 @@ ghost use Rattle.jamboree_rules.specs.Places.{root_words as words_of_root, frame
 ghost use Rattle.jamboree_core.specs.Replies.{IsSearch};
 
 use jamboree::{Jamboree, root_words};
+use othello_board::position_text::Position;
 use othello_moves::DEEPEST;
-use position_text::Position;
 use sched_rules::{GivenWords, Step, StepOf};
 
 /// The size of a root, in words.

@@ -1,3 +1,4 @@
+pub mod PoolRules
 mod Common
 pub mod EvalLemmas
 pub mod Searching

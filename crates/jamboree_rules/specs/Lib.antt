@@ -1,3 +1,4 @@
+pub mod pool_rules
 pub use Rattle.sched_rules.specs as sched_rules
 pub use Rattle.leaf_search.specs.othello_eval as othello_eval
 pub use Rattle.leaf_search.specs as leaf_search

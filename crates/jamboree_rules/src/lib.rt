@@ -36,6 +36,7 @@ pub use sched_rules;
 
 pub mod laws;
 mod leaf;
+pub mod pool_rules;
 pub mod rows;
 
 pub use leaf::{Leaf, LeafAnswer};

@@ -1,3 +1,4 @@
+pub mod PositionText
 pub mod CellLemmas
 mod Common
 pub mod PlayLemmas

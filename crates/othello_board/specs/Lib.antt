@@ -1,3 +1,4 @@
+pub mod position_text
 pub mod Rules
 pub mod Words
 pub mod Rows

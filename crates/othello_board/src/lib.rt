@@ -28,6 +28,7 @@
 mod boards;
 mod cells;
 mod directions;
+pub mod position_text;
 mod rays;
 pub mod rows;
 mod runs;

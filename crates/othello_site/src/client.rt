@@ -4,7 +4,7 @@ ghost use Rattle.std.specs.Prelude.{◌≤◌, length};
 use crate::counts::{FULL, HEADER, SILENCE};
 use crate::links::{Incoming, MOST_BYTES, Outgoing, Reading, Received, TalkState};
 use crate::shared::Shared;
-use crate::site_house::SiteHouse;
+use crate::site_environment::SiteEnvironment;
 use crate::telling::{address_text, log_refusal};
 use line_io::{LineFault, TalkEnd};
 use site_book::{Told, Who};
@@ -210,7 +210,7 @@ fn receive<R: Clock + Wait>(
             return;
         }
     };
-    let house = SiteHouse {
+    let environment = SiteEnvironment {
         rt,
         alloc,
         shared,
@@ -226,26 +226,26 @@ fn receive<R: Clock + Wait>(
         asked: 0,
     };
     let Some(desk) = shared.desks.get(hall) else {
-        house.leave();
+        environment.leave();
         return;
     };
     let mut office = SiteOffice::new(
         rt,
         shared.desks.as_slice(),
         desk,
-        house,
+        environment,
         known.who,
         shared.grain,
     );
     let end = serve_connection(rt, source, sink, &mut office);
-    let house = office.close();
-    house.leave();
+    let environment = office.close();
+    environment.leave();
     tell_end(
         rt,
         alloc,
         shared,
-        &house,
-        word_of(end, talk.reading.get(), house.told),
+        &environment,
+        word_of(end, talk.reading.get(), environment.told),
     );
     if talk.reading.get() == Reading::Late && !talk.pace.get().welcomed {
         refuse(rt, alloc, shared, known.address, Some(known.who), SILENCE);
@@ -280,15 +280,15 @@ fn tell_end<R: Clock + Wait>(
     rt: &R,
     alloc: Global,
     shared: &Shared,
-    house: &SiteHouse<'_, R>,
+    environment: &SiteEnvironment<'_, R>,
     end: &str,
 ) {
-    let Some((number, who)) = house.session else {
+    let Some((number, who)) = environment.session else {
         return;
     };
-    let seconds = shared.now(rt).saturating_sub(house.since) / 1_000;
-    let lines = house.talk.lines.get();
-    let hall = house.hall.saturating_add(1);
+    let seconds = shared.now(rt).saturating_sub(environment.since) / 1_000;
+    let lines = environment.talk.lines.get();
+    let hall = environment.hall.saturating_add(1);
     let name = {
         let register = shared.register(rt);
         register.config.directory.name_of(alloc, who)
@@ -296,7 +296,7 @@ fn tell_end<R: Clock + Wait>(
     let Ok(name) = name else {
         return;
     };
-    let Ok(address) = address_text(alloc, house.address) else {
+    let Ok(address) = address_text(alloc, environment.address) else {
         return;
     };
     let line = format!(in alloc;

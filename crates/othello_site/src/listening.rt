@@ -12,7 +12,7 @@ use std::net::{Net, SocketAddr, TcpListener, TcpStream};
 use std::sync::Wait;
 use std::thread::{Builder, Scope, Threads};
 use std::time::Clock;
-use tcp_door::Door;
+use tcp_server::tcp_door::Door;
 
 /// The stack of a session's thread.
 const STACK: usize = 256 << 10;

@@ -33,7 +33,7 @@ mod reloading;
 mod running;
 mod serving;
 mod shared;
-mod site_house;
+mod site_environment;
 mod telling;
 mod visits;
 mod watching;

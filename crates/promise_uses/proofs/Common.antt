@@ -11,7 +11,7 @@ pub use Rattle.desk.specs.Traces.{Known, own}
 pub use Rattle.desk_office.proofs.Histories.{seat-more, steps-more}
 pub use Rattle.desk_office.specs.Answers.{AreAnswered, IsOneTenancy, IsReplyAt, IsTenantOf, NobodyCame, if_there, is_welcome, job_reply, reply_to}
 pub use Rattle.desk_office.specs.Answers.{unless_refused}
-pub use Rattle.desk_rules.specs.declared.asked.SeatAsked.{SeatAsked}
+pub use Rattle.hall.specs.declared.desk_rules.asked.SeatAsked.{SeatAsked}
 pub use Rattle.hall.specs.Halls.{HallOf}
 pub use Rattle.jamboree_core.specs.Replies.{AreReplies, AreSearches, IsReplyTo}
 pub use Rattle.jamboree_core.specs.Searching.{origin_at}
@@ -33,7 +33,7 @@ pub use Rattle.othello_eval.specs.Minimax.{best_choice, minimax}
 pub use Rattle.othello_eval.specs.Tables.{IsTable, Says}
 pub use Rattle.othello_eval.specs.declared.bound.BoundKind.{BoundKind}
 pub use Rattle.othello_eval.specs.declared.bound.BoundKind.TheVariants.{Exact, High, Low}
-pub use Rattle.position_text.specs.declared.positions.Side.{Side}
+pub use Rattle.othello_board.specs.declared.position_text.positions.Side.{Side}
 pub use Rattle.promises.proofs.Answered.{if-ok}
 pub use Rattle.promises.specs.Replies.{SearchStep}
 pub use Rattle.promises.specs.Tenants.{IsForBusyWorker, IsForOwnState, own_steps}

@@ -12,15 +12,15 @@ ghost use Rattle.hall.specs.Halls.{count_of};
 ghost use Rattle.desk.specs.Traces.{own};
 ghost use Rattle.jamboree_core.specs.declared.outcomes.Outcome.{Outcome as OutcomeOf};
 ghost use Rattle.jamboree_core.specs.Outcomes.{IsOutcomeIn};
-ghost use Rattle.desk_rules.specs.declared.asked.SeatAsked.{SeatAsked as SeatAskedOf};
-ghost use Rattle.desk_rules.specs.Asked.{seat_asked_at, IsToldBy, found_or_no_tenant};
+ghost use Rattle.hall.specs.declared.desk_rules.asked.SeatAsked.{SeatAsked as SeatAskedOf};
+ghost use Rattle.hall.specs.desk_rules.Asked.{seat_asked_at, IsToldBy, found_or_no_tenant};
 ghost use Rattle.desk.specs.Histories.{core_at, seat_steps, steps_of, AreTaken};
 ghost use mathlib.Core.List.{IsPrefix};
 ghost use Rattle.promises.specs.Replies.{SearchStep};
 
 use desk::{Badge, Desk, DeskLedger, History, Seat, Trace};
 use hall::{Hall, Jamboree, Outcome, Refusal, Step};
-use position_text::Position;
+use othello_board::position_text::Position;
 use std::alloc::Allocator;
 use std::sync::Wait;
 use std::sync::ledger::Share;

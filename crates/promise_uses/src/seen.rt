@@ -10,7 +10,7 @@ ghost use Rattle.tenant_quota.specs.declared.account.Left.{Left as LeftOf};
 ghost use Rattle.othello_board.specs.declared.boards.Board.{Board};
 ghost use Rattle.othello_board.specs.declared.cells.Cell.{Cell};
 ghost use Rattle.othello_board.specs.Words.{cells};
-ghost use Rattle.position_text.specs.declared.positions.Side.{Side};
+ghost use Rattle.othello_board.specs.declared.position_text.positions.Side.{Side};
 ghost use Rattle.sched_rules.specs.declared.job.Job.TheVariants.{Spent as SpentJob};
 ghost use Rattle.sched_rules.specs.declared.refusal.Refusal.{Refusal};
 ghost use Rattle.sched_rules.specs.declared.refusal.Refusal.TheVariants.{Full};

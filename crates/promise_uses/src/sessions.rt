@@ -4,7 +4,7 @@ ghost use Rattle.std.specs.List.{concat};
 ghost use Rattle.othello_board.specs.declared.cells.Cell.{Cell};
 ghost use Rattle.othello_eval.specs.Minimax.{minimax, best_choice};
 ghost use Rattle.othello_eval.specs.Tables.{IsTable};
-ghost use Rattle.position_text.specs.declared.positions.Side.{Side};
+ghost use Rattle.othello_board.specs.declared.position_text.positions.Side.{Side};
 ghost use Rattle.protocol.specs.Texts.{value_text};
 ghost use Rattle.line_io.specs.Leads.{Leads};
 ghost use Rattle.line_io.specs.Lines.{LineText, Whole};

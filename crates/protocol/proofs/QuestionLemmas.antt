@@ -5,14 +5,14 @@ use Rattle.std.proofs.Math.Nat.{pow-le-pow_right}
 use Rattle.std.proofs.lemmas.Bool.{ne_eqb, eq-eqb}
 use Rattle.othello_board.specs.declared.cells.Cell.{Cell}
 use Rattle.othello_board.specs.Words.{cells}
-use Rattle.position_text.specs.declared.positions.Position.{Position}
-use Rattle.position_text.specs.declared.positions.Side.{Side}
-use Rattle.position_text.specs.declared.marks.Mark.{Mark}
-use Rattle.position_text.specs.declared.faults.TextFault.{TextFault}
-use Rattle.position_text.specs.declared.faults.TextFault.TheVariants.{Length, BadCell, BadSide}
-use Rattle.position_text.specs.Spelling.{Spells, IsBadCell, IsBadSide, mark_of_cell}
-use Rattle.position_text.specs.Readings.{marks_of, mover_of}
-use Rattle.position_text.proofs.ReadingLemmas.{marks_of-spelled, mover_of-spelled, seen_of-spelled, marks_of-bad_cell, marks_of-bad_side, mover_of-bad_side}
+use Rattle.othello_board.specs.declared.position_text.positions.Position.{Position}
+use Rattle.othello_board.specs.declared.position_text.positions.Side.{Side}
+use Rattle.othello_board.specs.declared.position_text.marks.Mark.{Mark}
+use Rattle.othello_board.specs.declared.position_text.faults.TextFault.{TextFault}
+use Rattle.othello_board.specs.declared.position_text.faults.TextFault.TheVariants.{Length, BadCell, BadSide}
+use Rattle.othello_board.specs.position_text.Spelling.{Spells, IsBadCell, IsBadSide, mark_of_cell}
+use Rattle.othello_board.specs.position_text.Readings.{marks_of, mover_of}
+use Rattle.othello_board.proofs.PositionText.ReadingLemmas.{marks_of-spelled, mover_of-spelled, seen_of-spelled, marks_of-bad_cell, marks_of-bad_side, mover_of-bad_side}
 use Rattle.protocol.specs.declared.faults.ProtocolFault.{ProtocolFault}
 use Rattle.protocol.specs.declared.faults.ProtocolFault.TheVariants.{PositionLength, PositionSide}
 use Rattle.protocol.specs.Faults.{position_fault}

@@ -1,7 +1,7 @@
 -- Meaning: the faults of lines, and their numbers.
 use Rattle.std.specs.Prelude.{ℕ}
-use Rattle.position_text.specs.declared.faults.TextFault.{TextFault}
-use Rattle.position_text.specs.declared.faults.TextFault.TheVariants.{Length, BadCell, BadSide}
+use Rattle.othello_board.specs.declared.position_text.faults.TextFault.{TextFault}
+use Rattle.othello_board.specs.declared.position_text.faults.TextFault.TheVariants.{Length, BadCell, BadSide}
 use Rattle.protocol.specs.declared.faults.ProtocolFault.{ProtocolFault}
 use Rattle.protocol.specs.declared.faults.ProtocolFault.TheVariants.{NoCommand, LongLine, NoNumber, PositionLength, PositionCell, PositionSide, TooDeep, NoHello, HelloAgain}
 

@@ -3,9 +3,9 @@
 use Rattle.std.specs.Prelude.{ℕ, ◌==◌, if◌then◌else◌, nat_le, List, map, length, Option, Some, None, Result, Ok, Err}
 use Rattle.othello_board.specs.declared.cells.Cell.{Cell}
 use Rattle.othello_moves.specs.Depths.{greatest_depth}
-use Rattle.position_text.specs.declared.positions.Side.{Side}
-use Rattle.position_text.specs.declared.marks.Mark.{Mark}
-use Rattle.position_text.specs.Readings.{marks_of, mover_of, seen_by}
+use Rattle.othello_board.specs.declared.position_text.positions.Side.{Side}
+use Rattle.othello_board.specs.declared.position_text.marks.Mark.{Mark}
+use Rattle.othello_board.specs.position_text.Readings.{marks_of, mover_of, seen_by}
 use Rattle.protocol.specs.declared.faults.ProtocolFault.{ProtocolFault}
 use Rattle.protocol.specs.declared.faults.ProtocolFault.TheVariants.{NoNumber, PositionLength, PositionCell, PositionSide, TooDeep}
 use Rattle.protocol.specs.Words.{word_number}

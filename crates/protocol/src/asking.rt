@@ -6,8 +6,8 @@ ghost use Rattle.protocol.specs.Views.{read_as};
 use crate::faults::ProtocolFault;
 use crate::questions::Question;
 use crate::words::word_number;
+use othello_board::position_text::read;
 use othello_moves::DEEPEST;
-use position_text::read;
 
 /// The question about the position in `text`, to `depth` plies, or the first fault in it: length, cell, side (24 to 26).
 fn position_question(depth: u8, text: &[u8]) -> Result<Question, ProtocolFault>

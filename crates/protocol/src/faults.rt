@@ -2,7 +2,7 @@
 ghost use Rattle.std.specs.Prelude.{◌≡◌};
 ghost use Rattle.protocol.specs.Faults.{fault_number, position_fault};
 
-use position_text::TextFault;
+use othello_board::position_text::TextFault;
 use thiserror::Error;
 
 /// Why a line of `solve` or of a session is no valid request: its first fault, in the order of `docs/PROTOCOL.md`.

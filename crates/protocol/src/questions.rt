@@ -2,7 +2,7 @@
 ghost use Rattle.std.specs.Prelude.{◌≤◌};
 ghost use Rattle.othello_moves.specs.Depths.{greatest_depth};
 
-use position_text::Position;
+use othello_board::position_text::Position;
 
 /// A position, and the depth to which its value is asked for.
 #[derive(Clone, Copy, Debug, PartialEq, Eq)]

@@ -5,7 +5,7 @@ mod search;
 
 use linked_list_allocator::LocalHeap;
 use othello_board::Board;
-use position_text::{Position, Side};
+use othello_board::position_text::{Position, Side};
 use std::alloc::Global;
 use std::process::Abort;
 use tenant_quota::Left;

@@ -7,8 +7,9 @@
 //! once more with them, and beside `thread_tests`, so that both are proved at once.
 //!
 //! Of a site's session, what a line asks for and what comes of it is proved in `site_office`, and what lies under the lock in `site_desk`.
-//! No contract says that a session which is told to end makes room for the one that waits, that who waits gives up in time, what a house
-//! is told, or which session is woken. Whole sessions are played over a desk without workers, in a house whose clock goes on by a step at each look.
+//! No contract says that a session which is told to end makes room for the one that waits, that who waits gives up in time, what an
+//! environment is told, or which session is woken. Whole sessions are played over a desk without workers, in an environment whose clock
+//! goes on by a step at each look.
 //!
 //! ```text
 //! // a server of two sessions and two workers, and clients that are told what they should be told

@@ -32,6 +32,6 @@ pub use Rattle.session.specs.declared.faults.End.TheVariants.{Bye, EndOfInput}
 pub use Rattle.session.specs.declared.faults.SessionFault.{SessionFault}
 pub use Rattle.session.specs.declared.faults.SessionFault.TheVariants.{Read, Write}
 pub use Rattle.session.specs.declared.office.Office.{Ghosts}
-pub use Rattle.session.specs.declared.serving.Clerk.{Clerk}
+pub use Rattle.session.specs.declared.serving.Handler.{Handler}
 pub use Rattle.session.specs.declared.standings.Standing.{Standing}
 pub use Rattle.session.specs.declared.standings.Standing.TheVariants.{Done, Pending}

@@ -1,7 +1,7 @@
 -- Meaning: what a session asks of its office, and what the office replies.
 use Rattle.std.specs.Prelude.{ℕ, List, Result, Ok, Err}
 use Rattle.othello_board.specs.declared.cells.Cell.{Cell}
-use Rattle.position_text.specs.declared.positions.Side.{Side}
+use Rattle.othello_board.specs.declared.position_text.positions.Side.{Side}
 use Rattle.tenant_quota.specs.Quota.{Quota}
 use Rattle.tenant_quota.specs.declared.account.Left.{Left}
 use Rattle.sched_rules.specs.declared.refusal.Refusal.{Refusal}

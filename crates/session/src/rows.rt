@@ -8,7 +8,7 @@ ghost use Rattle.othello_eval.specs.declared.bound.BoundKind.TheVariants.{Low, H
 ghost use Rattle.othello_eval.specs.Tables.{IsTable};
 ghost use Rattle.othello_eval.specs.Rows.{entry, equal_moves, corner_and_edge, to_pass};
 ghost use Rattle.line_io.specs.Lines.{Whole, TooLong};
-ghost use Rattle.position_text.specs.declared.positions.Side.TheVariants.{Black};
+ghost use Rattle.othello_board.specs.declared.position_text.positions.Side.TheVariants.{Black};
 ghost use Rattle.session.specs.declared.standings.Analysis.{Analysis};
 ghost use Rattle.session.specs.declared.standings.Standing.TheVariants.{Pending, Done, Spent, Cancelled};
 ghost use Rattle.session.specs.Calls.{Hello, Reserve, Ask, Get, Wait, Cancel, AskQuota, AskLive, Leave, Welcome, Reserved, Job, Told, Rest, Alive, Gone, Refused};

@@ -14,22 +14,22 @@ use std::sync::Wait;
 
 /// Answers the lines of one session, and knows whether its tenant is there. Its text is the last answer, over which the
 /// next one is written.
-struct Clerk<'a, O: Office> {
+struct Handler<'a, O: Office> {
     office: &'a mut O,
     seated: bool,
     text: SessionText,
     ghost ready: { O.ready ≡ true },
 }
 
-impl<'a, O: Office> Clerk<'a, O> {
-    /// A clerk that has no tenant and hasn't answered yet.
-    fn new(office: &'a mut O) -> Clerk<'a, O>
+impl<'a, O: Office> Handler<'a, O> {
+    /// A handler that has no tenant and hasn't answered yet.
+    fn new(office: &'a mut O) -> Handler<'a, O>
         requires { O.ready ≡ true }
         ensures same_office { result.office.ghost_name ≡ office.entry.ghost_name }
         ensures office { result.office.now ≡ office.old }
         ensures seated { result.seated ≡ false }
     {
-        Clerk {
+        Handler {
             office,
             seated: false,
             text: SessionText::new(),
@@ -37,11 +37,11 @@ impl<'a, O: Office> Clerk<'a, O> {
     }
 }
 
-impl<O: Office> LineAnswerer for Clerk<'_, O> {
+impl<O: Office> LineAnswerer for Handler<'_, O> {
     ghost answers = { λ s line text t. (t.office.ghost_name ≡ s.office.ghost_name)
         × Turned O.does (request s.seated line) s.office.now s.seated text t.office.now t.seated };
 
-    ghost kept = { λ clerk. clerk.text.items };
+    ghost kept = { λ handler. handler.text.items };
 
     /// Answers a line, over the last answer, and ends the answer by LF.
     fn answer(&mut self, line: Line<'_>) {
@@ -55,7 +55,7 @@ impl<O: Office> LineAnswerer for Clerk<'_, O> {
     }
 }
 
-impl<O: Office> Ends for Clerk<'_, O> {
+impl<O: Office> Ends for Handler<'_, O> {
     ghost ends = { is_bye };
 
     /// Whether a line ends the session: it is just BYE.
@@ -98,13 +98,13 @@ pub fn serve_lines<S: Source, K: Sink, O: Office, R: Wait>(
     requires { O.ready ≡ true }
     ensures { Session S.gives K.takes O.does source.old sink.old office.old source.new sink.new office.new result }
 {
-    let mut clerk = Clerk::new(office);
-    let talk = talk_lines(rt, source, sink, &mut clerk);
-    let Clerk {
+    let mut handler = Handler::new(office);
+    let talk = talk_lines(rt, source, sink, &mut handler);
+    let Handler {
         office,
         seated,
         text: _text,
-    } = clerk;
+    } = handler;
     leave_if_seated(office, seated);
     session_end(talk)
 }

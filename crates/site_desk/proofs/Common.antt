@@ -5,14 +5,14 @@ pub use Rattle.std.proofs.lemmas.Bool.{and_parts, cases_Bool, eq-eqb, eqb-true, 
 pub use Rattle.std.proofs.lemmas.List.Sums.{sum_by-cons}
 pub use Rattle.std.specs.Option.{is_some}
 pub use Rattle.desk.specs.Counts.{IsNextReady}
-pub use Rattle.desk_rules.proofs.Refused.{ask-refused}
-pub use Rattle.desk_rules.specs.Asked.{ask_refusals}
+pub use Rattle.hall.proofs.DeskRules.Refused.{ask-refused}
+pub use Rattle.hall.specs.desk_rules.Asked.{ask_refusals}
 pub use Rattle.hall.specs.Halls.{HallOf, IsDecided}
 pub use Rattle.hall.specs.jamboree_rules.Procedure.{jamboree}
 pub use Rattle.hall.specs.jamboree_rules.declared.leaf.Leaf.{Leaf}
 pub use Rattle.hall.specs.jamboree_rules.declared.leaf.LeafAnswer.{LeafAnswer}
 pub use Rattle.numbered_list.specs.Places.{AreAbove, AreRising}
-pub use Rattle.pool_rules.specs.declared.task.Task.{Task}
+pub use Rattle.jamboree_rules.specs.declared.pool_rules.task.Task.{Task}
 pub use Rattle.sched_laws.proofs.Shaped.{by-kinds, unless-passed}
 pub use Rattle.sched_rules.proofs.Isolation.{IsTaken, shared-after-taken, step-taken}
 pub use Rattle.sched_rules.proofs.Tenants.{tenant_in-new}

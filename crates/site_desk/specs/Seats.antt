@@ -2,7 +2,7 @@
 use Rattle.std.specs.Prelude.{◌≡◌, ◌≢◌, ℕ, List, [], ◌∷◌, ◌++◌, length, Result, Ok, Err}
 use Rattle.sched_rules.specs.declared.refusal.Refusal.{Refusal}
 use Rattle.sched_rules.specs.declared.refusal.Refusal.TheVariants.{NoJobsLeft}
-use Rattle.desk_rules.specs.declared.asked.SeatAsked.{SeatAsked}
+use Rattle.hall.specs.declared.desk_rules.asked.SeatAsked.{SeatAsked}
 use Rattle.site_book.specs.declared.who.Who.{Who}
 
 -- a seat: whose it is, its number, which is its tenant's, and what it asked, from job 1 on

@@ -7,9 +7,9 @@ use Rattle.sched_rules.specs.declared.step.DidOf.{DidOf}
 use Rattle.desk.specs.Counts.{is_awaited, IsNextReady}
 use Rattle.site_desk.specs.Booked.{BookedOf, IsAdmission, IsEnd}
 use Rattle.site_desk.specs.declared.turned.Turned.TheVariants.{ByBook, OldTenant, OutOfMemory}
-use Rattle.desk_rules.specs.hall.Halls.{IsDecided}
-use Rattle.desk_rules.specs.hall.jamboree_rules.declared.leaf.Leaf.{Leaf}
-use Rattle.desk_rules.specs.hall.jamboree_rules.declared.leaf.LeafAnswer.{LeafAnswer}
+use Rattle.hall.specs.Halls.{IsDecided}
+use Rattle.hall.specs.jamboree_rules.declared.leaf.Leaf.{Leaf}
+use Rattle.hall.specs.jamboree_rules.declared.leaf.LeafAnswer.{LeafAnswer}
 use Rattle.site_book.specs.declared.held.Grant.{Grant}
 use Rattle.site_book.specs.declared.held.Overrun.{Overrun}
 use Rattle.site_book.specs.declared.who.Who.{Who}
@@ -26,7 +26,7 @@ use Rattle.site_book.specs.Comings.{coming}
 use Rattle.site_book.specs.Rolls.{marked_all, names_present, newcomer, without_present}
 use Rattle.fair_share.specs.Shares.{SharesOf, tenant_entered}
 use Rattle.fair_share.specs.Picks.{seen_all, IsFairTask, IsNoTask}
-use Rattle.pool_rules.specs.declared.task.Task.{Task}
+use Rattle.jamboree_rules.specs.declared.pool_rules.task.Task.{Task}
 use Rattle.site_desk.specs.Sharing.{share_customer, share_network, unshared}
 use Rattle.site_desk.specs.declared.entry.SeatOutcome.{SeatOutcome}
 use Rattle.site_desk.specs.declared.entry.SeatOutcome.TheVariants.{Seated, Later, Turned}

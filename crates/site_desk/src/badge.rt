@@ -2,7 +2,7 @@
 ghost use Rattle.std.specs.Prelude.{◌≡◌, ◌+◌, ◌<◌, ◌^◌};
 
 use desk::WorkerBadge;
-use desk_rules::Backoff;
+use hall::desk_rules::Backoff;
 use std::marker::Model;
 
 /// What a worker offers steps with. Contracts see its share: how many of the steps offered with it, and with the badges that were joined

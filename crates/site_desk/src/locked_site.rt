@@ -5,14 +5,14 @@ ghost use Rattle.sched_rules.specs.declared.step.StepOf.TheVariants.{Submit, Can
 ghost use Rattle.sched_rules.specs.declared.step.DidOf.{DidOf};
 ghost use Rattle.sched_rules.specs.Views.{left_in_core, live_of, job_of};
 ghost use Rattle.site_desk.specs.Booked.{IsRaise, is_within_seat};
-ghost use Rattle.desk_rules.specs.hall.Halls.{count_of};
-ghost use Rattle.desk_rules.specs.hall.jamboree_rules.declared.leaf.Leaf.{Leaf as LeafOf};
-ghost use Rattle.desk_rules.specs.hall.jamboree_rules.Places.{root_words, frame_size};
-ghost use Rattle.desk_rules.specs.hall.jamboree_rules.othello_eval.othello_moves.declared.choices.TheConstants.{DEEPEST};
-ghost use Rattle.desk_rules.specs.jamboree_core.Replies.{IsSearch};
-ghost use Rattle.desk_rules.specs.jamboree_core.declared.outcomes.Outcome.{Outcome as OutcomeOf};
-ghost use Rattle.desk_rules.specs.jamboree_core.Outcomes.{IsOutcomeIn};
-ghost use Rattle.desk_rules.specs.Asked.{ask_refusals, cancel_refusals, seat_asked_at, IsShown, IsToldBy, found_or_no_tenant};
+ghost use Rattle.hall.specs.Halls.{count_of};
+ghost use Rattle.hall.specs.jamboree_rules.declared.leaf.Leaf.{Leaf as LeafOf};
+ghost use Rattle.hall.specs.jamboree_rules.Places.{root_words, frame_size};
+ghost use Rattle.hall.specs.jamboree_rules.othello_eval.othello_moves.declared.choices.TheConstants.{DEEPEST};
+ghost use Rattle.hall.specs.jamboree_core.Replies.{IsSearch};
+ghost use Rattle.hall.specs.jamboree_core.declared.outcomes.Outcome.{Outcome as OutcomeOf};
+ghost use Rattle.hall.specs.jamboree_core.Outcomes.{IsOutcomeIn};
+ghost use Rattle.hall.specs.desk_rules.Asked.{ask_refusals, cancel_refusals, seat_asked_at, IsShown, IsToldBy, found_or_no_tenant};
 ghost use Rattle.site_book.specs.Books.{taken, why_not_replan, Replans};
 ghost use Rattle.site_book.specs.Comings.{told_by};
 ghost use Rattle.site_book.specs.declared.coming.Coming.TheVariants.{Enters};
@@ -31,17 +31,17 @@ use crate::turned::Turned;
 use arrayvec::ArrayVec;
 use desk::UnderLock;
 use desk::reading::{has_ready, is_awaited, left_of, live_of, next_ready, told_of};
-use desk_rules::{JOBS, SeatAsked, seat_asked_at};
 use fair_share::{FairShare, charge, fair_task};
+use hall::desk_rules::{JOBS, SeatAsked, seat_asked_at};
 use hall::{Jamboree, Outcome, Refusal, Step, StepAnswer, StepOf, submit};
-use position_text::Position;
+use jamboree_rules::pool_rules::Task;
+use othello_board::position_text::Position;
 use site_book::{
     BookRefusal, Comer, Coming, CustomerBook, MOST, Overrun, Plan, Present, Roll, SessionMark,
     Told, Who, Whom, what_comes_of,
 };
 use std::alloc::{Allocator, Global};
 use std::marker::Model;
-use task_deques::pool_rules::Task;
 use tenant_quota::{Left, Reserve};
 
 /// What lies under a site's lock.

@@ -2,7 +2,7 @@
 ghost use Rattle.std.specs.Prelude.{◌≡◌, ◌≤◌, [], length};
 
 use arrayvec::ArrayVec;
-use desk_rules::{JOBS, SeatAsked};
+use hall::desk_rules::{JOBS, SeatAsked};
 use site_book::Who;
 use std::marker::Model;
 

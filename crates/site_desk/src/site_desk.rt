@@ -2,8 +2,8 @@
 ghost use Rattle.std.specs.Prelude.{◌≡◌, ◌≢◌, ◌≤◌, [], Err, None, Contains, IfErr};
 ghost use Rattle.sched_rules.specs.declared.refusal.Refusal.TheVariants.{NoJob, NoTenant};
 ghost use Rattle.site_desk.specs.declared.turned.Turned.TheVariants.{OldTenant as NumbersOut};
-ghost use Rattle.desk_rules.specs.hall.jamboree_rules.othello_eval.othello_moves.declared.choices.TheConstants.{DEEPEST};
-ghost use Rattle.desk_rules.specs.Asked.{ask_refusals, cancel_refusals, seat_asked_at, IsShown};
+ghost use Rattle.hall.specs.jamboree_rules.othello_eval.othello_moves.declared.choices.TheConstants.{DEEPEST};
+ghost use Rattle.hall.specs.desk_rules.Asked.{ask_refusals, cancel_refusals, seat_asked_at, IsShown};
 ghost use Rattle.fair_share.specs.Lines.{empty_line};
 ghost use Rattle.site_desk.specs.Entries.{IsEntry};
 ghost use Rattle.site_desk.specs.Seats.{IsSiteAsk};
@@ -18,7 +18,8 @@ use arrayvec::ArrayVec;
 use desk::{DeskGuard, DeskLock};
 use fair_share::FairShare;
 use hall::{Outcome, Refusal};
-use position_text::Position;
+use jamboree_rules::pool_rules::{Holding, Task};
+use othello_board::position_text::Position;
 use sched_rules::Worker;
 use site_book::{
     Amount, BookRefusal, Comer, Group, MOST, Overrun, Plan, Present, SessionMark, Told, Whom,
@@ -27,7 +28,6 @@ use std::alloc::{Allocator, Global};
 use std::sync::{Condvar, Wait};
 use std::time::Duration;
 use steal_pool::{Gate, Tasks, Workplace, steps};
-use task_deques::pool_rules::{Holding, Task};
 use tenant_quota::{Left, Reserve};
 
 /// A hall with its book and its roll under a lock, and the conditions that workers, seats and comers wait for. `A` is the hall's

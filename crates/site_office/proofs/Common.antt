@@ -7,9 +7,9 @@ pub use Rattle.std.specs.Prelude.{Contains, IfErr}
 pub use Rattle.std.specs.Str.{bytes_eq}
 pub use Rattle.desk_office.proofs.SeatLemmas.{asked_at-map, refused-by, same-asks, says, told-of, told-to, unasked}
 pub use Rattle.desk_office.specs.Offices.{ask_of, told_answer}
-pub use Rattle.desk_rules.specs.Asked.{IsShown, cancel_refusals, seat_asked_at}
-pub use Rattle.desk_rules.specs.declared.asked.SeatAsked.{SeatAsked}
-pub use Rattle.desk_rules.specs.jamboree_core.declared.outcomes.Outcome.{Outcome}
+pub use Rattle.hall.specs.desk_rules.Asked.{IsShown, cancel_refusals, seat_asked_at}
+pub use Rattle.hall.specs.declared.desk_rules.asked.SeatAsked.{SeatAsked}
+pub use Rattle.hall.specs.jamboree_core.declared.outcomes.Outcome.{Outcome}
 pub use Rattle.line_io.specs.Leads.{Answers}
 pub use Rattle.line_io.specs.Lines.{LineText}
 pub use Rattle.protocol.specs.Words.{split_at_space}
@@ -29,7 +29,7 @@ pub use Rattle.site_office.specs.Lines.{Greets, Informs, Pings, Plain, Raises, S
 pub use Rattle.site_office.specs.Offices.{asks_of_seat}
 pub use Rattle.site_office.specs.Tokens.{is_token, last_word, token_after, token_by, token_of, word_after, word_after_two}
 pub use Rattle.site_office.specs.Turns.{IsGreeted, IsRaised, IsRefused, IsWelcomed, SiteTurned}
-pub use Rattle.site_office.specs.declared.clerk.SiteClerk.{SiteClerk}
-pub use Rattle.site_office.specs.declared.reception.Greeted.{Greeted}
-pub use Rattle.site_office.specs.declared.reception.Greeted.TheVariants.{Crowded, Known, Unknown}
-pub use Rattle.site_office.specs.declared.reception.Info.{Info}
+pub use Rattle.site_office.specs.declared.handler.SiteHandler.{SiteHandler}
+pub use Rattle.site_office.specs.declared.access.Greeted.{Greeted}
+pub use Rattle.site_office.specs.declared.access.Greeted.TheVariants.{Crowded, Known, Unknown}
+pub use Rattle.site_office.specs.declared.access.Info.{Info}

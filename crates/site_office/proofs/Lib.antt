@@ -1,5 +1,5 @@
 mod Common
 mod TokenLemmas
 mod ChainLemmas
-mod ClerkLemmas
+mod HandlerLemmas
 pub mod SeatLemmas

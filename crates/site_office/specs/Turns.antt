@@ -1,13 +1,13 @@
--- Meaning: what comes of one line of a site's session: what is asked of its office and of its reception, and the text of the answer.
+-- Meaning: what comes of one line of a site's session: what is asked of its office and of its access control, and the text of the answer.
 use Rattle.std.specs.Prelude.{◌≡◌, ℕ, List, ◌++◌, Bool, true, false, Option, codes, decimal}
 use Rattle.protocol.specs.Texts.{error_text}
 use Rattle.session.specs.Calls.{Call, Hello, Reserve, OfficeReply}
 use Rattle.session.specs.Requests.{Makes}
 use Rattle.session.specs.Sessions.{Turned}
 use Rattle.tenant_quota.specs.Quota.{Quota}
-use Rattle.site_office.specs.declared.reception.Greeted.{Greeted}
-use Rattle.site_office.specs.declared.reception.Greeted.TheVariants.{Known, Unknown, Crowded}
-use Rattle.site_office.specs.declared.reception.Info.{Info}
+use Rattle.site_office.specs.declared.access.Greeted.{Greeted}
+use Rattle.site_office.specs.declared.access.Greeted.TheVariants.{Known, Unknown, Crowded}
+use Rattle.site_office.specs.declared.access.Info.{Info}
 use Rattle.site_office.specs.Lines.{SiteRequest, Greets, Raises, Informs, Pings, Plain}
 
 -- a number, and the space before it

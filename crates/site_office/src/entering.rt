@@ -2,7 +2,7 @@
 ghost use Rattle.std.specs.Prelude.{◌≡◌};
 ghost use Rattle.site_office.specs.Refusing.{comer_refusal, raise_refusal};
 
-use crate::house::Cause;
+use crate::environment::Cause;
 use hall::Refusal;
 use site_book::BookRefusal;
 use site_desk::Turned;

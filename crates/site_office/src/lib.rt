@@ -3,18 +3,19 @@
 //! A site's session is one of `session`, whose lines have four things more (`specs/Lines.antt`). HELLO may bear a token as its third word
 //! after HELLO, which says whose session it is to be. INFO tells the customer what it may have and has. PING is answered PONG, also before
 //! HELLO, by this thread alone: no lock is taken. And lines that ask for a reservation are paid for by a rate. [`take_site_turn`] answers
-//! one line: who says HELLO, the rate and INFO are asked of a [`Reception`], all else of the session's office, by the session's own code.
-//! So a line is read once, by one grammar.
+//! one line: who says HELLO, the rate and INFO are asked of an [`AccessControl`], all else of the session's office, by the session's own
+//! code. So a line is read once, by one grammar.
 //!
-//! A [`SiteOffice`] is what a [`SiteClerk`] asks for a connection (`session::Office` and [`Reception`]). It has the desk by reference, the
-//! seat of its session once HELLO was welcomed, whose the next session is to be, and a [`House`]: the clock, the keys, the rates, and who
-//! can shut another's connection. Whoever is told that there is room once others have left waits for one of them, 2 seconds at most.
+//! A [`SiteOffice`] is what a [`SiteHandler`] asks for a connection (`session::Office` and [`AccessControl`]). It has the desk by
+//! reference, the seat of its session once HELLO was welcomed, whose the next session is to be, and an [`Environment`]: the clock, the
+//! keys, the rates, and who can shut another's connection. Whoever is told that there is room once others have left waits for one of them,
+//! 2 seconds at most.
 //!
-//! What stands for what: a [`Reception`] is a state with relations of its own, as an `Office` is; what comes of a line is `SiteTurned` of
-//! `specs/Turns.antt`. A [`SiteClerk`] is an office with its reception, whether its tenant is there, and the last answer. A [`SiteOffice`]
-//! is the list of what its tenant asked for (`asks_of` of `specs/Offices.antt`), as at any desk: each call keeps that list (`KeepsAsks`),
-//! so a job is shown as done only with the minimax value, the best choice and a table of what stands under its number. Its invariant is
-//! that the seat is that of the customer who was greeted.
+//! What stands for what: an [`AccessControl`] is a state with relations of its own, as an `Office` is; what comes of a line is `SiteTurned`
+//! of `specs/Turns.antt`. A [`SiteHandler`] is an office with its access control, whether its tenant is there, and the last answer. A
+//! [`SiteOffice`] is the list of what its tenant asked for (`asks_of` of `specs/Offices.antt`), as at any desk: each call keeps that list
+//! (`KeepsAsks`), so a job is shown as done only with the minimax value, the best choice and a table of what stands under its number. Its
+//! invariant is that the seat is that of the customer who was greeted.
 //!
 //! [`serve_connection`] serves a session of bytes in and bytes out. Nothing in it knows a socket, so rows and tests play whole sessions
 //! with a clock that they give.
@@ -38,28 +39,28 @@
 //! INFO                  INFO 4 16384 1048576 4 8 1.0.0
 //! PING                  PONG
 //!
-//! let mut office = SiteOffice::new(rt, &desk, house, own, 4);
+//! let mut office = SiteOffice::new(rt, &desk, environment, own, 4);
 //! serve_connection(rt, &mut source, &mut sink, &mut office)?;
 //! ```
 #![tactic(auto)]
 
-mod clerk;
+mod access;
 mod entering;
-mod house;
+mod environment;
+mod handler;
 mod laws;
 mod office;
-mod reception;
 mod requests;
 pub mod rows;
 mod serving;
 mod tokens;
 mod turns;
 
-pub use clerk::{SiteClerk, serve_site};
-pub use house::{Cause, House, Met, Note};
+pub use access::{AccessControl, Greeted, Info};
+pub use environment::{Cause, Environment, Identity, Note};
+pub use handler::{SiteHandler, serve_site};
 pub use laws::nobody_stays;
 pub use office::SiteOffice;
-pub use reception::{Greeted, Info, Reception};
 pub use requests::{SiteRequest, read_site_request};
 pub use serving::serve_connection;
 pub use tokens::{token_of, without_token};

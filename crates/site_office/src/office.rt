@@ -6,9 +6,9 @@ ghost use Rattle.session.specs.Calls.{Get, Wait as to_wait, Cancel, Told, Ended,
 ghost use Rattle.site_office.specs.Offices.{asks_of_seat, owner_of};
 ghost use Rattle.site_office.specs.Refusing.{comer_refusal, comer_refusals};
 
+use crate::access::{AccessControl, Greeted, Info};
 use crate::entering::{cause_of, comer_refusal, raise_refusal};
-use crate::house::{Cause, House, Met, Note};
-use crate::reception::{Greeted, Info, Reception};
+use crate::environment::{Cause, Environment, Identity, Note};
 use desk_office::{told_answer, told_live};
 use hall::Refusal;
 use session::{Live, Office, Question, Standing};
@@ -30,13 +30,13 @@ const BETWEEN_NOTES: u64 = 1_000;
 
 /// The office of one connection at a site's desk. It has a seat from a HELLO that was welcomed until the tenant leaves; without a seat all
 /// calls but `hello` and `leave` are refused.
-pub struct SiteOffice<'a, H: House, R: Wait + Clock, A: Allocator = Global> {
+pub struct SiteOffice<'a, H: Environment, R: Wait + Clock, A: Allocator = Global> {
     rt: &'a R,
     /// The desks of all halls.
     desks: &'a [SiteDesk<A>],
     /// The desk of the session, or of the next.
     desk: &'a SiteDesk<A>,
-    house: H,
+    environment: H,
     /// Whose the next session is to be; the seat's customer where one is there.
     who: Who,
     /// Whose the connection is.
@@ -50,7 +50,7 @@ pub struct SiteOffice<'a, H: House, R: Wait + Clock, A: Allocator = Global> {
     ghost seated: { owner_of who seat ≡ who },
 }
 
-impl<'a, H: House, R: Wait + Clock, A: Allocator + Clone> SiteOffice<'a, H, R, A> {
+impl<'a, H: Environment, R: Wait + Clock, A: Allocator + Clone> SiteOffice<'a, H, R, A> {
     ghost use Rattle.std.specs.Prelude.{None};
 
     /// The office of a connection that is this customer's, at one of these desks, where no tenant is there.
@@ -58,7 +58,7 @@ impl<'a, H: House, R: Wait + Clock, A: Allocator + Clone> SiteOffice<'a, H, R, A
         rt: &'a R,
         desks: &'a [SiteDesk<A>],
         desk: &'a SiteDesk<A>,
-        house: H,
+        environment: H,
         own: Who,
         grain: u8,
     ) -> SiteOffice<'a, H, R, A>
@@ -69,7 +69,7 @@ impl<'a, H: House, R: Wait + Clock, A: Allocator + Clone> SiteOffice<'a, H, R, A
             rt,
             desks,
             desk,
-            house,
+            environment,
             who: own,
             own,
             seat: None,
@@ -78,22 +78,22 @@ impl<'a, H: House, R: Wait + Clock, A: Allocator + Clone> SiteOffice<'a, H, R, A
         }
     }
 
-    /// Ends the office, and gives the house back. Where a tenant is still there its seat is dropped, and the tenant doesn't leave.
+    /// Ends the office, and gives the environment back. Where a tenant is still there its seat is dropped, and the tenant doesn't leave.
     pub fn close(self) -> H
-        ensures { result ≡ self.entry.house }
+        ensures { result ≡ self.entry.environment }
     {
         let SiteOffice {
             rt: _,
             desks: _,
             desk: _,
-            house,
+            environment,
             who: _,
             own: _,
             seat: _seat,
             noted: _,
             grain: _,
         } = self;
-        house
+        environment
     }
 
     /// A seat for a session of the customer, for which it waits while others are to leave.
@@ -103,14 +103,14 @@ impl<'a, H: House, R: Wait + Clock, A: Allocator + Clone> SiteOffice<'a, H, R, A
         ensures same_seat { self.new.seat ≡ self.old.seat }
         ensures same_who { self.new.who ≡ self.old.who }
     {
-        let start = self.house.now();
+        let start = self.environment.now();
         for _ in 0..MOST_TRIES {
-            let now = self.house.now();
+            let now = self.environment.now();
             let comer = Comer {
                 who: self.who,
                 ask: reserve,
                 at: now,
-                most: self.house.guest_idle(),
+                most: self.environment.guest_idle(),
             };
             match self.desk.come(self.rt, &comer) {
                 SeatOutcome::Seated(seat) => return Ok(seat),
@@ -136,9 +136,9 @@ impl<'a, H: House, R: Wait + Clock, A: Allocator + Clone> SiteOffice<'a, H, R, A
         ensures same_who { self.new.who ≡ self.old.who }
     {
         if let Some(session) = ending {
-            self.house.note(Note::Tells(session));
+            self.environment.note(Note::Tells(session));
         }
-        let past = self.house.now().saturating_sub(start);
+        let past = self.environment.now().saturating_sub(start);
         if past >= PATIENCE {
             return false;
         }
@@ -163,7 +163,7 @@ impl<'a, H: House, R: Wait + Clock, A: Allocator + Clone> SiteOffice<'a, H, R, A
         ensures same_who { self.new.who ≡ self.old.who }
     {
         if let Some(cause) = cause {
-            self.house.note(Note::Refused(cause));
+            self.environment.note(Note::Refused(cause));
         }
     }
 
@@ -172,7 +172,7 @@ impl<'a, H: House, R: Wait + Clock, A: Allocator + Clone> SiteOffice<'a, H, R, A
         ensures same_seat { self.new.seat ≡ self.old.seat }
         ensures same_who { self.new.who ≡ self.old.who }
     {
-        let now = self.house.now();
+        let now = self.environment.now();
         if now.saturating_sub(self.noted) >= BETWEEN_NOTES {
             self.noted = now;
             self.desk
@@ -225,8 +225,8 @@ impl<'a, H: House, R: Wait + Clock, A: Allocator + Clone> SiteOffice<'a, H, R, A
         ensures same_seat { self.new.seat ≡ self.old.seat }
         ensures same_who { self.new.who ≡ self.old.who }
     {
-        self.house.note(Note::Waits(true));
-        self.house.now()
+        self.environment.note(Note::Waits(true));
+        self.environment.now()
     }
 
     /// The session doesn't wait any more; it was told this.
@@ -234,11 +234,11 @@ impl<'a, H: House, R: Wait + Clock, A: Allocator + Clone> SiteOffice<'a, H, R, A
         ensures same_seat { self.new.seat ≡ self.old.seat }
         ensures same_who { self.new.who ≡ self.old.who }
     {
-        self.house.note(Note::Waits(false));
+        self.environment.note(Note::Waits(false));
         if let Ok(Standing::Done(_)) = answer {
-            self.house.note(Note::Value);
+            self.environment.note(Note::Value);
         }
-        self.noted = self.house.now();
+        self.noted = self.environment.now();
         if let Some(number) = self.number() {
             self.desk.mark(
                 self.rt,
@@ -265,7 +265,7 @@ impl<'a, H: House, R: Wait + Clock, A: Allocator + Clone> SiteOffice<'a, H, R, A
     }
 }
 
-impl<H: House, R: Wait + Clock, A: Allocator + Clone> Office for SiteOffice<'_, H, R, A> {
+impl<H: Environment, R: Wait + Clock, A: Allocator + Clone> Office for SiteOffice<'_, H, R, A> {
     ghost does = { λ from call reply to. KeepsAsks (asks_of_seat from.seat) call reply (asks_of_seat to.seat)
         × (is_some to.seat ≡ seated_after (is_some from.seat) reply) };
 
@@ -276,10 +276,10 @@ impl<H: House, R: Wait + Clock, A: Allocator + Clone> Office for SiteOffice<'_, 
             return Err(Refusal::OldTenant);
         }
         let seat = self.come(reserve)?;
-        let (number, now) = (seat.number(), self.house.now());
+        let (number, now) = (seat.number(), self.environment.now());
         self.seat = Some(seat);
         self.noted = now;
-        self.house.note(Note::Begins(number, self.who));
+        self.environment.note(Note::Begins(number, self.who));
         Ok(())
     }
 
@@ -353,12 +353,13 @@ impl<H: House, R: Wait + Clock, A: Allocator + Clone> Office for SiteOffice<'_, 
         if let Some(seat) = self.seat.take() {
             let number = seat.number();
             self.desk.leave(self.rt, seat);
-            self.house.note(Note::Ended(number));
+            self.environment.note(Note::Ended(number));
         }
     }
 }
 
-impl<H: House, R: Wait + Clock, A: Allocator + Clone> Reception for SiteOffice<'_, H, R, A> {
+impl<H: Environment, R: Wait + Clock, A: Allocator + Clone> AccessControl
+    for SiteOffice<'_, H, R, A> {
     ghost greets = { λ from token greeted to. to.seat ≡ from.seat };
 
     ghost pays = { λ from paid to. (to.seat ≡ from.seat) × (to.who ≡ from.who) };
@@ -371,19 +372,19 @@ impl<H: House, R: Wait + Clock, A: Allocator + Clone> Reception for SiteOffice<'
             return Greeted::Known;
         }
         self.who = self.own;
-        match self.house.meet(token) {
-            Met::Is(who, hall) => {
+        match self.environment.identify(token) {
+            Identity::Is(who, hall) => {
                 self.who = who;
                 if let Some(desk) = self.desks.get(hall) {
                     self.desk = desk;
                 }
                 Greeted::Known
             }
-            Met::Nobody => {
+            Identity::Nobody => {
                 self.count(Some(Cause::Token));
                 Greeted::Unknown
             }
-            Met::Crowded => {
+            Identity::Crowded => {
                 self.count(Some(Cause::Connections));
                 Greeted::Crowded
             }
@@ -392,7 +393,7 @@ impl<H: House, R: Wait + Clock, A: Allocator + Clone> Reception for SiteOffice<'
 
     /// Pays for a line by the customer's rate.
     fn pay(&mut self) -> bool {
-        let passes = self.house.pay(self.who);
+        let passes = self.environment.pay(self.who);
         if !passes {
             self.count(Some(Cause::Rate));
         }

@@ -1,4 +1,4 @@
-//! One line of a site's session: what it asks of the office and the reception, and its answer.
+//! One line of a site's session: what it asks of the office and the access control, and its answer.
 ghost use Rattle.std.specs.Prelude.{◌≡◌, ◌+◌, ◌≤◌, ◌++◌, true, length, Option, codes};
 ghost use Rattle.std.specs.Option.{option_copied};
 ghost use Rattle.line_io.specs.Views.{text_of};
@@ -7,7 +7,7 @@ ghost use Rattle.site_office.specs.Lines.{Greets, Raises, Informs, site_request}
 ghost use Rattle.site_office.specs.Turns.{IsWelcomed, SiteTurned, info_text, spaced_number};
 ghost use Rattle.site_office.specs.Views.{asked_seen};
 
-use crate::reception::{Greeted, Info, Reception};
+use crate::access::{AccessControl, Greeted, Info};
 use crate::requests::{SiteRequest, read_site_request};
 use line_io::Line;
 use protocol::{push_error, push_number};
@@ -89,7 +89,7 @@ fn welcome<O: Office>(
 }
 
 /// Answers HELLO: it is said first who says it, and whoever that is pays for it.
-fn take_greeting<O: Office + Reception>(
+fn take_greeting<O: Office + AccessControl>(
     office: &mut O,
     seated: &mut bool,
     text: &mut SessionText,
@@ -109,7 +109,7 @@ fn take_greeting<O: Office + Reception>(
 }
 
 /// Answers RESERVE, which is paid for.
-fn take_raise<O: Office + Reception>(
+fn take_raise<O: Office + AccessControl>(
     office: &mut O,
     seated: &mut bool,
     text: &mut SessionText,
@@ -127,7 +127,7 @@ fn take_raise<O: Office + Reception>(
 }
 
 /// Answers a line: makes the calls that it asks for, and writes the text of the answer over the last one.
-pub fn take_site_turn<O: Office + Reception>(
+pub fn take_site_turn<O: Office + AccessControl>(
     office: &mut O,
     seated: &mut bool,
     text: &mut SessionText,

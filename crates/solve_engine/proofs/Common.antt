@@ -36,11 +36,11 @@ pub use Rattle.othello_board.specs.Words.{cells, cells_of}
 unfoldable pub use Rattle.othello_eval.specs.Minimax.{best_choice, minimax}
 unfoldable pub use Rattle.othello_eval.specs.Values.{weights}
 unfoldable pub use Rattle.othello_moves.specs.Choices.{in_order}
-pub use Rattle.pool_rules.specs.Turns.{offered, step_of}
-pub use Rattle.pool_rules.specs.declared.turn.Action.{Action}
-pub use Rattle.pool_rules.specs.declared.turn.Action.TheVariants.{Bring, Finish, Get, TakeIn}
-pub use Rattle.pool_rules.specs.declared.turn.Holding.{Holding}
-pub use Rattle.pool_rules.specs.declared.turn.Holding.TheVariants.{Computing, GivingUp, Next, Nothing}
+pub use Rattle.jamboree_rules.specs.pool_rules.Turns.{offered, step_of}
+pub use Rattle.jamboree_rules.specs.declared.pool_rules.turn.Action.{Action}
+pub use Rattle.jamboree_rules.specs.declared.pool_rules.turn.Action.TheVariants.{Bring, Finish, Get, TakeIn}
+pub use Rattle.jamboree_rules.specs.declared.pool_rules.turn.Holding.{Holding}
+pub use Rattle.jamboree_rules.specs.declared.pool_rules.turn.Holding.TheVariants.{Computing, GivingUp, Next, Nothing}
 pub use Rattle.protocol.specs.Texts.{error_text, value_text, visited_text}
 pub use Rattle.sched_rules.proofs.Isolation.{IsTaken, shared-after-taken, step-taken}
 pub use Rattle.sched_rules.proofs.Tenants.{tenant_in-with_outcome, tenant_in-other-with_outcome}

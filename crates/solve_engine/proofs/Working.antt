@@ -18,7 +18,7 @@ module _ (grain : ℕ) (totals : Quota) where
   run-on before step answer after run one =
       let alone = shared_by_nobody totals in
       let so : IsRunning (jamboree grain) alone run.steps [] run.answers before = record { answered = run.answers; appended = refl; right = run.right; left = run.comes } in
-      let on = runs-on (jamboree grain) alone run.steps [] run.answers before step answer after so one in
+      let on = runs-on so one in
       record { steps = run.steps ++ step ∷ []; answers = on.answered; right = on.right; comes = on.left }
 
 module _ (grain : ℕ) (before : CoreState) (step : StepOf LeafAnswer) where

@@ -10,8 +10,8 @@ use crate::job::{admit, answer_in, ask};
 use crate::worker::work;
 use jamboree_core::jamboree::Jamboree;
 use jamboree_core::sched_core::{Config, Core};
+use othello_board::position_text::Position;
 use othello_moves::DEEPEST;
-use position_text::Position;
 use std::alloc::{AllocError, Allocator};
 use tenant_quota::Reserve;
 

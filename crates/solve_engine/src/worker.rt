@@ -12,7 +12,7 @@ use frame_table::FrameId;
 use jamboree_core::jamboree::{Jamboree, Leaf, LeafAnswer};
 use jamboree_core::sched_core::Core;
 use jamboree_core::step_search;
-use pool_rules::{Action, Holding, Task};
+use jamboree_rules::pool_rules::{Action, Holding, Task};
 use sched_rules::{Did, Refusal, Step, Worker};
 use std::alloc::Allocator;
 

@@ -2,12 +2,12 @@
 use Rattle.std.proofs.Common.{◌≡◌, ℕ, true, false, ◌==◌, if◌then◌else◌, Some, IfSome, sym, subst, refl}
 use Rattle.sched_rules.specs.declared.step.StepOf.{StepOf}
 use Rattle.sched_rules.specs.declared.step.StepOf.TheVariants.{Take, Steal}
-use Rattle.task_deques.specs.jamboree_rules.declared.leaf.LeafAnswer.{LeafAnswer}
-use Rattle.task_deques.specs.pool_rules.declared.turn.Action.{Action}
-use Rattle.task_deques.specs.pool_rules.declared.turn.Action.TheVariants.{Get, Run, Bring, TakeIn, Finish}
-use Rattle.task_deques.specs.pool_rules.declared.turn.Holding.{Holding}
-use Rattle.task_deques.specs.pool_rules.declared.turn.Holding.TheVariants.{Nothing, Next, Computing, GivingUp}
-use Rattle.task_deques.specs.pool_rules.Turns.{step_of, offered}
+use Rattle.jamboree_rules.specs.declared.leaf.LeafAnswer.{LeafAnswer}
+use Rattle.jamboree_rules.specs.declared.pool_rules.turn.Action.{Action}
+use Rattle.jamboree_rules.specs.declared.pool_rules.turn.Action.TheVariants.{Get, Run, Bring, TakeIn, Finish}
+use Rattle.jamboree_rules.specs.declared.pool_rules.turn.Holding.{Holding}
+use Rattle.jamboree_rules.specs.declared.pool_rules.turn.Holding.TheVariants.{Nothing, Next, Computing, GivingUp}
+use Rattle.jamboree_rules.specs.pool_rules.Turns.{step_of, offered}
 use Rattle.desk.specs.hall.Journals.{is_worker_step}
 
 -- for each action

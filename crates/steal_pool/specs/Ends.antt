@@ -1,8 +1,8 @@
 -- Meaning: what a pool ends with.
 use Rattle.std.specs.Prelude.{◌≡◌, ℕ, map, length, sum_by, All}
 use Rattle.std.specs.declared.alloc.Global.{Global}
-use Rattle.task_deques.specs.declared.returned.Returned.{Returned}
-use Rattle.task_deques.specs.Deals.{returned, posts_of, whole_deques, IsAccounted, IsWhole}
+use Rattle.steal_pool.specs.declared.task_deques.returned.Returned.{Returned}
+use Rattle.steal_pool.specs.task_deques.Deals.{returned, posts_of, whole_deques, IsAccounted, IsWhole}
 
 -- these ends of the deques of so many workers came back, after so many pushes and takes: all seats of all deques are there,
 -- what was pushed on each deque is what was taken from it and what is left, each task as often, and the two numbers are

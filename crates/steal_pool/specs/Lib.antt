@@ -1,3 +1,4 @@
+pub mod task_deques
 pub mod Announced
 pub mod Ends
 pub mod Faults

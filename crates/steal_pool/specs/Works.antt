@@ -3,16 +3,16 @@ use Rattle.std.specs.Prelude.{◌≡◌, ◌⊎◌, ℕ, ◌+◌, true, Option, 
 use Rattle.frame_table.specs.declared.names.FrameId.{FrameId}
 use Rattle.sched_rules.specs.declared.refusal.Refusal.{Refusal}
 use Rattle.sched_rules.specs.declared.step.DidOf.{DidOf}
-use Rattle.task_deques.specs.jamboree_rules.declared.leaf.Leaf.{Leaf}
-use Rattle.task_deques.specs.jamboree_rules.declared.leaf.LeafAnswer.{LeafAnswer}
-use Rattle.task_deques.specs.jamboree_rules.Leaves.{leaf_of_answer}
-use Rattle.task_deques.specs.Seats.{with_pushed, with_taken}
-use Rattle.task_deques.specs.Deals.{WorkerSeats}
-use Rattle.task_deques.specs.pool_rules.declared.task.Task.{Task}
-use Rattle.task_deques.specs.pool_rules.declared.turn.Action.TheVariants.{Bring, Get}
-use Rattle.task_deques.specs.pool_rules.declared.turn.Holding.{Holding}
-use Rattle.task_deques.specs.pool_rules.declared.turn.Holding.TheVariants.{Nothing, Next}
-use Rattle.task_deques.specs.pool_rules.Turns.{turn_after}
+use Rattle.jamboree_rules.specs.declared.leaf.Leaf.{Leaf}
+use Rattle.jamboree_rules.specs.declared.leaf.LeafAnswer.{LeafAnswer}
+use Rattle.jamboree_rules.specs.Leaves.{leaf_of_answer}
+use Rattle.steal_pool.specs.task_deques.Seats.{with_pushed, with_taken}
+use Rattle.steal_pool.specs.task_deques.Deals.{WorkerSeats}
+use Rattle.jamboree_rules.specs.declared.pool_rules.task.Task.{Task}
+use Rattle.jamboree_rules.specs.declared.pool_rules.turn.Action.TheVariants.{Bring, Get}
+use Rattle.jamboree_rules.specs.declared.pool_rules.turn.Holding.{Holding}
+use Rattle.jamboree_rules.specs.declared.pool_rules.turn.Holding.TheVariants.{Nothing, Next}
+use Rattle.jamboree_rules.specs.pool_rules.Turns.{turn_after}
 use Rattle.desk.specs.Counts.{share_after}
 use Rattle.steal_pool.specs.declared.order.Order.{Order}
 use Rattle.steal_pool.specs.Orders.{is_due, since_after}

@@ -1,6 +1,6 @@
 //! Who looks on while workers work.
+use jamboree_rules::pool_rules::Task;
 use sched_rules::Worker;
-use task_deques::pool_rules::Task;
 
 /// Hooks that workers call while they work, to watch them or to hold them up. The calls are made outside all locks, so
 /// one that waits holds up only its own worker; but for `before` where the gate says that it is brief.

@@ -1,17 +1,17 @@
 //! What a worker does while it has the hall locked.
 ghost use Rattle.std.specs.Prelude.{◌≡◌, ◌+◌, ◌≤◌, true, Some};
 ghost use Rattle.desk.specs.hall.Journals.{is_worker_step};
-ghost use Rattle.task_deques.specs.pool_rules.Turns.{offered};
-ghost use Rattle.task_deques.specs.Deals.{posts, worker_seats};
+ghost use Rattle.jamboree_rules.specs.pool_rules.Turns.{offered};
+ghost use Rattle.steal_pool.specs.task_deques.Deals.{posts, worker_seats};
 ghost use Rattle.steal_pool.specs.Works.{IsTurn, BeginsHere, GoesOnHere};
 
 use crate::gate::Gate;
 use crate::tasks::Tasks;
 use desk::jamboree::Jamboree;
 use desk::{DeskGuard, UnderLock, WorkerBadge};
+use jamboree_rules::pool_rules::{Action, Holding, Task};
 use sched_rules::{Step, Worker};
 use std::sync::Wait;
-use task_deques::pool_rules::{Action, Holding, Task};
 
 /// The most steps that a worker takes under one lock.
 const HELD_STEPS: u32 = 32;

@@ -44,6 +44,8 @@
 #![tactic(auto)]
 
 pub use desk;
+pub use jamboree_rules;
+pub use jamboree_rules::leaf_search;
 
 mod announce;
 mod gate;
@@ -51,6 +53,7 @@ mod held;
 mod order;
 mod pool;
 pub mod rows;
+pub mod task_deques;
 mod tasks;
 mod threads;
 mod worker;
@@ -59,12 +62,12 @@ mod workplace;
 pub use announce::{Announce, Quiet};
 pub use gate::{Gate, OpenGate};
 pub use held::steps;
+pub use jamboree_rules::pool_rules::Task;
 pub use order::{Order, Rhythm};
 pub use pool::{
     BeginFault, NotRun, PoolConfig, PoolEnd, PoolFault, PoolSizes, run_pool, run_pool_announced,
     run_pool_sized,
 };
-pub use task_deques::pool_rules::Task;
 pub use tasks::{SharedComputations, Tasks};
 pub use worker::run_worker;
 pub use workplace::Workplace;

@@ -8,6 +8,7 @@ ghost use Rattle.steal_pool.specs.declared.order.Order.TheVariants.{Specified};
 use crate::announce::{Announce, Quiet};
 use crate::gate::Gate;
 use crate::order::Order;
+use crate::task_deques::Returned;
 use crate::tasks::SharedComputations;
 use crate::threads::{Crew, Stock, Worked, run_all};
 use crate::workplace::Workplace;
@@ -17,7 +18,6 @@ use std::snapshot::Snapshot;
 use std::sync::Wait;
 use std::thread;
 use std::thread::Threads;
-use task_deques::Returned;
 use thiserror::Error;
 
 /// Why no pool ran. The workplace is closed then, and the workers that were started have ended.

@@ -1,14 +1,14 @@
 //! The tasks of a worker, and what all workers of a pool share.
 ghost use Rattle.std.specs.Prelude.{◌≡◌, IfNone, IfSome, Some};
-ghost use Rattle.task_deques.specs.Deals.{posts, worker_seats, IsTaken};
+ghost use Rattle.steal_pool.specs.task_deques.Deals.{posts, worker_seats, IsTaken};
 ghost use Rattle.steal_pool.specs.Orders.{since_after};
 ghost use Rattle.steal_pool.specs.Works.{IsPushedOf, IsTakenFromOwn};
 
 use crate::order::{Order, Rhythm};
+use crate::task_deques::DequeEnds;
+use jamboree_rules::pool_rules::{Computations, Task};
 use sched_rules::Worker;
 use std::sync::{Mutex, Wait};
-use task_deques::DequeEnds;
-use task_deques::pool_rules::{Computations, Task};
 
 /// What the workers of a pool share beside their deques: the count of computations, under a lock of
 /// its own.

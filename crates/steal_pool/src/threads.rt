@@ -5,13 +5,14 @@
 //! threads are joined, all seats of all deques are there, and what was pushed on each is what was taken
 //! from it and what is left.
 ghost use Rattle.std.specs.Prelude.{◌≡◌, ◌≤◌, [], true, length, map, vec_len, vec_capacity, IfErr, IfOk, Ok, OnOk};
-ghost use Rattle.task_deques.specs.Deals.{posts, posts_of, returned, returned_room, IsWhole};
+ghost use Rattle.steal_pool.specs.task_deques.Deals.{posts, posts_of, returned, returned_room, IsWhole};
 ghost use Rattle.steal_pool.specs.Announced.{IsUnsaid};
 
 use crate::announce::Announce;
 use crate::gate::Gate;
 use crate::order::Order;
 use crate::pool::{BeginFault, NotRun, PoolFault, PoolSizes};
+use crate::task_deques::{DequeEnds, Returned, deal};
 use crate::tasks::{SharedComputations, Tasks};
 use crate::worker::run_worker;
 use crate::workplace::Workplace;
@@ -22,7 +23,6 @@ use std::alloc::{AllocError, Global};
 use std::snapshot::Snapshot;
 use std::sync::Wait;
 use std::thread::{Promise, PromisedHandle, Scope, Threads};
-use task_deques::{DequeEnds, Returned, deal};
 
 /// The promise that a worker's thread is started with: the deque ends that it returns are at the same deques as those
 /// that it was given, of which this is a snapshot.

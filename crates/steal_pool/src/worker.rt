@@ -2,11 +2,11 @@
 //!
 //! A worker without a frame looks for a task: a pick where one is due, else the newest of its own deque, else the oldest of another's,
 //! which it tries in the order of their numbers after its own, else any frame that is ready in the
-//! hall, for which it waits at the workplace. It then does its turns (`pool_rules::Holding`) until it is
+//! hall, for which it waits at the workplace. It then does its turns (`jamboree_rules::pool_rules::Holding`) until it is
 //! without a frame again. It sleeps only at the workplace, and it ends once it finds no task and the workplace is
 //! closed: what is left then in the deques of others is theirs. It holds no lock while it computes.
 ghost use Rattle.std.specs.Prelude.{◌≡◌};
-ghost use Rattle.task_deques.specs.Deals.{posts};
+ghost use Rattle.steal_pool.specs.task_deques.Deals.{posts};
 ghost use Rattle.steal_pool.specs.Works.{BringsAnswerTo};
 
 use crate::gate::Gate;
@@ -14,9 +14,9 @@ use crate::tasks::Tasks;
 use crate::workplace::Workplace;
 use desk::jamboree::{Leaf, LeafAnswer};
 use frame_table::FrameId;
+use jamboree_rules::pool_rules::{Action, Holding, Task};
 use sched_rules::Worker;
 use std::sync::Wait;
-use task_deques::pool_rules::{Action, Holding, Task};
 
 /// Does tasks until the workplace is closed and none is found; before that it waits where it finds none. Returns the badge,
 /// whose share has grown by 1 for each step that the hall took, as every step goes through [`desk::DeskGuard::offer`],

@@ -3,15 +3,15 @@ use crate::gate::Gate;
 use crate::held::steps;
 use crate::tasks::Tasks;
 use desk::{Badge, Desk, DeskLedger, WorkerBadge};
+use jamboree_rules::pool_rules::{Holding, Task};
 use sched_rules::Worker;
 use std::sync::Wait;
-use task_deques::pool_rules::{Holding, Task};
 
 /// What workers ask of the place that they work at: a hall under a lock, and, where its users share it by what each was served, who comes
 /// next.
 pub trait Workplace {
     ghost use Rattle.std.specs.Prelude.{◌≡◌, ◌+◌, ◌≤◌};
-    ghost use Rattle.task_deques.specs.Deals.{posts};
+    ghost use Rattle.steal_pool.specs.task_deques.Deals.{posts};
 
     /// What a worker offers its steps with.
     type Badge: WorkerBadge;

@@ -42,6 +42,7 @@ pub use steal_pool::desk;
 
 mod faults;
 mod server;
+pub mod tcp_door;
 
 pub use faults::ServeFault;
 pub use server::{ServerConfig, Sessions, serve, serve_announced};

@@ -3,6 +3,7 @@ ghost use Rattle.std.specs.Prelude.{◌≡◌, true, IfOk, None, Ok};
 ghost use Rattle.steal_pool.specs.Ends.{AreTasksOf};
 
 use crate::faults::ServeFault;
+use crate::tcp_door::Door;
 use desk_office::serve_desk;
 use line_io::{FromReader, FromWriter};
 use sched_rules::Worker;
@@ -14,7 +15,6 @@ use std::sync::atomic::{AtomicBool, Ordering};
 use std::thread::{self, Builder, Scope, Threads};
 use steal_pool::desk::{Badge, Desk, DeskLedger};
 use steal_pool::{Announce, BeginFault, Gate, PoolConfig, PoolEnd, Quiet, run_pool_announced};
-use tcp_door::Door;
 
 /// What a server is given.
 #[derive(Clone, Copy, Debug, PartialEq, Eq)]

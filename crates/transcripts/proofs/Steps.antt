@@ -2,11 +2,11 @@
 use Rattle.std.proofs.Common.{◌≡◌, ℕ, true, false, ◌==◌, if◌then◌else◌, IfSome, refl}
 use Rattle.sched_rules.specs.declared.step.StepOf.TheVariants.{Take, Steal}
 use Rattle.jamboree_rules.specs.declared.leaf.LeafAnswer.{LeafAnswer}
-use Rattle.pool_rules.specs.declared.turn.Action.{Action}
-use Rattle.pool_rules.specs.declared.turn.Action.TheVariants.{Get, Run, Bring, TakeIn, Finish}
-use Rattle.pool_rules.specs.declared.turn.Holding.{Holding}
-use Rattle.pool_rules.specs.declared.turn.Holding.TheVariants.{Nothing, Next, Computing, GivingUp}
-use Rattle.pool_rules.specs.Turns.{step_of, offered}
+use Rattle.jamboree_rules.specs.declared.pool_rules.turn.Action.{Action}
+use Rattle.jamboree_rules.specs.declared.pool_rules.turn.Action.TheVariants.{Get, Run, Bring, TakeIn, Finish}
+use Rattle.jamboree_rules.specs.declared.pool_rules.turn.Holding.{Holding}
+use Rattle.jamboree_rules.specs.declared.pool_rules.turn.Holding.TheVariants.{Nothing, Next, Computing, GivingUp}
+use Rattle.jamboree_rules.specs.pool_rules.Turns.{step_of, offered}
 use Rattle.hall.specs.Journals.{is_worker_step}
 
 -- for each action

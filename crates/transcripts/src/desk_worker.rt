@@ -9,7 +9,7 @@ ghost use Rattle.hall.specs.Journals.{is_worker_step};
 
 use desk::{Badge, Desk, DeskLedger, Jamboree, LeafAnswer, Step, StepAnswer, Worker};
 use frame_table::FrameId;
-use pool_rules::{Action, Holding, Task};
+use jamboree_rules::pool_rules::{Action, Holding, Task};
 use std::alloc::{Allocator, Global};
 use std::sync::Wait;
 

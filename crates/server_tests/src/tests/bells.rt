@@ -5,7 +5,7 @@ use super::sites::{amount, desk_of, seat_of};
 use frame_table::FrameId;
 use hall::{DidOf, LeafAnswer, Outcome, StepOf, Worker};
 use othello_board::Board;
-use position_text::{Position, Side};
+use othello_board::position_text::{Position, Side};
 use site_book::{Told, Who, Whom};
 use site_desk::{LockedSite, SiteBadge, SiteDesk, SiteSeat};
 use std::alloc::Global;

@@ -3,13 +3,13 @@ use super::bells::{OPENING, desk_for_all};
 use super::holds;
 use super::sites::seat_of;
 use hall::{LeafAnswer, Worker};
+use jamboree_rules::pool_rules::{Action, Holding, Task};
 use site_book::Who;
 use site_desk::{SiteDesk, SiteSeat};
 use std::process::Abort;
 use std::sync::Wait;
+use steal_pool::task_deques::deal;
 use steal_pool::{OpenGate, SharedComputations, Workplace};
-use task_deques::deal;
-use task_deques::pool_rules::{Action, Holding, Task};
 
 /// The seat of a guest of this number that has asked for two jobs of one frame.
 fn asked_twice<R: Wait + Abort>(rt: &R, desk: &SiteDesk, number: u32) -> SiteSeat {

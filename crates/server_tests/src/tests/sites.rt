@@ -7,7 +7,7 @@ use hall::{Config, Hall};
 use line_io::{FromReader, FromWriter};
 use site_book::{Amount, Comer, CustomerBook, Plan, Who};
 use site_desk::{BookedHall, SeatOutcome, SiteDesk, SiteSeat};
-use site_office::{Cause, House, Met, Note, SiteOffice, serve_connection};
+use site_office::{Cause, Environment, Identity, Note, SiteOffice, serve_connection};
 use std::alloc::Global;
 use std::process::Abort;
 use std::sync::Wait;
@@ -75,9 +75,9 @@ fn desks_of(rt: &impl Abort, alloc: Global) -> Vec<SiteDesk> {
     only(rt, alloc, desk)
 }
 
-/// A house whose clock goes on at each look, and in which one other session may be that leaves when it is told.
+/// An environment whose clock goes on at each look, and in which one other session may be that leaves when it is told.
 #[derive(Drop)]
-struct TestHouse<'a, R> {
+struct TestEnvironment<'a, R> {
     rt: &'a R,
     desk: &'a SiteDesk,
     own: Who,
@@ -92,7 +92,7 @@ struct TestHouse<'a, R> {
     told: Vec<u8>,
 }
 
-/// A letter for what a house is told.
+/// A letter for what an environment is told.
 fn letter(note: Note) -> u8 {
     match note {
         Note::Begins(_, Who::Named(_)) => b'N',
@@ -111,7 +111,7 @@ fn letter(note: Note) -> u8 {
     }
 }
 
-impl<R: Wait> House for TestHouse<'_, R> {
+impl<R: Wait> Environment for TestEnvironment<'_, R> {
     fn now(&self) -> u64 {
         self.now.set(self.now.get().saturating_add(self.step));
         self.now.get()
@@ -121,14 +121,14 @@ impl<R: Wait> House for TestHouse<'_, R> {
         60_000
     }
 
-    fn meet(&mut self, token: Option<&[u8]>) -> Met {
+    fn identify(&mut self, token: Option<&[u8]>) -> Identity {
         if self.is_crowded {
-            return Met::Crowded;
+            return Identity::Crowded;
         }
         match token {
-            None => Met::Is(self.own, 0),
-            Some(word) if word == TOKEN => Met::Is(SCHOOL, 0),
-            Some(_) => Met::Nobody,
+            None => Identity::Is(self.own, 0),
+            Some(word) if word == TOKEN => Identity::Is(SCHOOL, 0),
+            Some(_) => Identity::Nobody,
         }
     }
 
@@ -148,9 +148,9 @@ impl<R: Wait> House for TestHouse<'_, R> {
     }
 }
 
-/// A house for a connection of a guest.
-fn house<'a, R: AllocGlobal>(rt: &'a R, desk: &'a SiteDesk) -> TestHouse<'a, R> {
-    TestHouse {
+/// An environment for a connection of a guest.
+fn environment<'a, R: AllocGlobal>(rt: &'a R, desk: &'a SiteDesk) -> TestEnvironment<'a, R> {
+    TestEnvironment {
         rt,
         desk,
         own: GUEST,
@@ -163,26 +163,26 @@ fn house<'a, R: AllocGlobal>(rt: &'a R, desk: &'a SiteDesk) -> TestHouse<'a, R> 
     }
 }
 
-/// What is said in a session, what is answered, and what its house is told.
+/// What is said in a session, what is answered, and what its environment is told.
 type Talk = (&'static str, &'static str, &'static str);
 
-/// Plays a session, and fails the test unless it is answered so and its house is told so.
+/// Plays a session, and fails the test unless it is answered so and its environment is told so.
 fn plays<R: Wait + Clock + Abort + AllocGlobal>(
     rt: &R,
     desks: &[SiteDesk],
-    house: TestHouse<'_, R>,
+    environment: TestEnvironment<'_, R>,
     talk: Talk,
 ) {
     let (said, answered, told) = talk;
-    let (desk, own) = (house.desk, house.own);
+    let (desk, own) = (environment.desk, environment.own);
     let mut source = FromReader {
         reader: said.as_bytes(),
     };
     let mut sink = FromWriter::new(Vec::new(rt.alloc()));
-    let mut office = SiteOffice::new(rt, desks, desk, house, own, 4);
+    let mut office = SiteOffice::new(rt, desks, desk, environment, own, 4);
     let end = serve_connection(rt, &mut source, &mut sink, &mut office);
     holds(rt, end.is_ok());
-    let TestHouse { told: noted, .. } = office.close();
+    let TestEnvironment { told: noted, .. } = office.close();
     holds(rt, spell(&sink.writer, answered));
     holds(rt, spell(&noted, told));
 }
@@ -194,7 +194,7 @@ fn guest_plays<R: Wait + Clock + Abort + AllocGlobal>(
     desk: &SiteDesk,
     talk: Talk,
 ) {
-    plays(rt, desks, house(rt, desk), talk);
+    plays(rt, desks, environment(rt, desk), talk);
 }
 
 /// A seat of a customer that came then.
@@ -277,10 +277,10 @@ const CROWDED: Talk = ("HELLO 4 8\nHELLO 4 8\n", "ERR 14\nERR 31\n", "ccr");
 fn lines_that_are_paid_for(rt: HostRuntime) {
     let desks = desks_of(&rt, rt.alloc());
     for desk in &desks {
-        let mut poor = house(&rt, desk);
+        let mut poor = environment(&rt, desk);
         poor.paid = 2;
         plays(&rt, desks.as_slice(), poor, POOR);
-        let mut crowded = house(&rt, desk);
+        let mut crowded = environment(&rt, desk);
         crowded.is_crowded = true;
         crowded.paid = 1;
         plays(&rt, desks.as_slice(), crowded, CROWDED);
@@ -298,7 +298,7 @@ fn a_guest_goes_for_another(rt: HostRuntime) {
         let idle = seat_of(&rt, desk, OTHER, 1_000);
         let busy = seat_of(&rt, desk, THIRD, 99_000);
         holds(&rt, idle.is_some() && busy.is_some());
-        let mut waiting = house(&rt, desk);
+        let mut waiting = environment(&rt, desk);
         waiting.other = idle;
         plays(&rt, desks.as_slice(), waiting, SEATED);
         holds(&rt, desk.roll(&rt).len() == 1);
@@ -315,7 +315,7 @@ const FINDS_NO_PLACE: Talk = ("HELLO 8 80\n", "ERR 14\n", "g");
 fn nobody_goes<R: Wait + Clock + Abort + AllocGlobal>(rt: &R, desks: &[SiteDesk], desk: &SiteDesk) {
     let idle = seat_of(rt, desk, OTHER, 1_000);
     let busy = seat_of(rt, desk, THIRD, 99_000);
-    let mut waiting = house(rt, desk);
+    let mut waiting = environment(rt, desk);
     waiting.step = 950;
     plays(rt, desks, waiting, GIVES_UP);
     holds(rt, desk.roll(rt).len() == 2);

@@ -9,8 +9,8 @@ use desk::{
 };
 use frame_table::FrameId;
 use othello_board::Board;
+use othello_board::position_text::{Position, Side};
 use othello_moves::Choice;
-use position_text::{Position, Side};
 use std::alloc::Global;
 use std::sync::Wait;
 use tenant_quota::{Left, Reserve};

@@ -1,13 +1,13 @@
 //! Deques in one thread: what is taken, in which order, and the sums.
 ghost use Rattle.std.specs.Prelude.{◌≡◌, ◌≤◌, ◌<◌, map, vec_len};
-ghost use Rattle.task_deques.specs.Deals.{posts, IsWhole};
+ghost use Rattle.steal_pool.specs.task_deques.Deals.{posts, IsWhole};
 
 use super::{holds, holds_that};
 use frame_table::FrameId;
 use sched_rules::Worker;
 use std::alloc::{AllocError, Allocator, Global};
 use std::process::Abort;
-use task_deques::{DequeEnds, Returned, Sums, Task, deal};
+use steal_pool::task_deques::{DequeEnds, Returned, Sums, Task, deal};
 
 mod growths;
 

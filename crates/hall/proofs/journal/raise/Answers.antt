@@ -1,7 +1,6 @@
 -- The journal that is raised is the tenant's.
-use Rattle.hall.proofs.Common.{◌≡◌, ℕ, List, [], Result, Ok, Err, length, ap, ◌∙◌, arith, StepOf, AdmitMore, LeafAnswer, JournalOf, change_by_number, long_steps, owner_of_journal, journal_in, longer, put-changed, put-same, raise_count, said-found, thing-own}
+use Rattle.hall.proofs.Common.{◌≡◌, ℕ, List, Result, Ok, Err, ap, ◌∙◌, arith, StepOf, AdmitMore, LeafAnswer, owner_of_journal, journal_in, longer, put-changed, put-same, raise_count, said-found, thing-own}
 use Rattle.std.specs.Prelude.{OnErr}
-use Rattle.hall.proofs.Lists.{steps_of}
 use Rattle.hall.proofs.journal.raise.Given.{Over}
 use Rattle.hall.proofs.journal.raise.Goals.{After-get_mut-journal}
 use Rattle.hall.proofs.journal.raise.Goals as goal
@@ -13,10 +12,10 @@ on-err (Err error) to it = to it
 
 -- the journal that was read is the tenant's
 own : (g : Over) (c : After-get_mut-journal g) → c.get_mut-journal.result.now.tenant ≡ c.args.tenant
-own g c = thing-own owner_of_journal c.args.tenant c.args.journals.now c.get_mut-journal.result.now c.get_mut-journal.ensures.value
+own g c = grind (arith, thing-own)
 
 steps : (g : Over) (c : After-get_mut-journal g) → journal_in c.args.journals.now c.args.tenant ≡ c.get_mut-journal.result.now.steps
-steps g c = said-found owner_of_journal steps_of [] c.args.tenant c.args.journals.now c.get_mut-journal.result.now c.get_mut-journal.ensures.value
+steps g c = grind (arith, said-found)
 
 pub raise-requires-clause-few : goal.raise-requires-clause-few
 raise-requires-clause-few g c =
@@ -24,15 +23,11 @@ raise-requires-clause-few g c =
 
 pub raise-requires-clause-place : goal.raise-requires-clause-place
 raise-requires-clause-place g c =
-    let same = steps g (goal.at.raise-requires-clause-place g c).After-get_mut-journal in
-    let raises = ap (λ (steps : List (StepOf LeafAnswer)). raise_count steps) same in
-    omega (arith, raises, ap (λ (steps : List (StepOf LeafAnswer)). length steps) same, c.requires.place)
+    let same = steps g (goal.at.raise-requires-clause-place g c).After-get_mut-journal in grind (arith, steps)
 
 pub raise-requires-clause-long : goal.raise-requires-clause-long
 raise-requires-clause-long g c =
-    let same = steps g (goal.at.raise-requires-clause-long g c).After-get_mut-journal in
-    let raises = ap (λ (steps : List (StepOf LeafAnswer)). raise_count steps) same in
-    omega (arith, raises, ap (λ (steps : List (StepOf LeafAnswer)). long_steps steps) same, c.requires.long)
+    let same = steps g (goal.at.raise-requires-clause-long g c).After-get_mut-journal in grind (arith, steps)
 
 pub raise-requires-clause-taken : goal.raise-requires-clause-taken
 raise-requires-clause-taken g c = rw (own g (goal.at.raise-requires-clause-taken g c).After-get_mut-journal) c.requires.taken
@@ -48,6 +43,4 @@ returns-clause-written g c =
     (written ∙ ap (λ (n : ℕ). longer (AdmitMore n c.args.reserve) c.get_mut-journal.result.now) (own g at))) c.raise.ensures.written
 
 pub returns-clause-refused : goal.returns-clause-refused
-returns-clause-refused g c =
-    on-err c.raise.result
-    (λ same. ap (λ (j : JournalOf). change_by_number owner_of_journal c.args.tenant (λ was. j) c.args.journals.now) same ∙ put-same owner_of_journal c.args.tenant c.args.journals.now c.get_mut-journal.result.now c.get_mut-journal.ensures.value) c.raise.ensures.refused
+returns-clause-refused g c = grind (arith, on-err, put-same)

@@ -3,9 +3,9 @@ ghost use Rattle.std.specs.Prelude.{◌≤◌};
 
 use super::{heap_of, holds, holds_at, left_of, opening};
 use frame_table::FrameId;
+use jamboree_rules::pool_rules::{Action, Holding};
+use othello_board::position_text::{Position, read};
 use othello_moves::{Choice, DEEPEST};
-use pool_rules::{Action, Holding};
-use position_text::{Position, read};
 use sched_rules::{DidOf, Worker};
 use solve_engine::{Searched, Way, search_within, solve_by_core};
 use std::alloc::{AllocError, Allocator, Global};

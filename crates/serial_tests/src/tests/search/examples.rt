@@ -4,10 +4,10 @@ use super::{OPENING, holds, holds_at, opening};
 use arrayvec::ArrayVec;
 use jamboree_core::enough;
 use leaf_search::{INF, Scored, search};
+use othello_board::position_text::{read, read_again, write};
 use othello_board::{Board, Cell, Direction};
 use othello_eval::{Valued, eval, final_value, plain};
 use othello_moves::{Choice, after, choice, choice_count, move_count, moves, over};
-use position_text::{read, read_again, write};
 use protocol::{push_move, push_value, split_at_space, word_number};
 
 #[test]

@@ -174,7 +174,7 @@ fn is_alive(mut stream: &TcpStream) -> bool {
 }
 
 /// How somebody who comes is received.
-enum Reception {
+enum Arrival {
     /// There is no connection.
     Refused,
     /// There is a session.
@@ -184,11 +184,11 @@ enum Reception {
 }
 
 /// How somebody is received who comes now.
-fn received<R: Net<Stream = TcpStream>>(rt: &R, address: SocketAddr) -> Reception {
+fn received<R: Net<Stream = TcpStream>>(rt: &R, address: SocketAddr) -> Arrival {
     match come(rt, address) {
-        Some(stream) if is_alive(&stream) => Reception::LetIn,
-        Some(_) => Reception::Closed,
-        None => Reception::Refused,
+        Some(stream) if is_alive(&stream) => Arrival::LetIn,
+        Some(_) => Arrival::Closed,
+        None => Arrival::Refused,
     }
 }
 
@@ -196,9 +196,9 @@ fn received<R: Net<Stream = TcpStream>>(rt: &R, address: SocketAddr) -> Receptio
 fn is_refused<R: Net<Stream = TcpStream> + Clock>(rt: &R, address: SocketAddr) -> bool {
     for _ in 0..TRIES {
         match received(rt, address) {
-            Reception::Refused => return true,
-            Reception::LetIn => return false,
-            Reception::Closed => thread::sleep(rt, Duration::from_millis(50)),
+            Arrival::Refused => return true,
+            Arrival::LetIn => return false,
+            Arrival::Closed => thread::sleep(rt, Duration::from_millis(50)),
         }
     }
     false

@@ -11,10 +11,10 @@ use std::alloc::Global;
 use std::io::{self, Error, ErrorKind};
 use std::net::{Net, OpenListener, SocketAddr, TcpListener, TcpStream};
 use std::sync::atomic::{AtomicU64, Ordering};
-use tcp_door::Door;
 use tcp_server::ServeFault;
 use tcp_server::desk::{Desk, DeskLedger};
 use tcp_server::steal_pool::{BeginFault, PoolFault};
+use tcp_server::tcp_door::Door;
 
 /// A listener of which some tries to take a connection, and some to have a second name, fail.
 #[derive(Drop)]

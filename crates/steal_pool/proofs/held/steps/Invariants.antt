@@ -1,5 +1,5 @@
 use Rattle.std.proofs.Common.{◌≡◌, ◌+◌, ◌≤◌}
-use Rattle.task_deques.specs.Deals.{posts}
+use Rattle.steal_pool.specs.task_deques.Deals.{posts}
 use Rattle.steal_pool.proofs.held.steps.Given as goal
 
 abbrev pub invariant-loop : goal.invariant-loop

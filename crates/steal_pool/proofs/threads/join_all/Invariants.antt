@@ -1,6 +1,6 @@
 use Rattle.std.proofs.Common.{◌≡◌, ◌+◌, ◌≤◌, ◌++◌, map, length}
 use Rattle.std.specs.Vec.Iter.{into_iter_items, into_iter_len}
-use Rattle.task_deques.specs.Deals.{posts, posts_of, returned, returned_room}
+use Rattle.steal_pool.specs.task_deques.Deals.{posts, posts_of, returned, returned_room}
 use Rattle.steal_pool.proofs.threads.join_all.Given as goal
 
 abbrev pub invariant-loop-handle : goal.invariant-loop-handle

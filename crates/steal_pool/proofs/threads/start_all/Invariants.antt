@@ -1,6 +1,6 @@
 use Rattle.std.proofs.Common.{◌≡◌, ◌+◌, ◌≤◌, ◌++◌, map, vec_len, vec_capacity}
 use Rattle.std.specs.Vec.Iter.{into_iter_items, into_iter_len}
-use Rattle.task_deques.specs.Deals.{posts}
+use Rattle.steal_pool.specs.task_deques.Deals.{posts}
 use Rattle.steal_pool.proofs.threads.start_all.Given as goal
 
 abbrev pub invariant-loop-ends : goal.invariant-loop-ends

@@ -7,7 +7,7 @@ use crate::tests::holds_that;
 use crate::tests::signs::{add, comes, is_set, keep, none, set, unset, value};
 use desk::DeskLedger;
 use othello_board::Board;
-use position_text::Position;
+use othello_board::position_text::Position;
 use sched_rules::Worker;
 use std::alloc::Global;
 use std::io;

@@ -2,10 +2,10 @@
 use crate::tests::calls::{At, Found, opening};
 use crate::tests::signs::MOST_TURNS;
 use desk::{DeskLedger, Seat};
-use position_text::Position;
+use othello_board::position_text::Position;
 use std::sync::Wait;
 use std::thread;
-use task_deques::leaf_search::search_full;
+use steal_pool::leaf_search::search_full;
 
 /// What the serial search finds, at most to depth 12.
 fn sought(position: &Position, depth: u8) -> Found {

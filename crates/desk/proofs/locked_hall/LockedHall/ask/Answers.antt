@@ -1,9 +1,25 @@
-use Rattle.desk.proofs.Common.{rules, Contains, IfErr, ask_refusals}
-use Rattle.desk.proofs.Refused.{ask-refused}
+use Rattle.desk.proofs.Common.{rules, ◌∙◌}
+use Rattle.desk.proofs.Noting.{asked-share, tallied}
 use Rattle.desk.proofs.locked_hall.LockedHall.ask.Goals as goal
 
-pub returns-in_err-take_for-clause-refused : goal.returns-in_err-take_for-clause-refused
-returns-in_err-take_for-clause-refused g c =
-    let offered = rw c.submit-search.ensures.step at c.take_for.ensures.step in
-    let known : IfErr c.take_for.result (Contains ask_refusals) = ask-refused _ _ _ _ _ _ c.take_for.result offered in
+pub invariant_of-self : goal.invariant_of-self
+invariant_of-self g c =
+    let i = c.self.invariant in
+    let r = c.ask-answer.ensures in
+    let inside = c.self.inside in
+    let count = tallied c.ask-answer.result inside.noted.hall c.ask-answer.new.self.hall inside.before inside.book.total c.tally.new.book.total r.moved c.tally.ensures.total i.0 in
+    let come = r.come g.L.DeskLedger.begun i.7 in
+    let kept = r.moved.1 ∙ i.1 in
     search rules
+
+pub invariant_of-seat : goal.invariant_of-seat
+invariant_of-seat g c =
+    let i = c.self.invariant in
+    let r = c.ask-answer.ensures in
+    let inside = c.self.inside in
+    let count = tallied c.ask-answer.result inside.noted.hall c.ask-answer.new.self.hall inside.before inside.book.total c.tally.new.book.total r.moved c.tally.ensures.total i.0 in
+    let steps = asked-share _ c.ask-answer.result c.seat.inside.core.seat c.ask-answer.new.seat.seat c.seat.inside.steps c.tally.new.steps r.asked c.tally.ensures.steps c.seat.invariant.3 in
+    search rules
+
+pub returns-clause-told : goal.returns-clause-told
+returns-clause-told g c = rw (← c.seat.view_is) (c.ask-answer.ensures.told g.L.DeskLedger.begun c.self.invariant.7)

@@ -1,11 +1,28 @@
-use Rattle.desk.proofs.Common.{rules}
+use Rattle.desk.proofs.Common.{rules, ◌∙◌}
+use Rattle.desk.proofs.Noting.{same-share, tallied}
 use Rattle.desk.proofs.locked_hall.LockedHall.cancel.Goals as goal
 
+pub invariant_of-self : goal.invariant_of-self
+invariant_of-self g c =
+    let i = c.self.invariant in
+    let r = c.cancel-answer.ensures in
+    let inside = c.self.inside in
+    let count = tallied c.cancel-answer.result inside.noted.hall c.cancel-answer.new.self.hall inside.before inside.book.total c.tally.new.book.total r.moved c.tally.ensures.total i.0 in
+    let come = r.come g.L.DeskLedger.begun i.7 in
+    let kept = r.moved.1 ∙ i.1 in
+    search rules
+
+pub invariant_of-seat : goal.invariant_of-seat
+invariant_of-seat g c =
+    let i = c.self.invariant in
+    let r = c.cancel-answer.ensures in
+    let inside = c.self.inside in
+    let count = tallied c.cancel-answer.result inside.noted.hall c.cancel-answer.new.self.hall inside.before inside.book.total c.tally.new.book.total r.moved c.tally.ensures.total i.0 in
+    let steps = same-share c.cancel-answer.result c.seat.inside.core.seat c.cancel-answer.new.seat.seat c.seat.inside.steps c.tally.new.steps r.share c.tally.ensures.steps c.seat.invariant.3 in
+    search rules
+
+pub returns-clause-told : goal.returns-clause-told
+returns-clause-told g c = rw (← c.seat.view_is) (c.cancel-answer.ensures.told g.L.DeskLedger.begun c.self.invariant.7)
+
 pub returns-clause-step : goal.returns-clause-step
-returns-clause-step g c = search rules
-
-pub returns-in_err-take_for-clause-step : goal.returns-in_err-take_for-clause-step
-returns-in_err-take_for-clause-step g c = search rules
-
-pub returns-in_err-take_for-clause-refused : goal.returns-in_err-take_for-clause-refused
-returns-in_err-take_for-clause-refused g c = search rules
+returns-clause-step g c = rw (← c.self.view_is) (rw (← c.seat.view_is) c.cancel-answer.ensures.step)

@@ -8,7 +8,7 @@ use Rattle.hall.proofs.hall.Hall.go_on.Goals as goal
 taken : (hall : HallOf) (latest count : ℕ) (step : Step) (answer : Result (DidOf Leaf) Refusal) (after : CoreState) → is_ok answer ≡ true → IsHall hall latest count → IsStepOf hall step answer after →
     is_appended step ≡ true → raise_in step ≡ None → IsSearch step → AreNumbersGiven after → GoesOn hall latest count step after
 taken hall latest count step (Ok did) after ok keeps one goes none search known =
-    let P : Option Quota → Type 0 = λ r. IsAllowed r in goes-on hall latest count keeps step did after one goes (subst P (sym none) tt) search known
+    let P : Option Quota → Type 0 = λ r. IsAllowed r in goes-on keeps one goes (subst P (sym none) tt) search known
 taken hall latest count step (Err refusal) after ok keeps one goes none search known = absurd (false≢true ok)
 
 pub write-requires : goal.write-requires

@@ -11,11 +11,11 @@ long g c = c.len.ensures ∙ ap length (sym (said-found owner_of_journal steps_o
 
 pub remove-journal-requires-clause-there : goal.remove-journal-requires-clause-there
 remove-journal-requires-clause-there g c =
-    (leaves-off _ _ _ c.self.invariant c.args.number c.in-Ok.did _ (rw c.in-Ok.is at c.step.ensures.one) c.step.ensures.known).has
+    (leaves-off c.self.invariant (rw c.in-Ok.is at c.step.ensures.one) c.step.ensures.known).has
 
 pub invariant_of-self : goal.invariant_of-self
 invariant_of-self g c =
-    let off = leaves-off _ _ _ c.self.invariant c.args.number c.in-Ok.did _ (rw c.in-Ok.is at c.step.ensures.one) c.step.ensures.known in
+    let off = leaves-off c.self.invariant (rw c.in-Ok.is at c.step.ensures.one) c.step.ensures.known in
     rw (c.step.ensures.procedure, c.remove-journal.ensures.list, long g (goal.at.invariant_of-self g c).After-len) off.keeps
 
 pub returns-in-Ok-clause-decided : goal.returns-in-Ok-clause-decided

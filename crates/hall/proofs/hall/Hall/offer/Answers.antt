@@ -2,7 +2,7 @@ use Rattle.hall.proofs.Halls.{ended-stays, none-bad}
 use Rattle.hall.proofs.hall.Hall.offer.Goals as goal
 
 pub returns-clause-ended : goal.returns-clause-ended
-returns-clause-ended g c = ended-stays c.args.self.now c.decide-answer.ensures.explained _ _ _ c.decide-answer.ensures.decided.one
+returns-clause-ended g c = ended-stays c.decide-answer.ensures.explained _ c.decide-answer.ensures.decided.one
 
 pub returns-clause-bad_act : goal.returns-clause-bad_act
-returns-clause-bad_act g c none = none-bad c.args.self.now c.decide-answer.ensures.explained _ _ _ none c.decide-answer.ensures.decided.one
+returns-clause-bad_act g c none = none-bad c.decide-answer.ensures.explained none c.decide-answer.ensures.decided.one

@@ -6,7 +6,7 @@ use Rattle.hall.proofs.hall.Hall.raise.Goals as goal
 
 taken : (hall : HallOf) (latest count number : ℕ) (quota : Quota) (answer : Result (DidOf Leaf) Refusal) (after : CoreState) → is_ok answer ≡ true → IsHall hall latest count →
     IsStepOf hall (AdmitMore number quota) answer after → IsWithinLimits quota → OnOk answer (AreNumbersGiven after) → GoesOn hall latest count (AdmitMore number quota) after
-taken hall latest count number quota (Ok did) after ok keeps one limits known = goes-on hall latest count keeps (AdmitMore number quota) did after one refl limits tt known
+taken hall latest count number quota (Ok did) after ok keeps one limits known = goes-on keeps one refl limits tt known
 taken hall latest count number quota (Err refusal) after ok keeps one limits known = absurd (false≢true ok)
 
 ok-then : {T E P : Type 0} (answer : Result T E) → is_ok answer ≡ true → OnOk answer P → P
@@ -14,16 +14,16 @@ ok-then (Ok value) ok it = it
 ok-then (Err error) ok it = absurd (false≢true ok)
 
 pub raise-answer-requires-clause-there : goal.raise-answer-requires-clause-there
-raise-answer-requires-clause-there g c = (is-ready _ _ _ c.self.invariant c.args.number c.args.reserve (rw (← c.self.view_is) at c.requires)).has
+raise-answer-requires-clause-there g c = (is-ready c.self.invariant c.args.number c.args.reserve (rw (← c.self.view_is) at c.requires)).has
 
 pub raise-answer-requires-clause-few : goal.raise-answer-requires-clause-few
-raise-answer-requires-clause-few g c = (is-ready _ _ _ c.self.invariant c.args.number c.args.reserve (rw (← c.self.view_is) at c.requires)).few
+raise-answer-requires-clause-few g c = (is-ready c.self.invariant c.args.number c.args.reserve (rw (← c.self.view_is) at c.requires)).few
 
 pub raise-answer-requires-clause-place : goal.raise-answer-requires-clause-place
-raise-answer-requires-clause-place g c = (is-ready _ _ _ c.self.invariant c.args.number c.args.reserve (rw (← c.self.view_is) at c.requires)).place
+raise-answer-requires-clause-place g c = (is-ready c.self.invariant c.args.number c.args.reserve (rw (← c.self.view_is) at c.requires)).place
 
 pub raise-answer-requires-clause-long : goal.raise-answer-requires-clause-long
-raise-answer-requires-clause-long g c = (is-ready _ _ _ c.self.invariant c.args.number c.args.reserve (rw (← c.self.view_is) at c.requires)).long
+raise-answer-requires-clause-long g c = (is-ready c.self.invariant c.args.number c.args.reserve (rw (← c.self.view_is) at c.requires)).long
 
 pub invariant_of-self : goal.invariant_of-self
 invariant_of-self g c =

@@ -1,5 +1,5 @@
 -- There is room for all entries that the journal has, and for the new ones; the long one stands for the step.
-use Rattle.hall.proofs.Common.{◌≡◌, ◌+◌, ◌*◌, List, [], ◌∷◌, ◌++◌, Result, Ok, Err, false, length, length-append, refl, ap, sym, ◌∙◌, arith, is_err, true≢false, AdmitMore, JournalEntry, Long, LongEntry, Raised, long_count, JournalOf, longer, raise_count}
+use Rattle.hall.proofs.Common.{◌≡◌, ◌+◌, ◌*◌, List, [], ◌∷◌, ◌++◌, Result, Ok, Err, false, length-append, refl, ap, ◌∙◌, arith, is_err, true≢false, AdmitMore, JournalEntry, Long, Raised, JournalOf, longer, raise_count}
 use Rattle.std.proofs.Common.{OnOk}
 use Rattle.hall.proofs.Lists.{raise-more}
 use Rattle.hall.proofs.Entries.{seen, counts, long_count-more, written-raise}
@@ -14,10 +14,10 @@ got (Err error) made it = absurd (true≢false made)
 
 -- the entries and the long entries after the step
 pushed : (g : Over) (c : After-push_reserved g) → c.push_reserved.new.self.items ≡ c.self.inside.entries.items ++ Long ∷ []
-pushed g c = c.push_reserved.ensures.items ∙ ap (λ (es : List JournalEntry). es ++ Long ∷ []) c.reserve_exact.ensures.items
+pushed g c = grind arith
 
 added : (g : Over) (c : After-push_reserved-2 g) → c.push_reserved-2.new.self.items ≡ c.self.inside.longs.items ++ Raised c.args.reserve ∷ []
-added g c = c.push_reserved-2.ensures.items ∙ ap (λ (ls : List LongEntry). ls ++ Raised c.args.reserve ∷ []) c.reserve_exact-2.ensures.items
+added g c = grind arith
 
 -- they are those of the journal with the step
 written : (g : Over) (c : After-push_reserved-2 g) →
@@ -26,44 +26,30 @@ written : (g : Over) (c : After-push_reserved-2 g) →
 written g c =
     let before = ap (λ (j : JournalOf). raise_count j.steps) c.self.view_is in
     let entries = c.push_reserved.ensures.items ∙ ap (λ (es : List JournalEntry). es ++ Long ∷ []) c.reserve_exact.ensures.items in
-    written-raise _ _ _ c.self.inside.entries.items c.self.inside.longs.items c.args.self.now c.self.view_is c.self.invariant.2 _ (Raised c.args.reserve) _ _ entries (added g c) refl _ _
+    written-raise c.self.inside.entries.items c.self.inside.longs.items c.self.view_is c.self.invariant.2 _ (Raised c.args.reserve) _ _ entries (added g c) refl _ _
     (omega (arith, c.nodes.ensures.value, c.self.invariant.3, before)) (omega (arith, c.nodes-2.ensures.value, c.self.invariant.3, before))
 
 pub overflow_sub-places : goal.overflow_sub-places
 overflow_sub-places g c =
-    let are = counts _ _ _ _ _ _ c.self.view_is c.self.invariant.2 _ c.self.invariant.3 in
-    omega (arith, are.steps, are.raises, c.len-entries.ensures, c.self.inside.entries.ok.0, c.nodes.ensures.value, c.requires.place)
+    let are = counts _ _ c.self.view_is c.self.invariant.2 _ c.self.invariant.3 in grind arith
 
 pub overflow_sub-long_places : goal.overflow_sub-long_places
 overflow_sub-long_places g c =
-    let are = counts _ _ _ _ _ _ c.self.view_is c.self.invariant.2 _ c.self.invariant.3 in
-    omega (arith, are.longs, are.raises, c.len-longs.ensures, c.self.inside.longs.ok.0, c.nodes-2.ensures.value, c.requires.long)
+    let are = counts _ _ c.self.view_is c.self.invariant.2 _ c.self.invariant.3 in grind arith
 
 pub push_reserved-requires : goal.push_reserved-requires
 push_reserved-requires g c =
-    let are = counts _ _ _ _ _ _ c.self.view_is c.self.invariant.2 _ c.self.invariant.3 in
-    let made = got c.reserve_exact.result (sym c.is_err.ensures.value ∙ c.if-is_err.false) c.reserve_exact.ensures.ok in
-    omega (arith, are.steps, are.raises, made, c.reserve_exact.ensures.len, c.len-entries.ensures, c.self.inside.entries.ok.0, c.nodes.ensures.value, c.requires.place)
+    let are = counts _ _ c.self.view_is c.self.invariant.2 _ c.self.invariant.3 in
+    grind arith
 
 pub push_reserved-requires-2 : goal.push_reserved-requires-2
 push_reserved-requires-2 g c =
-    let are = counts _ _ _ _ _ _ c.self.view_is c.self.invariant.2 _ c.self.invariant.3 in
-    let more = got c.reserve_exact-2.result (sym c.is_err-2.ensures.value ∙ c.if-is_err-2.false) c.reserve_exact-2.ensures.ok in
-    omega (arith, are.longs, are.raises, more, c.reserve_exact-2.ensures.len, c.len-longs.ensures, c.self.inside.longs.ok.0, c.nodes-2.ensures.value, c.requires.long)
+    let are = counts _ _ c.self.view_is c.self.invariant.2 _ c.self.invariant.3 in
+    grind arith
 
 pub invariant_of-self-2 : goal.invariant_of-self-2
 invariant_of-self-2 g c =
-    let are = counts _ _ _ _ _ _ c.self.view_is c.self.invariant.2 _ c.self.invariant.3 in
-    let made = got c.reserve_exact.result (sym c.is_err.ensures.value ∙ c.if-is_err.false) c.reserve_exact.ensures.ok in
-    let more = got c.reserve_exact-2.result (sym c.is_err-2.ensures.value ∙ c.if-is_err-2.false) c.reserve_exact-2.ensures.ok in
-    let raises = ap (λ (j : JournalOf). raise_count j.steps) (written g (goal.at.invariant_of-self-2 g c).After-push_reserved-2) ∙ raise-more c.args.self.now.steps (AdmitMore c.args.self.now.tenant c.args.reserve) in
-    let longs = ap long_count (pushed g (goal.at.invariant_of-self-2 g c).After-push_reserved) ∙ long_count-more Long c.self.inside.entries.items in
-    let one = ap length (added g (goal.at.invariant_of-self-2 g c).After-push_reserved-2) ∙ length-append c.self.inside.longs.items (Raised c.args.reserve ∷ []) in (
-      omega (arith, are.steps, are.raises, made, c.reserve_exact.ensures.len, c.len-entries.ensures, c.self.inside.entries.ok.0, c.nodes.ensures.value, c.requires.place, c.push_reserved.ensures.capacity),
-      omega (arith, are.longs, are.raises, more, c.reserve_exact-2.ensures.len, c.len-longs.ensures, c.self.inside.longs.ok.0, c.nodes-2.ensures.value, c.requires.long, c.push_reserved-2.ensures.capacity),
-      omega (arith, longs, one, c.self.invariant.2),
-      omega (arith, are.raises, raises),
-    )
+    let raises = ap (λ (j : JournalOf). raise_count j.steps) (written g (goal.at.invariant_of-self-2 g c).After-push_reserved-2) ∙ raise-more c.args.self.now.steps (AdmitMore c.args.self.now.tenant c.args.reserve) in grind (arith, pushed, long_count-more, added, length-append)
 
 pub returns-clause-written : goal.returns-clause-written
 returns-clause-written g c = written g (goal.at.returns-clause-written g c).After-push_reserved-2

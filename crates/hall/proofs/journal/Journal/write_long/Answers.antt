@@ -1,31 +1,23 @@
 -- There is room for both entries, and the long one stands for the step.
-use Rattle.hall.proofs.Common.{[], ◌∷◌, None, length, length-append, ap, ◌∙◌, arith, Long, long_count, JournalOf, raise_count}
+use Rattle.hall.proofs.Common.{length-append, arith, Long}
 use Rattle.hall.proofs.Lists.{counted-after}
 use Rattle.hall.proofs.Entries.{has-room, has-long-room, written-long, long_count-more}
 use Rattle.hall.proofs.journal.Journal.write_long.Goals as goal
 
 pub push_reserved-requires : goal.push_reserved-requires
 push_reserved-requires g c =
-    let room = has-room _ _ _ _ _ _ c.self.view_is c.self.invariant.2 c.requires.writable.place in
+    let room = has-room _ _ c.self.view_is c.self.invariant.2 c.requires.writable.place in
     omega (arith, room, c.self.invariant.0, c.self.inside.entries.ok.0)
 
 pub push_reserved-requires-2 : goal.push_reserved-requires-2
 push_reserved-requires-2 g c =
-    let room = has-long-room _ _ _ _ _ _ c.self.view_is c.self.invariant.2 (c.requires.writable.long c.requires.long) in
+    let room = has-long-room _ _ c.self.view_is c.self.invariant.2 (c.requires.writable.long c.requires.long) in
     omega (arith, room, c.self.invariant.1, c.self.inside.longs.ok.0)
 
 pub invariant_of-self : goal.invariant_of-self
 invariant_of-self g c =
     let more = long_count-more Long c.self.inside.entries.items in
-    let same = ap long_count c.push_reserved.ensures.items in
-    let done = written-long _ _ _ _ _ _ c.self.view_is c.self.invariant.2 _ _ _ c.args.step.now c.push_reserved.ensures.items c.push_reserved-2.ensures.items (rw c.requires.writable.own at c.of.ensures) in
-    let raises = ap (λ (j : JournalOf). raise_count j.steps) done ∙ counted-after c.args.step.now c.args.self.now.steps None c.requires.writable.raises_not in
-    let before = ap (λ (j : JournalOf). raise_count j.steps) c.self.view_is in (
-      omega (arith, c.self.invariant.0, c.push_reserved.ensures.capacity),
-      omega (arith, c.self.invariant.1, c.push_reserved-2.ensures.capacity),
-      omega (arith, same, more, ap length c.push_reserved-2.ensures.items, length-append c.self.inside.longs.items (c.of.result ∷ []), c.self.invariant.2),
-      omega (arith, c.self.invariant.3, before, raises),
-    )
+    let done = written-long _ _ c.self.view_is c.self.invariant.2 _ _ _ c.args.step.now c.push_reserved.ensures.items c.push_reserved-2.ensures.items (rw c.requires.writable.own at c.of.ensures) in grind (arith, counted-after, length-append)
 
 pub returns : goal.returns
-returns g c = written-long _ _ _ _ _ _ c.self.view_is c.self.invariant.2 _ _ _ c.args.step.now c.push_reserved.ensures.items c.push_reserved-2.ensures.items (rw c.requires.writable.own at c.of.ensures)
+returns g c = written-long _ _ c.self.view_is c.self.invariant.2 _ _ _ c.args.step.now c.push_reserved.ensures.items c.push_reserved-2.ensures.items (rw c.requires.writable.own at c.of.ensures)

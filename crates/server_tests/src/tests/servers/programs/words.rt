@@ -1,7 +1,7 @@
 //! Words of the command line: how they are read, and what is said of those that are refused.
 use super::{Words, memory};
 use crate::tests::{holds, spell};
-use command_line::{Options, WordsFault};
+use commands::command_line::{Options, WordsFault};
 use commands::words_of;
 use std::alloc::Global;
 use std::io::{Error, ErrorKind};

@@ -1,7 +1,7 @@
 use Rattle.std.proofs.Common.{◌≡◌, [], ◌++◌, List, map, sym, subst, ◌∙◌, append-nil, arith}
 use Rattle.std.proofs.lemmas.List.{nil_from_length}
 use Rattle.std.specs.Vec.Iter.{into_iter_items}
-use Rattle.task_deques.specs.Deals.{PostsIn, posts, posts_of, returned, IsWhole}
+use Rattle.steal_pool.specs.task_deques.Deals.{PostsIn, posts, posts_of, returned, IsWhole}
 use Rattle.thread_tests.proofs.tests.deques.sums.Goals as goal
 
 pub sums-requires : goal.sums-requires

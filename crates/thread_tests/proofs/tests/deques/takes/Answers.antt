@@ -1,4 +1,4 @@
-use Rattle.task_deques.proofs.SeatLemmas.{posts-same}
+use Rattle.steal_pool.proofs.TaskDeques.SeatLemmas.{posts-same}
 use Rattle.thread_tests.proofs.tests.deques.takes.Goals as goal
 
 pub returns-clause-posts : goal.returns-clause-posts

@@ -1,7 +1,0 @@
-use Rattle.std.proofs.Common.{refl}
-use Rattle.clap.proofs.OnLiterals.{clap_on_literals}
-use Rattle.command_line.proofs.rows.faults_are_found.Goals as goal
-
-pub returns : goal.returns
-unfolding clap_on_literals
-returns c = record { none = refl; help = refl; version = refl; twice = refl; a_value = refl; unknown = refl; no_sessions = refl }

@@ -1,0 +1,7 @@
+use Rattle.std.proofs.Common.{refl}
+use Rattle.clap.proofs.OnLiterals.{clap_on_literals}
+use Rattle.commands.proofs.command_line.rows.faults_are_found.Goals as goal
+
+pub returns : goal.returns
+unfolding clap_on_literals
+returns c = record { none = refl; help = refl; version = refl; twice = refl; a_value = refl; unknown = refl; no_sessions = refl }

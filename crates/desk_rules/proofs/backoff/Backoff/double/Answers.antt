@@ -1,5 +1,0 @@
-use Rattle.std.proofs.Common.{rules}
-use Rattle.desk_rules.proofs.backoff.Backoff.double.Goals as goal
-
-pub returns-clause-wait : goal.returns-clause-wait
-returns-clause-wait c = search rules

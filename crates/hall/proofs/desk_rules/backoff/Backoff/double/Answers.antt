@@ -1,0 +1,5 @@
+use Rattle.std.proofs.Common.{rules}
+use Rattle.hall.proofs.desk_rules.backoff.Backoff.double.Goals as goal
+
+pub returns-clause-wait : goal.returns-clause-wait
+returns-clause-wait c = search rules

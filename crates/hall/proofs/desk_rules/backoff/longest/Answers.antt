@@ -1,0 +1,5 @@
+use Rattle.std.proofs.Common.{rules}
+use Rattle.hall.proofs.desk_rules.backoff.longest.Goals as goal
+
+pub returns-then-depth-le-SHALLOW-clause-longest : goal.returns-then-depth-le-SHALLOW-clause-longest
+returns-then-depth-le-SHALLOW-clause-longest c = search rules

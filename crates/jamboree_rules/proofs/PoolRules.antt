@@ -1,0 +1,4 @@
+pub mod Common
+pub mod ReadyFrames
+pub mod ReadiedLemmas
+pub mod TaskFrames

@@ -1,0 +1,4 @@
+pub mod Common
+pub mod WrittenText
+pub mod Readings
+pub mod ReadingLemmas

@@ -1,4 +1,0 @@
-mod Common
-pub mod ReadyFrames
-pub mod ReadiedLemmas
-pub mod TaskFrames

@@ -1,4 +1,0 @@
-mod Common
-pub mod WrittenText
-pub mod Readings
-pub mod ReadingLemmas

@@ -1,0 +1,5 @@
+pub mod Common
+pub mod TallyLemmas
+pub mod RuleLemmas
+pub mod SeatLemmas
+pub mod JoinLemmas

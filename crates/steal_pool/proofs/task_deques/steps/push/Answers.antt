@@ -1,0 +1,5 @@
+use Rattle.steal_pool.proofs.TaskDeques.RuleLemmas.{pushes}
+use Rattle.steal_pool.proofs.task_deques.steps.push.Goals as goal
+
+pub push_as-requires-clause-pushes : goal.push_as-requires-clause-pushes
+push_as-requires-clause-pushes g c = pushes _ _ c.requires _

@@ -1,0 +1,5 @@
+use Rattle.steal_pool.proofs.TaskDeques.RuleLemmas.{forks}
+use Rattle.steal_pool.proofs.task_deques.steps.seat.Goals as goal
+
+pub another-requires : goal.another-requires
+another-requires g c = forks _ _ c.requires

@@ -1,0 +1,5 @@
+use Rattle.steal_pool.proofs.TaskDeques.RuleLemmas.{takes}
+use Rattle.steal_pool.proofs.task_deques.steps.steal.Goals as goal
+
+pub steal_as-requires-clause-takes : goal.steal_as-requires-clause-takes
+steal_as-requires-clause-takes g c = takes _ _ c.requires.part

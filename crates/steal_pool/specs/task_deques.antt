@@ -1,0 +1,4 @@
+pub mod Tallies
+pub mod Seats
+pub mod Deals
+pub mod Rows

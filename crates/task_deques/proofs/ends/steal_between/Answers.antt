@@ -1,6 +1,0 @@
-use Rattle.task_deques.proofs.Common.{List, subst, DequeSeatIn, thief_seats, IsStolen}
-use Rattle.task_deques.proofs.ends.steal_between.Goals as goal
-
-pub returns-in-Some-clause-taken : goal.returns-in-Some-clause-taken
-returns-in-Some-clause-taken g c =
-    subst (λ (l : List (DequeSeatIn g.row.A.Denot)). IsStolen c.in-Some.task l (thief_seats c.steal_at.new.thieves.items)) c.loop-place.invariant.0 c.in-Some.ensures.taken

@@ -1,5 +1,0 @@
-use Rattle.task_deques.proofs.Common.{◌≡◌, ◌≤◌, vec_len, thief_seats}
-use Rattle.task_deques.proofs.ends.steal_between.Given as goal
-
-abbrev pub invariant-loop-place : goal.invariant-loop-place
-invariant-loop-place g l = (thief_seats l.thieves.items ≡ thief_seats l.initial.thieves.items) × (l.place-end ≤ vec_len l.thieves)

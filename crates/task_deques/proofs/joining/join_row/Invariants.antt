@@ -1,7 +1,0 @@
-use Rattle.task_deques.proofs.Common.{into_iter_items, owner_seats, thief_seats, with_row}
-use Rattle.task_deques.proofs.JoinLemmas.{IsTurn}
-use Rattle.task_deques.proofs.joining.join_row.Given as goal
-
-abbrev pub invariant-loop-thief : goal.invariant-loop-thief
-invariant-loop-thief g l =
-    IsTurn (owner_seats l.owners.items) l.place (thief_seats (into_iter_items l.thief-iterator)) (with_row (owner_seats l.initial.owners.items) (thief_seats l.fn.row.items))

@@ -1,9 +1,0 @@
-use Rattle.task_deques.proofs.Common.{◌≡◌, map, vec_len, into_iter_items, owner_seats, thief_seats, with_rows}
-use Rattle.task_deques.proofs.JoinLemmas.{AreTurns}
-use Rattle.task_deques.proofs.joining.joined.Given as goal
-
-abbrev pub invariant-loop-row : goal.invariant-loop-row
-invariant-loop-row g l =
-    AreTurns (owner_seats l.owners.items) (map (λ row. thief_seats row.items) (into_iter_items l.row-iterator))
-    (with_rows (owner_seats l.fn.owners.items) (map (λ row. thief_seats row.items) l.fn.rows.items))
-    × (vec_len l.owners ≡ vec_len l.fn.owners)

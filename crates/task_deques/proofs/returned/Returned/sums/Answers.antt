@@ -1,9 +1,0 @@
-use Rattle.task_deques.proofs.Common.{All, sym, subst, ◌∙◌, arith, IsAccounted}
-use Rattle.task_deques.proofs.JoinLemmas.{whole_back, few-back}
-use Rattle.task_deques.proofs.returned.Returned.sums.Goals as goal
-
-pub added-requires-clause-few : goal.added-requires-clause-few
-added-requires-clause-few g c = omega (arith, few-back c.args.self c.requires, c.joined.ensures.count)
-
-pub returns-clause-each_once : goal.returns-clause-each_once
-returns-clause-each_once g c = subst (All IsAccounted) (c.joined.ensures.seats ∙ sym (whole_back c.args.self)) c.added.ensures.each_once

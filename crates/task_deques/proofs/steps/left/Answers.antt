@@ -1,8 +1,0 @@
-use Rattle.task_deques.proofs.Common.{arith, worker_view}
-use Rattle.task_deques.proofs.TallyLemmas.{weigh-one}
-use Rattle.task_deques.proofs.steps.left.Goals as goal
-
-pub returns-clause-counts : goal.returns-clause-counts
-returns-clause-counts g c =
-    let learned = c.len_as.ensures.rule in
-    omega (arith, learned.2 c.requires (λ _. 1), learned.1, weigh-one (worker_view c.args.owner.now).pushed, weigh-one (worker_view c.args.owner.now).taken, weigh-one learned.0)

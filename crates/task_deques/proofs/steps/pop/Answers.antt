@@ -1,8 +1,0 @@
-use Rattle.task_deques.proofs.RuleLemmas.{takes, pops}
-use Rattle.task_deques.proofs.steps.pop.Goals as goal
-
-pub pop_as-requires-clause-fifo : goal.pop_as-requires-clause-fifo
-pop_as-requires-clause-fifo g c = λ _. takes _ _ c.requires
-
-pub pop_as-requires-clause-lifo : goal.pop_as-requires-clause-lifo
-pop_as-requires-clause-lifo g c = λ _. pops _ _ c.requires

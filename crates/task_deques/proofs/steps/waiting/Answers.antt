@@ -1,8 +1,0 @@
-use Rattle.task_deques.proofs.Common.{arith, worker_view}
-use Rattle.task_deques.proofs.TallyLemmas.{weigh-one}
-use Rattle.task_deques.proofs.steps.waiting.Goals as goal
-
-pub returns-clause-counts : goal.returns-clause-counts
-returns-clause-counts g c = λ all.
-    let learned = c.len_as.ensures.rule in
-    omega (arith, learned.2 all (λ _. 1), learned.1, weigh-one (worker_view c.args.owner.now).pushed, weigh-one (worker_view c.args.owner.now).taken, weigh-one learned.0)
