@@ -33,3 +33,12 @@ pub use Rattle.leaf_search.specs.Ranking.{numbered, numbered_choice}
 pub use Rattle.leaf_search.specs.declared.ranking.Ranked.{Ranked}
 pub use Rattle.leaf_search.specs.declared.scored.Counted.{Counted}
 pub use Rattle.leaf_search.specs.declared.scored.Scored.{Scored}
+pub use Rattle.std.proofs.Common.{bit_and, bit_or, cond, count_ones, filter, min, not, w64, ◌%◌, ◌&&◌, ◌^◌}
+pub use Rattle.std.proofs.lemmas.Nat.Bits.{bit_at-lt, bit_at_and, bit_at_not}
+pub use Rattle.std.proofs.lemmas.List.Sorted.{Contains-permutation, IsPermutation-append, IsPermutation-filter_both, IsPermutation-refl, IsPermutation-trans}
+pub use Rattle.std.specs.Int.{bit_at, bit_not, trailing_zeros}
+pub use Rattle.othello_moves.specs.Sequence.{pass_if, sequence, squares_of}
+pub use Rattle.leaf_search.specs.Classes.{classed}
+pub use Rattle.std.proofs.lemmas.Bool.{false≢true, ne_eqb, not-true, eq-eqb}
+pub use Rattle.std.proofs.lemmas.Nat.{le_or_l, le_or_r, zero_from_ones}
+pub use Rattle.othello_board.specs.Rules.{is_legal}

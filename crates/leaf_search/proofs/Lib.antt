@@ -3,4 +3,5 @@ pub mod EvalLemmas
 pub mod WindowLemmas
 pub mod RankingLemmas
 pub mod ListLemmas
+pub mod ClassLemmas
 pub mod LeafLemmas

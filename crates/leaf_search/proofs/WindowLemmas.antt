@@ -1,5 +1,5 @@
 -- The steps of a window search at one position, over any choices and what each is worth.
-use Rattle.leaf_search.proofs.Common.{◌↔◌, append-nil, append_assoc, ◌≡◌, ◌<◌, length, ℤ, pos, negsuc, neg_ℤ, ◌+ℤ◌, List, [], ◌∷◌, ◌++◌, map, Option, Some, refl, sym, ◌∙◌, ap, subst, arith, find, ◌≤ℤ◌, ◌<ℤ◌, IsSome, IfSome, All, Contains, ℕ, ◌-◌, Bool, IsTrue, true, false, int_max, ints, clamps, by_lt_z, All-nil, All-cons, All-append, All-weaker, Contains-append_right, common_steps, choices, after, plies, Choice, Cell, greatest_or, int_equal, minimax, choice_value, IsBound, IsWithin, find-kept, find-new, greatest_or-upper, greatest_or-lower, found-below-greatest}
+use Rattle.leaf_search.proofs.Common.{◌↔◌, append-nil, append_assoc, ◌≡◌, ◌<◌, length, ℤ, pos, negsuc, neg_ℤ, ◌+ℤ◌, List, [], ◌∷◌, ◌++◌, map, Option, None, Some, refl, sym, ◌∙◌, ap, subst, arith, find, ◌≤ℤ◌, ◌<ℤ◌, IsSome, IfSome, All, Contains, ℕ, ◌-◌, Bool, IsTrue, true, false, int_max, ints, clamps, by_lt_z, All-nil, All-cons, All-append, All-weaker, All-permutation, Contains-append_right, Contains-permutation, IsPermutation, IsPermutation-sym, length_permutation, common_steps, choices, after, plies, Choice, Cell, greatest_or, int_equal, minimax, choice_value, IsBound, IsWithin, find-kept, find-new, greatest_or-upper, greatest_or-lower, found-below-greatest}
 
 -- what is known once these choices were searched, none of which ended the search: no value is above the
 -- best score, and where that is above alpha it is the value of the first choice that attains it
@@ -177,10 +177,51 @@ module _ {X : Type 0} {alpha beta : ℤ} {v : X → ℤ} {all left : List X} {be
         let first = subst (λ cs. find (λ c. int_equal (v c) best) cs ≡ choice) all-taken (s.so_far.first higher) in
         sym (ap (λ x. find (λ c. int_equal (v c) x) all) ((IsSearching-bound other).exact higher s.below) ∙ first)
 
--- the same where nobody asks for the choice
-pub record Searched {X : Type 0} (alpha beta : ℤ) (v : X → ℤ) (all left : List X) (best : ℤ) : Type 0 where
+-- the greatest of what some choices are worth is that of the same choices in another order
+all-under : {X : Type 0} (v : X → ℤ) (other : ℤ) (before xs : List X) → All (λ c. v c ≤ℤ greatest_or other (map v (before ++ xs))) xs
+all-under v other before [] = All-nil (λ c. v c ≤ℤ greatest_or other (map v (before ++ [])))
+all-under v other before (c ∷ cs) =
+    All-cons (λ d. v d ≤ℤ greatest_or other (map v (before ++ c ∷ cs))) c cs (greatest_or-lower v other before c cs)
+    (subst (λ l. All (λ d. v d ≤ℤ greatest_or other (map v l)) cs) (append_assoc before (c ∷ []) cs) (all-under v other (before ++ c ∷ []) cs))
+
+no-greater : {X : Type 0} (v : X → ℤ) (other : ℤ) (xs ys : List X) → IsPermutation xs ys → greatest_or other (map v ys) ≤ℤ greatest_or other (map v xs)
+no-greater v other [] [] perm = omega (arith, ints)
+no-greater v other (x ∷ xs) [] perm = absurd (omega (arith, length_permutation (x ∷ xs) [] perm))
+no-greater v other xs (y ∷ ys) perm =
+    greatest_or-upper v other y ys (greatest_or other (map v xs)) (All-permutation (λ c. v c ≤ℤ greatest_or other (map v xs)) xs (y ∷ ys) perm (all-under v other [] xs))
+
+greatest_or-rearranged : {X : Type 0} (v : X → ℤ) (other : ℤ) (xs ys : List X) → IsPermutation xs ys → greatest_or other (map v ys) ≡ greatest_or other (map v xs)
+greatest_or-rearranged v other xs ys perm = omega (arith, ints, no-greater v other xs ys perm, no-greater v other ys xs (IsPermutation-sym xs ys perm))
+
+-- the same where nobody asks for the choice, and the choices are taken in any order
+pub record Searched {X : Type 0} (alpha beta : ℤ) (v : X → ℤ) (xs left : List X) (best : ℤ) : Type 0 where
+  pub all : List X
+  pub rearranged : IsPermutation xs all
   pub choice : Option X
   pub searching : IsSearching alpha beta v all left best choice
+
+-- before the first turn
+pub Searched-start : {X : Type 0} (alpha beta : ℤ) (v : X → ℤ) (xs all : List X) (best : ℤ) → best ≡ negsuc 199999 → negsuc 199999 ≤ℤ alpha → alpha <ℤ beta → IsPermutation xs all →
+    Searched alpha beta v xs all best
+Searched-start alpha beta v xs all best least low window perm = record {
+  all = all;
+  rearranged = perm;
+  choice = None;
+  searching = record {
+    taken = [];
+    split = refl;
+    so_far = record {
+      above = All-nil (λ c. v c ≤ℤ best);
+      first = λ (higher : alpha <ℤ best). absurd (omega (arith, ints, least));
+      found = λ (higher : alpha <ℤ best). absurd (omega (arith, ints, least));
+    };
+    below = omega (arith, ints, least);
+    least = omega (arith, ints, least);
+    real = λ (some : 0 < 0). absurd (omega arith);
+    greatest = omega (arith, ints, least);
+    chosen = tt;
+  };
+}
 
 -- some choice goes with the greater score
 taken-in : {X : Type 0} (best score new_best : ℤ) (choice : Option X) (c : X) → new_best ≡ int_max best (neg_ℤ score) →
@@ -190,12 +231,33 @@ taken-in best score new_best choice c is =
     (λ better. (Some c, record { better = λ same. (omega (arith, ints, clamps), refl); kept = λ under. absurd (omega (arith, ints)) }))
     (λ under. (choice, record { better = λ better. absurd (omega (arith, ints)); kept = λ same. (omega (arith, ints, clamps), refl) }))
 
-module _ {X : Type 0} {alpha beta : ℤ} {v : X → ℤ} {all left : List X} {best : ℤ} (s : Searched alpha beta v all left best) where
-  pub Searched-turn : {c : X} {rest : List X} → left ≡ c ∷ rest → {score new_best : ℤ} → IsChild v beta (int_max alpha best) c score →
-      new_best ≡ int_max best (neg_ℤ score) → new_best <ℤ beta → Searched alpha beta v all rest new_best
-  Searched-turn {c} next {score} {new_best} child is new_below =
-      let turn = taken-in best score new_best s.choice c is in
-      record { choice = turn.0; searching = IsSearching-turn s.searching next child turn.1 new_below }
+module _ {X : Type 0} {alpha beta : ℤ} {v : X → ℤ} {xs left : List X} {best : ℤ} (s : Searched alpha beta v xs left best) where
+  -- while a choice is left
+  module _ {c : X} {rest : List X} (next : left ≡ c ∷ rest) where
+    pub Searched-next : Contains xs c
+    Searched-next = Contains-permutation s.all xs c (IsPermutation-sym xs s.all s.rearranged) (IsSearching-next s.searching next)
+
+    pub Searched-turn : {score new_best : ℤ} → IsChild v beta (int_max alpha best) c score → new_best ≡ int_max best (neg_ℤ score) → new_best <ℤ beta →
+        Searched alpha beta v xs rest new_best
+    Searched-turn {score} {new_best} child is new_below =
+        let turn = taken-in best score new_best s.choice c is in
+        record { all = s.all; rearranged = s.rearranged; choice = turn.0; searching = IsSearching-turn s.searching next child turn.1 new_below }
+
+    pub Searched-cut : {floor score new_best : ℤ} (other : ℤ) → alpha <ℤ beta → IsChild v beta floor c score → new_best ≡ int_max best (neg_ℤ score) → beta ≤ℤ new_best →
+        IsBound alpha beta new_best (greatest_or other (map v xs))
+    Searched-cut {new_best = new_best} other window child is great =
+        subst (IsBound alpha beta new_best) (greatest_or-rearranged v other xs s.all s.rearranged) (IsSearching-cut s.searching next other window child is great)
+
+  -- the end of the choices
+  module _ (none : left ≡ []) (some : 0 < length xs) where
+    as-many : 0 < length s.all
+    as-many = omega (arith, some, length_permutation xs s.all s.rearranged)
+
+    pub Searched-real : negsuc 127999 ≤ℤ best
+    Searched-real = IsSearching-real s.searching none as-many
+
+    pub Searched-bound : (other : ℤ) → IsBound alpha beta best (greatest_or other (map v xs))
+    Searched-bound other = subst (IsBound alpha beta best) (greatest_or-rearranged v other xs s.all s.rearranged) (IsSearching-bound s.searching none as-many other)
 
 -- the value itself is a bound of it, whatever the window
 pub exact-bound : (alpha beta score value : ℤ) → value ≡ score → IsBound alpha beta score value
@@ -229,9 +291,23 @@ module _ {beta floor low high score : ℤ} (d : ℕ) {p : ℕ} {b : List Cell} (
 some-length : {X : Type 0} (xs : List X) → (xs ≡ [] → ⊥) → 0 < length xs
 some-length xs h1 = grind (arith, common_steps)
 
+no-length : {X : Type 0} (xs : List X) → length xs ≡ 0 → xs ≡ []
+no-length [] none = refl
+no-length (x ∷ xs) none = absurd (omega arith)
+
 module _ (board : List Cell) {left : List Choice} {none : Bool} (all : left ≡ choices board) (exactly : IsTrue none ↔ (left ≡ [])) where
   pub some-left : none ≡ false → 0 < length (choices board)
   some-left denied = some-length (choices board) (λ empty. let told : none ≡ true = exactly.1 (all ∙ empty) in cc)
 
   pub none-left : none ≡ true → choices board ≡ []
   none-left told = sym all ∙ exactly.0 told
+
+module _ (board : List Cell) {left : List Choice} {none : Bool} (perm : IsPermutation (choices board) left) (exactly : IsTrue none ↔ (left ≡ [])) where
+  pub some-rearranged : none ≡ false → 0 < length (choices board)
+  some-rearranged denied =
+      let some : 0 < length left = some-length left (λ empty. let told : none ≡ true = exactly.1 empty in cc) in omega (arith, some, length_permutation (choices board) left perm)
+
+  pub none-rearranged : none ≡ true → choices board ≡ []
+  none-rearranged told =
+      let empty : left ≡ [] = exactly.0 told in
+      no-length (choices board) (omega (arith, ap length empty, length_permutation (choices board) left perm))

@@ -1,3 +1,4 @@
 pub use Rattle.othello_eval.specs as othello_eval
 pub mod Bounds
+pub mod Classes
 pub mod Ranking

@@ -15,6 +15,7 @@
 //! that the boards after them give (`src/ranking.rt`), the first through the window and each other first through a window
 //! of width one, where most turn out to be no better. Of equal choices the first in the rules' order is still found: at the
 //! first position a choice that comes earlier than the best so far is tested from one below the best score, so that a tie counts.
+//! Below that depth it takes corners first, then the squares of the edges that touch no corner, then the others (`src/classes.rt`).
 //! Of a leaf it counts the moves of one player alone where these show that the value is outside the window, and takes the bound
 //! that they give (`src/leaf.rt`), so that its own scores outside the window may say less.
 //! How much is entered no contract says; a test compares it with kept numbers. Between two choices `IsRanking` of
@@ -24,7 +25,8 @@
 //! What makes [`search`] true, between two choices of a position: no choice taken so far is worth more than the
 //! best score, and where that is above alpha, it is just what the first choice that has it is worth
 //! (`IsBestOf` of `proofs/WindowLemmas.antt`). Below the first position nobody asks for the choice, so it isn't kept
-//! there: two functions, one for the first position and one for all below it, with one invariant. The position after a choice is searched through the
+//! there: two functions, one for the first position and one for all below it, with one invariant, which holds for any order of
+//! the choices. The position after a choice is searched through the
 //! window from `-beta` to `-max(alpha, best)`, and a score of at least beta ends the position. Nothing
 //! is kept between two searches, no memory is taken, and the depth falls at each ply.
 //!
@@ -36,6 +38,7 @@
 
 pub use othello_eval;
 
+mod classes;
 mod leaf;
 mod ordered;
 mod ranking;

@@ -16,8 +16,8 @@ use othello_board::Board;
 use othello_eval::othello_moves::{Choice, DEEPEST, plies};
 use othello_eval::{Weighed, final_value};
 
-/// The least depth at which the choices are ordered: below it they are taken in the rules' order, as making the list would
-/// take longer than it saves.
+/// The least depth at which the choices are ordered by keys: below it they are taken by classes of squares, as making the list
+/// would take longer than it saves (at the first position in the rules' order).
 const LEAST_ORDERED: u8 = 3;
 
 /// As [`search`], with the choices of each position taken in the order of a key, by which far fewer positions are entered.

@@ -6,6 +6,7 @@ ghost use Rattle.othello_eval.specs.Values.{IsWithin, discs_value, weights};
 ghost use Rattle.othello_eval.specs.Minimax.{minimax, best_choice};
 ghost use Rattle.leaf_search.specs.Bounds.{IsBound};
 
+use super::classes::{Classed, EDGES};
 use super::leaf::{entered, leaf_score};
 use super::scored::{Counted, Scored};
 use super::window::{INF, Window};
@@ -77,7 +78,8 @@ fn best_of(weighed: Weighed, depth: u8, window: Window) -> Scored
 }
 
 /// Searches one position below the first, and what has to be entered below it. Within `score_of` it is no call: most
-/// positions are leaves, which have none below them.
+/// positions are leaves, which have none below them. `whole` says that the search is the specified one: choices in the rules'
+/// order, and each leaf's value. Else squares of the edges are taken early, and a leaf is looked at as far as the window asks.
 #[cycle(search)]
 #[inline(always)]
 pub(crate) fn search_below(weighed: Weighed, depth: u8, window: Window, whole: bool) -> Counted
@@ -98,7 +100,7 @@ fn score_of(board: Board, discs: i32, depth: u8, window: Window, whole: bool) ->
     ensures bound { IsBound window.alpha window.beta result.score (minimax depth (cells board)) }
     ensures within { IsWithin 128000 result.score }
 {
-    let mut left = Choices::new(board);
+    let mut left = Classed::new(board, if whole { 0 } else { EDGES });
     if left.is_empty() {
         return Counted::entered(final_value(board));
     }

@@ -1,17 +1,17 @@
-use Rattle.leaf_search.proofs.Common.{rules, ◌≡◌, neg_ℤ, ◌-◌, ◌∙◌, ap, arith, int_max, ints, clamps, subst, IsBound, cells, goes_down, final_value, minimax, Counted, minimax-deeper, minimax-over}
-use Rattle.leaf_search.proofs.WindowLemmas.{child-of, Searched-turn, IsSearching-cut, IsSearching-bound, IsSearching-real, IsSearching-next, exact-bound, some-left, none-left}
+use Rattle.leaf_search.proofs.Common.{rules, ◌≡◌, neg_ℤ, ◌-◌, ◌∙◌, ap, arith, int_max, ints, clamps, subst, IsBound, cells, goes_down, final_value, choices, choice_value, minimax, Counted, minimax-deeper, minimax-over}
+use Rattle.leaf_search.proofs.WindowLemmas.{child-of, Searched-start, Searched-next, Searched-turn, Searched-cut, Searched-bound, Searched-real, exact-bound, some-rearranged, none-rearranged}
 use Rattle.leaf_search.proofs.tree.+search.Goals as goal
 
 pub score_of-search_below-child-requires : goal.score_of-search_below-child-requires
 score_of-search_below-child-requires t c =
-    let here = IsSearching-next c.loop-choice.invariant.searching c.in-Some.ensures.cases in
+    let here = Searched-next c.loop-choice.invariant c.in-Some.ensures in
     let deep = ap (λ p. c.args.depth - p) c.plies.ensures.value in
     let below = c.args.depth - c.plies.result in
     let down = goes_down c.args.depth below (cells c.args.board) (cells c.after.result.board) c.in-Some.choice here c.after.ensures c.requires.deep deep in
     search rules
 
 pub score_of-after-requires : goal.score_of-after-requires
-score_of-after-requires t c = IsSearching-next c.loop-choice.invariant.searching c.in-Some.ensures.cases
+score_of-after-requires t c = Searched-next c.loop-choice.invariant c.in-Some.ensures
 
 pub score_of-returns-then-best-window : goal.score_of-returns-then-best-window
 score_of-returns-then-best-window t c =
@@ -22,7 +22,7 @@ score_of-returns-then-best-window t c =
     let score = c.with-best.ensures.score in
     record {
       bound = rw (minimax-deeper c.args.depth board c.requires.deep)
-          (IsSearching-cut searching c.in-Some.ensures.cases (final_value board) c.args.window.open child score (omega (arith, ints)));
+          (Searched-cut c.loop-choice.invariant c.in-Some.ensures (final_value board) c.args.window.open child score (omega (arith, ints)));
       within = (omega (arith, ints, clamps, score, e.within.1), omega (arith, ints, clamps, score, e.within.0, searching.greatest));
     }
 
@@ -31,7 +31,7 @@ score_of-loop-choice-preserved t c =
     let searching = c.loop-choice.invariant.searching in
     let beta_is : c.of_child-seen.result.beta ≡ neg_ℤ (int_max c.args.window.alpha c.loop-choice.best.score) =
     c.of_child-seen.ensures.beta ∙ ap (λ b. neg_ℤ (int_max c.args.window.alpha b)) (omega (arith, ints, searching.least, searching.greatest)) in
-    Searched-turn c.loop-choice.invariant c.in-Some.ensures.cases
+    Searched-turn c.loop-choice.invariant c.in-Some.ensures
     (child-of c.args.depth (cells c.args.board) c.in-Some.choice c.plies.ensures.value c.after.ensures c.of_child-seen.ensures.alpha beta_is
     c.search_below-child.ensures.bound c.search_below-child.ensures.within)
     c.with-best.ensures.score (omega (arith, ints))
@@ -40,10 +40,10 @@ pub score_of-returns : goal.score_of-returns
 score_of-returns t c =
     let board = cells c.args.board in
     let searching = c.loop-choice.invariant.searching in
-    let some = some-left board c.new-left.ensures c.is_empty.ensures c.if-is_empty.false in
+    let some = some-rearranged board c.new-left.ensures c.is_empty.ensures c.if-is_empty.false in
     record {
-      bound = rw (minimax-deeper c.args.depth board c.requires.deep) (IsSearching-bound searching c.in_default.ensures.cases some (final_value board));
-      within = (IsSearching-real searching c.in_default.ensures.cases some, searching.greatest);
+      bound = rw (minimax-deeper c.args.depth board c.requires.deep) (Searched-bound c.loop-choice.invariant c.in_default.ensures some (final_value board));
+      within = (Searched-real c.loop-choice.invariant c.in_default.ensures some, searching.greatest);
     }
 
 -- where the game is over
@@ -51,7 +51,7 @@ pub score_of-returns-then-is_empty-clause-bound : goal.score_of-returns-then-is_
 score_of-returns-then-is_empty-clause-bound t c =
     let board = cells c.args.board in
     let score_is : final_value board ≡ c.entered.result.score = omega (arith, ints, ap (λ (s : Counted). s.score) c.entered.ensures, c.final_value.ensures.value) in
-    exact-bound _ _ _ _ (minimax-over c.args.depth board (none-left board c.new-left.ensures c.is_empty.ensures c.if-is_empty.true) ∙ score_is)
+    exact-bound _ _ _ _ (minimax-over c.args.depth board (none-rearranged board c.new-left.ensures c.is_empty.ensures c.if-is_empty.true) ∙ score_is)
 
 -- a leaf
 pub search_below-returns-clause-bound : goal.search_below-returns-clause-bound
@@ -60,3 +60,8 @@ search_below-returns-clause-bound t c =
     let score_is : c.leaf_score.result ≡ c.entered.result.score =
     omega (arith, ints, ap (λ (s : Counted). s.score) c.entered.ensures, c.leaf_score.ensures.within.0, c.leaf_score.ensures.within.1) in
     rw (none) (subst (λ s. IsBound c.args.window.alpha c.args.window.beta s (minimax 0 (cells c.args.weighed.board))) score_is c.leaf_score.ensures.bound)
+
+pub score_of-loop-choice-init : goal.score_of-loop-choice-init
+score_of-loop-choice-init t c =
+    Searched-start c.args.window.alpha c.args.window.beta (choice_value c.args.depth (cells c.args.board)) (choices (cells c.args.board)) _ _ (omega (arith, ints, ap (λ (s : Counted). s.score) c.entered-best.ensures))
+    c.args.window.least c.args.window.open c.new-left.ensures

@@ -1,0 +1,90 @@
+//! The choices of a board by classes of squares, for the last plies: there a list by keys takes longer to make than it saves.
+ghost use Rattle.std.specs.Prelude.{◌≡◌, ◌↔◌, ◌∷◌, [], IsTrue, MatchOption};
+ghost use Rattle.std.specs.List.Sorted.{IsPermutation};
+ghost use Rattle.othello_board.specs.Words.{cells};
+ghost use Rattle.othello_eval.specs.othello_moves.Choices.{choices};
+
+use othello_board::Board;
+use othello_eval::othello_moves::{Choice, moves};
+use std::marker::Model;
+
+/// The bits of a1, h1, a8 and h8.
+const CORNERS: u64 = 0x8100_0000_0000_0081;
+
+/// The squares of the edges that touch no corner.
+pub(crate) const EDGES: u64 = 0x3c00_8181_8181_003c;
+
+/// The choices of a board that are left: corners, then the squares of a class, then the others, each by rising index; or a pass.
+#[derive(Drop)]
+pub(crate) struct Classed {
+    corners: u64,
+    class: u64,
+    others: u64,
+    passes: bool,
+}
+
+impl Model for Classed {
+    ghost use Rattle.std.specs.Prelude.{List};
+    ghost use Rattle.othello_eval.specs.othello_moves.declared.choices.Choice.{Choice};
+    ghost use Rattle.leaf_search.specs.Classes.{classed};
+
+    ghost Value = { List Choice };
+
+    ghost view = { λ c. classed c.corners c.class c.others c.passes };
+}
+
+impl Classed {
+    /// All choices of a board, where the class has these squares. With none of them the order is the rules'.
+    #[inline(always)]
+    pub(crate) fn new(board: Board, class: u64) -> Classed
+        ensures { IsPermutation (choices (cells board)) result }
+    {
+        let own = moves(board);
+        let is_stuck = own == 0;
+        let others = own & !CORNERS;
+        Classed {
+            corners: own & CORNERS,
+            class: others & class,
+            others: others & !class,
+            passes: is_stuck && moves(board.swap()) != 0,
+        }
+    }
+
+    /// Whether none is left.
+    #[inline(always)]
+    pub(crate) fn is_empty(&self) -> bool
+        ensures { IsTrue result ↔ (self.now ≡ []) }
+    {
+        if self.corners | self.class | self.others != 0 {
+            return false;
+        }
+        !self.passes
+    }
+
+    /// Takes the first choice that is left; None where none is left.
+    #[inline(always)]
+    pub(crate) fn pop_first(&mut self) -> Option<Choice>
+        ensures { MatchOption result (self.old ≡ []) (λ c. self.old ≡ c ∷ self.new) }
+    {
+        if self.corners != 0 {
+            let square = self.corners.trailing_zeros();
+            self.corners &= !(1 << square);
+            return Some(Choice::Square(square as u8));
+        }
+        if self.class != 0 {
+            let square = self.class.trailing_zeros();
+            self.class &= !(1 << square);
+            return Some(Choice::Square(square as u8));
+        }
+        if self.others != 0 {
+            let square = self.others.trailing_zeros();
+            self.others &= !(1 << square);
+            return Some(Choice::Square(square as u8));
+        }
+        if self.passes {
+            self.passes = false;
+            return Some(Choice::Pass);
+        }
+        None
+    }
+}
