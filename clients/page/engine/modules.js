@@ -4,7 +4,7 @@ export const MODULES = {
   "binaryen": "wasm-opt version 108",
   "verdict": "logic=proved functions=15 target=wasm64-unknown-unknown sum=dac8208d650f15bf native=nat,char,string logic-built=trusted libraries-built=trusted statements=trusted incremental=trusted",
   "integrity": {
-    "page64.wasm": "sha256-8ObVm3F2s3+eKuk/WdmkB4tybOUCuFaG3G6IntzJX3I=",
-    "page32.wasm": "sha256-np/td/xZFnCzE1AG92RDSoZPBO31qUyRvw/4MRISusA="
+    "page64.wasm": "sha256-SS6r+80Rxd7SpQPTq1YEJre7eM+Cs3ghF+EhYtrDjF8=",
+    "page32.wasm": "sha256-k59wfPKOn6QVNfpB9rwRC/XSDxj0zdH7drJtt2v+wxA="
   }
 };
