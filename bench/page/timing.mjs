@@ -29,27 +29,31 @@ const WAYS = {
   guessed: (modules, { own, opp, choices, guesses }, depth) => choices.map((code, at) => modules.now.choice_value_near(own, opp, depth, code, guesses[at])),
 };
 
-/** Lines of what each way took at depths 6 to 8, by a clock in seconds; `pause` is awaited between positions. */
+/** The depths that are told. */
+const DEPTHS = [6, 7, 8];
+
+/** Lines of what each way took at each depth, by a clock in seconds; `pause` is awaited between positions. Of one position all ways at all depths are timed in turns, so
+ * that what else the machine does meets all of them. What is found in a first round isn't told: the modules are compiled meanwhile. */
 export async function compared(modules, count, rounds, clock, pause = () => {}) {
-  const places = Array.from({ length: count }, (_, at) => drawn(modules.now, at)), names = Object.keys(WAYS), sums = {};
-  for (const depth of [4, 6, 7, 8]) { // (what is found at depth 4 isn't told: the modules are compiled meanwhile)
-    const best = Object.fromEntries(names.map((name) => [name, places.map(() => Infinity)]));
-    for (const place of places) place.guesses = all(modules.now, place, before(depth));
-    for (let round = 0; round < rounds; round += 1) {
-      for (const [at, place] of places.entries()) {
-        const told = names.map((name) => {
-          const begun = clock(), values = WAYS[name](modules, place, depth);
-          best[name][at] = Math.min(best[name][at], clock() - begun);
+  const places = Array.from({ length: count }, (_, at) => drawn(modules.now, at)), names = Object.keys(WAYS);
+  const each = DEPTHS.flatMap((depth) => names.map((name) => ({ depth, name, best: places.map(() => Infinity) })));
+  for (let round = 0; round <= rounds; round += 1) {
+    for (const [at, place] of places.entries()) {
+      for (const depth of DEPTHS) {
+        place.guesses = all(modules.now, place, before(depth));
+        const told = each.filter((one) => one.depth === depth).map((one) => {
+          const begun = clock(), values = WAYS[one.name](modules, place, depth);
+          if (round) one.best[at] = Math.min(one.best[at], clock() - begun);
           return values.join();
         });
         if (new Set(told).size !== 1) throw new Error(`other values at depth ${depth}`);
         await pause();
       }
     }
-    sums[depth] = Object.fromEntries(names.map((name) => [name, best[name].reduce((sum, one) => sum + one, 0)]));
   }
-  return [6, 7, 8].map((depth) => {
-    const told = names.map((name) => `${name} ${sums[depth][name].toFixed(3)} s, ${(sums[depth][name] / sums[6].before).toFixed(2)}`);
+  for (const one of each) one.sum = one.best.reduce((sum, time) => sum + time, 0);
+  return DEPTHS.map((depth) => {
+    const told = each.filter((one) => one.depth === depth).map((one) => `${one.name} ${one.sum.toFixed(3)} s, ${(one.sum / each[0].sum).toFixed(2)}`);
     return `all moves of ${count} positions at depth ${depth}, and as a part of depth 6 before: ${told.join("; ")}`;
   });
 }
