@@ -206,7 +206,7 @@ class Law:
         if self.call.owner:
             head = re.search(rf"^impl(?:<.*?>)? ({self.call.owner}(?:<[^{{]*>)?)", self.text[:self.text.index("\n".join(self.call.signature).strip())], re.M)[1].strip()
             signature = re.sub(r"(fn \w+)(?:<(.*?)>)?\(", lambda match: f"{match[1]}<{', '.join(part for part in (self.impl(), match[2]) if part)}>(", signature, count=1)
-            signature = re.sub(r"&(mut )?self", lambda match: f"{self.receiver()}: &{match[1] or ''}{head}", signature, count=1)
+            signature = re.sub(r"(&(?:mut )?)?\bself\b", lambda match: f"{self.receiver()}: {match[1] or ''}{head}", signature, count=1)
         said = ""
         for at, (kind, name, body, _) in enumerate(self.call.clauses):
             body = narrowing.clauses.get(at, body) if narrowing else body
