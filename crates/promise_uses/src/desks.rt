@@ -1,5 +1,5 @@
 //! What a seat of tenant 9 knows after its calls at a desk.
-ghost use Rattle.std.specs.Prelude.{◌≡◌, ◌≢◌, ◌++◌, ◌+◌, ◌∷◌, [], ℕ, List, length, Option, Some, None, Err, IfOk, OnOk, IfErr, IfSome, OnSome, MatchResult, Contains};
+ghost use Rattle.std.specs.Prelude.{◌≡◌, ◌≢◌, ◌≤◌, ◌++◌, ◌+◌, ◌∷◌, [], ℕ, List, length, Option, Some, None, Err, IfOk, OnOk, IfErr, IfSome, OnSome, MatchResult, Contains};
 ghost use Rattle.sched_rules.specs.declared.refusal.Refusal.TheVariants.{Full, Lower, NoJob, NoJobsLeft, NoNodes, NoSegments, NoTenant, OldTenant, OutOfMemory};
 ghost use Rattle.sched_rules.specs.declared.step.StepOf.TheVariants.{Admit, AdmitMore, Submit, Cancel, Leave};
 ghost use Rattle.sched_rules.specs.Runs.{alone, only};
@@ -43,7 +43,7 @@ pub fn a_new_seat<L: DeskLedger, A: Allocator + Clone, R: Wait>(
     desk.admit(rt, reserve)
 }
 
-/// Tenant 9 asks for a search of depth 3, as its fifth job. Where it is taken, the history goes on from what the seat had seen,
+/// Tenant 9 asks for a search, as its fifth job. Where it is taken, the history goes on from what the seat had seen,
 /// without a step of the seat's, and ends with just this Submit; where it is refused, it is for what the core at the end of what
 /// the seat has then seen is. Uses `desk::Desk::ask` (`asked`, `told`, `refused`).
 pub fn nine_asks<L: DeskLedger, A: Allocator + Clone, R: Wait>(
@@ -51,23 +51,25 @@ pub fn nine_asks<L: DeskLedger, A: Allocator + Clone, R: Wait>(
     desk: &Desk<L, A>,
     seat: &mut Seat<L>,
     position: &Position,
+    depth: u8,
 ) -> Result<u64, Refusal>
     requires nine { seat.old.tenant ≡ 9 }
+    requires shallow { depth ≤ 12 }
     requires four { length seat.old.asked ≡ 4 }
     ensures number { IfOk result (λ job. job ≡ 5) }
     ensures taken { OnOk result ((between : List (ℕ × SearchStep))
-        × (seat.new.known.seen ≡ (seat.old.known.seen ++ between) ++ (seat.old.known.maker, Submit 9 (root_words position.now.board.own position.now.board.opp 3) frame_size) ∷ [])
+        × (seat.new.known.seen ≡ (seat.old.known.seen ++ between) ++ (seat.old.known.maker, Submit 9 (root_words position.now.board.own position.now.board.opp depth) frame_size) ∷ [])
         × (own seat.old.known.maker (seat.old.known.seen ++ between) ≡ seat.old.known.mine)
-        × (seat.new.known.mine ≡ seat.old.known.mine ++ Submit 9 (root_words position.now.board.own position.now.board.opp 3) frame_size ∷ [])
+        × (seat.new.known.mine ≡ seat.old.known.mine ++ Submit 9 (root_words position.now.board.own position.now.board.opp depth) frame_size ∷ [])
         × (seat.new.known.maker ≡ seat.old.known.maker)) }
     ensures refused { IfErr result (λ refusal. IsAnswerTo (jamboree L.begun.grain) (core_at L.begun seat.new.known.seen)
-        (Submit 9 (root_words position.now.board.own position.now.board.opp 3) frame_size) (Err refusal)) }
+        (Submit 9 (root_words position.now.board.own position.now.board.opp depth) frame_size) (Err refusal)) }
     ensures listed { IfErr result (Contains (NoTenant ∷ NoJobsLeft ∷ NoNodes ∷ NoSegments ∷ [])) }
-    ensures list { MatchResult result (λ job. seat.new.asked ≡ seat.old.asked ++ record { board = position.now.board; depth = 3 } ∷ []) (λ refusal. seat.new.asked ≡ seat.old.asked) }
+    ensures list { MatchResult result (λ job. seat.new.asked ≡ seat.old.asked ++ record { board = position.now.board; depth = depth } ∷ []) (λ refusal. seat.new.asked ≡ seat.old.asked) }
     ensures share { MatchResult result (λ job. seat.new.share ≡ seat.old.share + 1) (λ refusal. seat.new.share ≡ seat.old.share) }
     ensures kept { seat.new.tenant ≡ 9 }
 {
-    desk.ask(rt, seat, position, 3)
+    desk.ask(rt, seat, position, depth)
 }
 
 /// Tenant 9 has had its 256 jobs, and asks once more: it is refused with NoJobsLeft, and nothing changes.
@@ -107,26 +109,27 @@ pub fn nine_reserves<L: DeskLedger, A: Allocator + Clone, R: Wait>(
     desk.reserve(rt, seat, reserve)
 }
 
-/// Tenant 9 cancels its job 3: the history then ends with just this Cancel, or the core at its end refuses it; and where the seat
-/// never asked for such a job, nothing changes. Uses `desk::Desk::cancel` (`share`, `none`, `told`, `refused`).
+/// Tenant 9 cancels a job: the history then ends with just this Cancel, or the core at its end refuses it; and where the seat
+/// never asked for it, nothing changes. Uses `desk::Desk::cancel` (`share`, `none`, `told`, `refused`).
 pub fn nine_cancels<L: DeskLedger, A: Allocator + Clone, R: Wait>(
     rt: &R,
     desk: &Desk<L, A>,
     seat: &mut Seat<L>,
+    job: u64,
 ) -> Result<(), Refusal>
     requires nine { seat.old.tenant ≡ 9 }
-    ensures none { seat_asked_at seat.old.asked 3 ≡ None → (result ≡ Err NoJob) × (seat.new ≡ seat.old) }
-    ensures taken { seat_asked_at seat.old.asked 3 ≢ None → OnOk result ((between : List (ℕ × SearchStep))
-        × (seat.new.known.seen ≡ (seat.old.known.seen ++ between) ++ (seat.old.known.maker, Cancel 9 3) ∷ [])
+    ensures none { seat_asked_at seat.old.asked job ≡ None → (result ≡ Err NoJob) × (seat.new ≡ seat.old) }
+    ensures taken { seat_asked_at seat.old.asked job ≢ None → OnOk result ((between : List (ℕ × SearchStep))
+        × (seat.new.known.seen ≡ (seat.old.known.seen ++ between) ++ (seat.old.known.maker, Cancel 9 job) ∷ [])
         × (own seat.old.known.maker (seat.old.known.seen ++ between) ≡ seat.old.known.mine)
-        × (seat.new.known.mine ≡ seat.old.known.mine ++ Cancel 9 3 ∷ [])
+        × (seat.new.known.mine ≡ seat.old.known.mine ++ Cancel 9 job ∷ [])
         × (seat.new.known.maker ≡ seat.old.known.maker)) }
-    ensures refused { seat_asked_at seat.old.asked 3 ≢ None → IfErr result (λ refusal. IsAnswerTo (jamboree L.begun.grain) (core_at L.begun seat.new.known.seen) (Cancel 9 3) (Err refusal)) }
+    ensures refused { seat_asked_at seat.old.asked job ≢ None → IfErr result (λ refusal. IsAnswerTo (jamboree L.begun.grain) (core_at L.begun seat.new.known.seen) (Cancel 9 job) (Err refusal)) }
     ensures kept { (seat.new.asked ≡ seat.old.asked) × (seat.new.tenant ≡ 9) }
     ensures share { MatchResult result (λ _. seat.new.share ≡ seat.old.share + 1) (λ _. seat.new.share ≡ seat.old.share) }
     ensures listed { IfErr result (Contains (NoTenant ∷ NoJob ∷ [])) }
 {
-    desk.cancel(rt, seat, 3)
+    desk.cancel(rt, seat, job)
 }
 
 /// What tenant 9 is told that it has left is what it has at the end of the history that its seat has then seen. There the tenant
@@ -159,20 +162,21 @@ pub fn live_of_nine<L: DeskLedger, A: Allocator + Clone, R: Wait>(
     desk.live_seen(rt, seat)
 }
 
-/// What tenant 9 is told of its job 3, which it asked for: what that job has come to at the end of the history that its seat has
+/// What tenant 9 is told of a job that it asked for: what that job has come to at the end of the history that its seat has
 /// then seen. Uses `desk::Desk::wait_seen` (`look`, `shown`, `told`).
-pub fn job_three_of_nine<L: DeskLedger, A: Allocator + Clone, R: Wait>(
+pub fn job_of_nine<L: DeskLedger, A: Allocator + Clone, R: Wait>(
     rt: &R,
     desk: &Desk<L, A>,
     seat: &mut Seat<L>,
+    job: u64,
 ) -> Result<Outcome, Refusal>
     requires nine { seat.old.tenant ≡ 9 }
-    ensures told { (asked : SeatAskedOf) → seat_asked_at seat.old.asked 3 ≡ Some asked → (told : Option OutcomeOf)
-        × IsOutcomeIn (job_of (core_at L.begun seat.new.known.seen) 9 3) told × IsToldBy (Some asked) told result }
-    ensures none { seat_asked_at seat.old.asked 3 ≡ None → result ≡ Err NoJob }
+    ensures told { (asked : SeatAskedOf) → seat_asked_at seat.old.asked job ≡ Some asked → (told : Option OutcomeOf)
+        × IsOutcomeIn (job_of (core_at L.begun seat.new.known.seen) 9 job) told × IsToldBy (Some asked) told result }
+    ensures none { seat_asked_at seat.old.asked job ≡ None → result ≡ Err NoJob }
     ensures own { seat_steps 9 (steps_of seat.new.known.seen) ≡ seat.old.known.mine }
 {
-    desk.wait_seen(rt, seat, 3)
+    desk.wait_seen(rt, seat, job)
 }
 
 /// Tenant 9 leaves: the history then ends with just its Leave, which is the last of the seat's own steps, and all seat steps of

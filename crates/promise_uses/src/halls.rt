@@ -1,22 +1,23 @@
 //! What a hall tells of tenants 7 and 9 and of their jobs 3 and 5.
-ghost use Rattle.std.specs.Prelude.{◌≡◌, ◌≢◌, ◌+◌, ℕ, ◌≤◌, ◌≤ℤ◌, Some, None, Err, IfSome, OnOk, OnErr, slice_get};
+ghost use Rattle.std.specs.Prelude.{◌≡◌, ◌≢◌, ◌+◌, [], ℕ, ◌≤◌, ◌≤ℤ◌, false, Some, None, Err, IfSome, OnOk, OnErr, slice_get};
 ghost use Rattle.othello_board.specs.Words.{cells_of};
 ghost use Rattle.othello_eval.specs.declared.bound.BoundKind.TheVariants.{Low, High, Exact};
 ghost use Rattle.othello_eval.specs.Minimax.{minimax, best_choice, choice_value};
 ghost use Rattle.othello_eval.specs.Tables.{entered};
 ghost use Rattle.sched_rules.specs.declared.refusal.Refusal.TheVariants.{BadAct, OutOfMemory};
 ghost use Rattle.sched_rules.specs.declared.step.StepOf.TheVariants.{Cancel};
-ghost use Rattle.sched_rules.specs.Headline.{after_answer, IsAnswerTo};
+ghost use Rattle.sched_rules.specs.Headline.{after_answer, is_admission, IsAnswerTo};
 ghost use Rattle.sched_rules.specs.Trees.{Tenant};
-ghost use Rattle.sched_rules.specs.Cores.{tenant_in};
-ghost use Rattle.sched_laws.specs.Fitted.{origins_of};
+ghost use Rattle.sched_rules.specs.Cores.{newest_after, tenant_in};
+ghost use Rattle.sched_laws.specs.Fitted.{origins_of, submits};
 ghost use Rattle.jamboree_rules.specs.Places.{root_words};
+ghost use Rattle.jamboree_core.specs.Replies.{IsSearch};
 ghost use Rattle.jamboree_core.specs.Searching.{origin_at};
 ghost use Rattle.jamboree_rules.specs.Procedure.{jamboree};
 ghost use Rattle.hall.specs.Journals.{journal_in};
 ghost use Rattle.hall.specs.Halls.{IsExplained, KeepsEndedJobs, count_of, hall_after};
 
-use hall::{Hall, StepAnswer};
+use hall::{Hall, Jamboree, Step, StepAnswer};
 use othello_eval::{Bound, Valued};
 use promises::{entry_in, same_journals, value_in};
 use sched_rules::StepOf;
@@ -74,20 +75,29 @@ pub fn entry_of_nine<A: Allocator>(hall: &Hall<A>) -> Option<Bound>
 }
 
 /// Tenant 7 cancels its job 3: the answer is the one that the core as it was asks for, and the core is then as that answer says; where
-/// it is taken, just this step is noted and counted, and where it is refused nothing changes; it isn't refused for memory, and jobs that
-/// have ended stay. Uses `hall::Hall::offer` (`one`, `taken`, `refused`, `memory`, `bad_act`, `count`, `newest`, `explained`, `ended`).
+/// it is taken, just this step is noted and counted, and where it is refused nothing changes; jobs that have ended stay.
+/// Uses `hall::Hall::offer` (`one`, `taken`, `refused`, `count`, `explained`, `ended`).
 pub fn seven_cancels<A: Allocator + Clone>(hall: &mut Hall<A>) -> StepAnswer
     ensures answered { IsAnswerTo (jamboree hall.old.grain) hall.old.shared (Cancel 7 3) result }
     ensures left { hall.new.shared ≡ after_answer (jamboree hall.old.grain) hall.old.shared (Cancel 7 3) result }
     ensures noted { OnOk result (hall.new ≡ hall_after hall.old (Cancel 7 3) hall.new.shared) }
     ensures unchanged { OnErr result (hall.new ≡ hall.old) }
     ensures counted { OnOk result (count_of hall.new ≡ count_of hall.old + 1) }
-    ensures newest { OnOk result (hall.new.shared.newest ≡ hall.old.shared.newest) }
-    ensures no_memory { result ≢ Err OutOfMemory }
-    ensures no_act { result ≢ Err BadAct }
     ensures explained { IsExplained hall.new }
     ensures kept { KeepsEndedJobs hall.old.shared (Cancel 7 3) hall.new.shared }
 {
     let step = StepOf::Cancel(7, 3);
     hall.offer(&step)
+}
+
+/// A step of any kind: where it is taken, the greatest number that a tenant got goes on as the step says. One that admits nobody and raises
+/// nothing isn't refused for memory, and one that asks for nothing isn't refused as a bad act.
+/// Uses `hall::Hall::offer` (`memory`, `bad_act`, `newest`).
+pub fn any_step<A: Allocator + Clone>(hall: &mut Hall<A>, step: &Step<Jamboree>) -> StepAnswer
+    requires { IsSearch step.now }
+    ensures newest { OnOk result (hall.new.shared.newest ≡ newest_after hall.old.shared.newest step.now) }
+    ensures no_memory { is_admission step.now ≡ false → result ≢ Err OutOfMemory }
+    ensures no_act { submits step.now ≡ [] → result ≢ Err BadAct }
+{
+    hall.offer(step)
 }

@@ -29,11 +29,13 @@ pub use customers::{
     plans_that_come_in, room_for_all, within_all_budgets,
 };
 pub use desks::{
-    a_new_seat, job_three_of_nine, live_of_nine, nine_asks, nine_asks_in_vain, nine_cancels,
-    nine_leaves, nine_reserves, quota_of_nine, two_sessions,
+    a_new_seat, job_of_nine, live_of_nine, nine_asks, nine_asks_in_vain, nine_cancels, nine_leaves,
+    nine_reserves, quota_of_nine, two_sessions,
 };
 pub use directories::{lines_at_a_rate, what_is_accepted};
-pub use halls::{entry_of_nine, seven_and_nine, seven_cancels, value_of_nine, value_of_seven};
+pub use halls::{
+    any_step, entry_of_nine, seven_and_nine, seven_cancels, value_of_nine, value_of_seven,
+};
 pub use isolation::seven_in_a_running_core;
 pub use reserved::{nine_asks_to_depth_eight, seven_asks_again};
 pub use runs::{

@@ -157,7 +157,7 @@ pub fn refusals<A: Allocator + Clone>(
 }
 
 /// Tenant 9 after two lists in which its own taken steps are the same: it is there after both, in the
-/// same state, or after neither; and it was told the same.
+/// same state, or after neither; and it was told the same. So was tenant 7, where its are.
 /// Uses `promises::run_two` (`undisturbed`).
 pub fn nine_is_undisturbed<A: Allocator + Clone>(
     alloc: A,
@@ -174,13 +174,15 @@ pub fn nine_is_undisturbed<A: Allocator + Clone>(
         tenant_in runs.0.core.shared.tenants 9 ≡ None → tenant_in runs.1.core.shared.tenants 9 ≡ None) }
     ensures answers { IfOk result (λ runs. own_steps 9 steps.now runs.0.answers.items ≡ own_steps 9 other_steps.now runs.1.answers.items →
         own_answers 9 steps.now runs.0.answers.items ≡ own_answers 9 other_steps.now runs.1.answers.items) }
+    ensures seven { IfOk result (λ runs. own_steps 7 steps.now runs.0.answers.items ≡ own_steps 7 other_steps.now runs.1.answers.items →
+        own_answers 7 steps.now runs.0.answers.items ≡ own_answers 7 other_steps.now runs.1.answers.items) }
 {
     run_two(alloc, procedure, config, steps, other_config, other_steps)
 }
 
 /// Tenant 7 after a list, and after its own taken steps of it alone, where its admissions are taken there: it is
 /// there after both, in the same state, or after neither; and it was told there what it was told among the others.
-/// Uses `promises::run_two` (`alone`).
+/// So was tenant 9, where the second list is its. Uses `promises::run_two` (`alone`).
 pub fn seven_alone<A: Allocator + Clone>(
     alloc: A,
     procedure: Jamboree,
@@ -193,6 +195,8 @@ pub fn seven_alone<A: Allocator + Clone>(
         tenant_in runs.1.core.shared.tenants 7 ≡ Some tenant) }
     ensures answers { IfOk result (λ runs. own.now ≡ own_steps 7 steps.now runs.0.answers.items → AreAdmissionsTaken own.now runs.1.answers.items →
         own_answers 7 steps.now runs.0.answers.items ≡ runs.1.answers.items) }
+    ensures nine { IfOk result (λ runs. own.now ≡ own_steps 9 steps.now runs.0.answers.items → AreAdmissionsTaken own.now runs.1.answers.items →
+        own_answers 9 steps.now runs.0.answers.items ≡ runs.1.answers.items) }
 {
     run_two(alloc, procedure, config, steps, config, own)
 }
@@ -218,7 +222,7 @@ pub fn nine_by_its_own_steps<A: Allocator + Clone>(
 
 /// Tenant 7 is after each of two lists what its own taken steps of that list make of it alone, and was told what they give. Where each
 /// Submit of the first list asks for a search, each of its jobs that is done after that list holds the reply to what its Submit asked for.
-/// Uses `promises::run_two` (`headline`).
+/// Uses `promises::run_two` (`headline`), `jamboree_core::every_frame_is_sound`.
 pub fn seven_in_both<A: Allocator + Clone>(
     alloc: A,
     procedure: Jamboree,

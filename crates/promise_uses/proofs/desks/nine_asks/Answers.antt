@@ -6,14 +6,14 @@ pub returns-clause-taken : goal.returns-clause-taken
 returns-clause-taken g c =
     let board = c.args.position.now.board in
     let four = c.requires.four in
-    let step : ℕ → SearchStep = λ n. Submit n (root_words board.own board.opp 3) frame_size in
+    let step : ℕ → SearchStep = λ n. Submit n (root_words board.own board.opp c.args.depth) frame_size in
     taken-nine g.L.DeskLedger.begun _ _ step _ _ c.requires.nine (c.ask.ensures.told (λ full. omega (arith, four, full)))
 
 pub returns-clause-refused : goal.returns-clause-refused
 returns-clause-refused g c =
     let board = c.args.position.now.board in
     let four = c.requires.four in
-    let step : ℕ → SearchStep = λ n. Submit n (root_words board.own board.opp 3) frame_size in
+    let step : ℕ → SearchStep = λ n. Submit n (root_words board.own board.opp c.args.depth) frame_size in
     refused-nine g.L.DeskLedger.begun _ _ step _ _ c.requires.nine (c.ask.ensures.told (λ full. omega (arith, four, full)))
 
 pub returns-clause-list : goal.returns-clause-list

@@ -4,12 +4,12 @@ use Rattle.promise_uses.proofs.desks.nine_cancels.Goals as goal
 
 pub returns-clause-taken : goal.returns-clause-taken
 returns-clause-taken g c there =
-    let step : ℕ → SearchStep = λ n. Cancel n 3 in
+    let step : ℕ → SearchStep = λ n. Cancel n c.args.job in
     taken-nine g.L.DeskLedger.begun _ _ step _ _ c.requires.nine (c.cancel.ensures.told there)
 
 pub returns-clause-refused : goal.returns-clause-refused
 returns-clause-refused g c there =
-    let step : ℕ → SearchStep = λ n. Cancel n 3 in
+    let step : ℕ → SearchStep = λ n. Cancel n c.args.job in
     refused-nine g.L.DeskLedger.begun _ _ step _ _ c.requires.nine (c.cancel.ensures.told there)
 
 pub returns-clause-kept : goal.returns-clause-kept

@@ -6,4 +6,5 @@ returns g c = record {
   same = if-ok c.run_two.result (λ runs undisturbed own tenant there. sym (undisturbed 9 own).0 ∙ there) c.run_two.ensures.undisturbed;
   nobody = if-ok c.run_two.result (λ runs undisturbed own none. sym (undisturbed 9 own).0 ∙ none) c.run_two.ensures.undisturbed;
   answers = if-ok c.run_two.result (λ runs undisturbed own. (undisturbed 9 own).1) c.run_two.ensures.undisturbed;
+  seven = if-ok c.run_two.result (λ runs undisturbed own. (undisturbed 7 own).1) c.run_two.ensures.undisturbed;
 }

@@ -5,4 +5,5 @@ pub returns : goal.returns
 returns g c = record {
   same = if-ok c.run_two.result (λ runs alone own admitted tenant there. sym (alone 7 own admitted).0 ∙ there) c.run_two.ensures.alone;
   answers = if-ok c.run_two.result (λ runs alone own admitted. (alone 7 own admitted).1) c.run_two.ensures.alone;
+  nine = if-ok c.run_two.result (λ runs alone own admitted. (alone 9 own admitted).1) c.run_two.ensures.alone;
 }
