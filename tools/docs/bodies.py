@@ -1,4 +1,4 @@
-"""The wrong bodies that are never dropped, by `bodies.txt`: the table in CONTRIBUTING, and what is missing of it."""
+"""The wrong bodies that are never dropped, by `bodies.txt`: the table in CONTRIBUTING, and what is missing of it; and which edits no longer apply."""
 import re
 
 from statements import CRATES, TOP
@@ -25,7 +25,19 @@ def table():
     return "| Name | What the body does | Edit, or test |\n|---|---|---|\n" + "".join(f"| `{name}` | {body} | {', '.join(files)} |\n" for name, body, files, _ in rows())
 
 
+def stale():
+    """Each edit of a wrong body whose old text doesn't stand just once in its file."""
+    for edit in sorted(path for kind in ("must-fail", "wrong-bodies") for path in CRATES.glob(f"*/{kind}/*.edit")):
+        path = None
+        for line in edit.read_text().splitlines():
+            if line.startswith("file: "):
+                path = edit.parents[1] / line[6:].strip()
+            elif line.startswith("old: ") and (not path.is_file() or path.read_text().count(line[5:]) != 1):
+                yield f"{edit.relative_to(TOP)}: {line[5:].strip()} doesn't stand just once in {path.relative_to(TOP)}"
+
+
 def faults():
     for name, _, _, missing in rows():
         for what in missing:
             yield f"tools/docs/bodies.txt: {name} has no {what}"
+    yield from stale()
