@@ -29,7 +29,7 @@ seated-ends form e = grind (arith, seated-goes)
 form-stays : (form : Option Form) (call : Call) → form_request true form ≡ Makes call → is_stay call ≡ true
 form-stays form call e = grind (arith, seated-goes)
 
-seated-stays : (line : LineText) (call : Call) → request true line ≡ Makes call → is_stay call ≡ true
+pub seated-stays : (line : LineText) (call : Call) → request true line ≡ Makes call → is_stay call ≡ true
 seated-stays TooLong call e = absurd (cc e)
 seated-stays (Whole bytes) call e = form-stays (form_of bytes) call e
 
@@ -54,7 +54,7 @@ abbrev split : List ℕ → Option (List ℕ × List ℕ)
 split [] = None
 split (b ∷ bs) = if b == 32 then Some ([], bs) else option_map (λ p. (b ∷ p.0, p.1)) (split bs)
 
-ends-is_bye : (line : LineText) → request true line ≡ Ends → is_bye line ≡ true
+pub ends-is_bye : (line : LineText) → request true line ≡ Ends → is_bye line ≡ true
 ends-is_bye line e = grind (arith, by-bye, seated-ends)
 
 -- before a tenant is there, the only call is HELLO
@@ -76,7 +76,7 @@ early line = grind (arith, form-early)
 
 -- ---- only the last line may be BYE
 
-abbrev EndsAtBye : List LineText → Type 0
+abbrev pub EndsAtBye : List LineText → Type 0
 EndsAtBye [] = Unit {0}
 EndsAtBye (line ∷ lines) = (is_bye line ≡ true → lines ≡ []) × EndsAtBye lines
 
@@ -101,7 +101,7 @@ module _ (begun : HallOf) where
   abbrev Led : OfficeOf → List (Call × OfficeReply) → OfficeOf → Type 0
   Led from calls to = Leads (Called (IsTurnAt begun)) from calls to
 
-  stays-seated : (call : Call) (reply : OfficeReply) → is_stay call ≡ true → IsOfficeReplyTo call reply → seated_after true reply ≡ true
+  pub stays-seated : (call : Call) (reply : OfficeReply) → is_stay call ≡ true → IsOfficeReplyTo call reply → seated_after true reply ≡ true
   stays-seated call reply stays to = grind arith
 
   -- these calls are made for a tenant that is there, and it leaves by the last

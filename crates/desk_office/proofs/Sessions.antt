@@ -3,7 +3,7 @@ use Rattle.desk_office.proofs.Common.{◌≡◌, List, [], ◌∷◌, Option, No
 use Rattle.desk_office.proofs.OneTenant.{answered-ends, one-tenant}
 
 -- the asks are kept by each call
-kept : (begun : HallOf) (from : OfficeOf) (made : List (Call × OfficeReply)) (to : OfficeOf) → Leads (Called (IsTurnAt begun)) from made to → Leads (Called KeepsAsks) (asks_of from.seat) made (asks_of to.seat)
+pub kept : (begun : HallOf) (from : OfficeOf) (made : List (Call × OfficeReply)) (to : OfficeOf) → Leads (Called (IsTurnAt begun)) from made to → Leads (Called KeepsAsks) (asks_of from.seat) made (asks_of to.seat)
 kept begun from [] to h = ap (λ (o : OfficeOf). asks_of o.seat) h
 kept begun from (made ∷ more) to h = (asks_of h.0.seat, h.1.1, kept begun h.0 more to h.2)
 

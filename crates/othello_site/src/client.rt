@@ -8,6 +8,7 @@ use crate::site_environment::SiteEnvironment;
 use crate::telling::{address_text, log_refusal};
 use line_io::{LineFault, TalkEnd};
 use site_book::{Told, Who};
+use site_desk::SiteNaming;
 use site_file::Address;
 use site_office::{SiteOffice, serve_connection};
 use site_rules::{Arrival, Caller, Port, Times, identify};
@@ -38,9 +39,9 @@ fn millis(seconds: u32) -> u64 {
 }
 
 /// Whose a connection is that begins with these bytes.
-fn identified<R: Wait>(
+fn identified<J: SiteNaming, R: Wait>(
     rt: &R,
-    shared: &Shared,
+    shared: &Shared<J>,
     port: Port,
     bytes: &[u8],
     peer: Address,
@@ -65,12 +66,12 @@ fn identified<R: Wait>(
 }
 
 /// Reads until it is known whose the connection is; `None` where it is to be closed.
-fn greet<R: Clock + Wait>(
+fn greet<J: SiteNaming, R: Clock + Wait>(
     rt: &R,
     alloc: Global,
-    shared: &Shared,
+    shared: &Shared<J>,
     port: Port,
-    source: &mut Incoming<'_, R>,
+    source: &mut Incoming<'_, J, R>,
     peer: Address,
 ) -> Option<KnownClient> {
     for _ in 0..MOST_BYTES {
@@ -96,10 +97,10 @@ fn greet<R: Clock + Wait>(
 }
 
 /// Counts a connection that is refused, and says it.
-fn refuse<R: Clock + Wait>(
+fn refuse<J: SiteNaming, R: Clock + Wait>(
     rt: &R,
     alloc: Global,
-    shared: &Shared,
+    shared: &Shared<J>,
     address: Address,
     who: Option<Who>,
     place: usize,
@@ -115,7 +116,7 @@ fn refuse<R: Clock + Wait>(
 }
 
 /// How long connections may be silent, and take for a byte.
-fn times_of<R: Wait>(rt: &R, shared: &Shared) -> (Times, u64) {
+fn times_of<J: SiteNaming, R: Wait>(rt: &R, shared: &Shared<J>) -> (Times, u64) {
     let register = shared.register(rt);
     let limits = register.config.limits;
     let times = Times {
@@ -136,10 +137,10 @@ fn names_of(
 }
 
 /// Serves one connection.
-pub(crate) fn serve_client<R: Clock + Wait>(
+pub(crate) fn serve_client<J: SiteNaming, R: Clock + Wait>(
     rt: &R,
     alloc: Global,
-    shared: &Shared,
+    shared: &Shared<J>,
     stream: TcpStream,
     port: Port,
 ) -> Option<()> {
@@ -185,13 +186,13 @@ pub(crate) fn serve_client<R: Clock + Wait>(
 }
 
 /// Takes a connection in whose customer is known, if there is a place for it, and serves it.
-fn receive<R: Clock + Wait>(
+fn receive<J: SiteNaming, R: Clock + Wait>(
     rt: &R,
     alloc: Global,
-    shared: &Shared,
+    shared: &Shared<J>,
     talk: &TalkState,
-    source: &mut Incoming<'_, R>,
-    sink: &mut Outgoing<'_, R>,
+    source: &mut Incoming<'_, J, R>,
+    sink: &mut Outgoing<'_, J, R>,
     stream: Arc<TcpStream, Global>,
     known: KnownClient,
 ) {
@@ -276,11 +277,11 @@ fn word_told(told: Option<Told>, other: &'static str) -> &'static str {
 }
 
 /// Says the session's line of the log, if there was a session.
-fn tell_end<R: Clock + Wait>(
+fn tell_end<J: SiteNaming, R: Clock + Wait>(
     rt: &R,
     alloc: Global,
-    shared: &Shared,
-    environment: &SiteEnvironment<'_, R>,
+    shared: &Shared<J>,
+    environment: &SiteEnvironment<'_, J, R>,
     end: &str,
 ) {
     let Some((number, who)) = environment.session else {

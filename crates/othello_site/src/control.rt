@@ -7,6 +7,7 @@ use crate::telling::stats_of;
 use crate::visits::{PAUSE_MILLIS, Shut};
 use crate::watching::{shut_told, tell};
 use site_book::{Group, Told, Who, Whom};
+use site_desk::SiteNaming;
 use site_file::Address;
 use site_rules::{Command, Whose, read_command};
 use std::alloc::{AllocError, Global};
@@ -25,9 +26,9 @@ const USAGE: &str =
     "ERR STATS, END CUSTOMER name, END ADDRESS address, END SESSION hall number, DRAIN seconds, RELOAD or RELOAD END\n";
 
 /// Reads the file again. The text says OK, or why all stays as it is.
-fn reloaded<R: Paths + AllocGlobal + Clock + Wait>(
+fn reloaded<J: SiteNaming, R: Paths + AllocGlobal + Clock + Wait>(
     rt: &R,
-    shared: &Shared,
+    shared: &Shared<J>,
     ends: bool,
 ) -> Result<String, AllocError> {
     let alloc = rt.alloc();
@@ -57,9 +58,9 @@ fn reloaded<R: Paths + AllocGlobal + Clock + Wait>(
 }
 
 /// Nobody else comes, and those who are there have so many seconds.
-fn drain<R: AllocGlobal + Clock + Wait>(
+fn drain<J: SiteNaming, R: AllocGlobal + Clock + Wait>(
     rt: &R,
-    shared: &Shared,
+    shared: &Shared<J>,
     millis: u64,
 ) -> Result<String, AllocError> {
     let until = shared.now(rt).saturating_add(millis);
@@ -79,7 +80,7 @@ fn address_in(text: &[u8]) -> Option<Address> {
 }
 
 /// The customer of this name.
-fn customer_of<R: Wait>(rt: &R, shared: &Shared, name: &[u8]) -> Option<Who> {
+fn customer_of<J: SiteNaming, R: Wait>(rt: &R, shared: &Shared<J>, name: &[u8]) -> Option<Who> {
     let register = shared.register(rt);
     for (number, terms) in register.config.directory.customers.iter().enumerate() {
         if terms.name.as_bytes() == name {
@@ -90,7 +91,7 @@ fn customer_of<R: Wait>(rt: &R, shared: &Shared, name: &[u8]) -> Option<Who> {
 }
 
 /// Tells a part's sessions of all halls to end, and returns how many these are.
-fn tell_all<R: Wait>(rt: &R, shared: &Shared, part: Group) -> u64 {
+fn tell_all<J: SiteNaming, R: Wait>(rt: &R, shared: &Shared<J>, part: Group) -> u64 {
     let mut many: u64 = 0;
     for hall in 0..shared.desks.len() {
         let told = tell(rt, shared, hall, Whom::Each(part), Told::ByOperator);
@@ -100,9 +101,9 @@ fn tell_all<R: Wait>(rt: &R, shared: &Shared, part: Group) -> u64 {
 }
 
 /// Tells the sessions of an address to end, whosesoever they are, and those of the guest that comes from there. Returns how many these are.
-fn tell_address<R: AllocGlobal + Wait>(
+fn tell_address<J: SiteNaming, R: AllocGlobal + Wait>(
     rt: &R,
-    shared: &Shared,
+    shared: &Shared<J>,
     address: Address,
 ) -> Result<u64, AllocError> {
     let there = shared.register(rt).sessions_from(rt.alloc(), address)?;
@@ -115,9 +116,9 @@ fn tell_address<R: AllocGlobal + Wait>(
 }
 
 /// Ends sessions, and says how many.
-fn end<R: AllocGlobal + Wait>(
+fn end<J: SiteNaming, R: AllocGlobal + Wait>(
     rt: &R,
-    shared: &Shared,
+    shared: &Shared<J>,
     whose: Whose<'_>,
 ) -> Result<String, AllocError> {
     let many = match whose {
@@ -146,9 +147,9 @@ fn end<R: AllocGlobal + Wait>(
 }
 
 /// The answer to a command.
-fn answer<R: Paths + AllocGlobal + Clock + Wait>(
+fn answer<J: SiteNaming, R: Paths + AllocGlobal + Clock + Wait>(
     rt: &R,
-    shared: &Shared,
+    shared: &Shared<J>,
     command: Command<'_>,
 ) -> Result<String, AllocError> {
     match command {
@@ -161,9 +162,9 @@ fn answer<R: Paths + AllocGlobal + Clock + Wait>(
 }
 
 /// Answers one connection.
-fn converse<R: Paths + AllocGlobal + Clock + Wait>(
+fn converse<J: SiteNaming, R: Paths + AllocGlobal + Clock + Wait>(
     rt: &R,
-    shared: &Shared,
+    shared: &Shared<J>,
     stream: &UnixStream,
 ) -> Option<()> {
     let limit = Some(Duration::from_secs(COMMAND_SECS));
@@ -191,7 +192,7 @@ fn converse<R: Paths + AllocGlobal + Clock + Wait>(
 }
 
 /// Logs a command: `?` stands for a quote, a backslash, and each byte that isn't printable ASCII.
-fn log_command<R: AllocGlobal + Wait>(rt: &R, shared: &Shared, line: &[u8]) {
+fn log_command<J: SiteNaming, R: AllocGlobal + Wait>(rt: &R, shared: &Shared<J>, line: &[u8]) {
     let mut out = String::new(rt.alloc());
     let _ = push_command(&mut out, line);
     shared.log.say(rt, out.as_str());
@@ -212,9 +213,9 @@ fn push_command(out: &mut String, line: &[u8]) -> Result<(), AllocError> {
 }
 
 /// Takes connections, which other threads answer ([`answer_control`]).
-pub(crate) fn serve_control<R: Clock + AllocGlobal + Wait>(
+pub(crate) fn serve_control<J: SiteNaming, R: Clock + AllocGlobal + Wait>(
     rt: &R,
-    shared: &Shared,
+    shared: &Shared<J>,
     listener: UnixListener,
 ) {
     for stream in listener.incoming() {
@@ -228,7 +229,10 @@ pub(crate) fn serve_control<R: Clock + AllocGlobal + Wait>(
 }
 
 /// Answers one connection after another, for ever.
-pub(crate) fn answer_control<R: Clock + Paths + AllocGlobal + Wait>(rt: &R, shared: &Shared) {
+pub(crate) fn answer_control<J: SiteNaming, R: Clock + Paths + AllocGlobal + Wait>(
+    rt: &R,
+    shared: &Shared<J>,
+) {
     for _ in rt.forever() {
         if let Some(stream) = shared.operators.next(rt) {
             let _ = converse(rt, shared, &stream);

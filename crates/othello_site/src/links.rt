@@ -3,6 +3,7 @@ ghost use Rattle.std.specs.Prelude.{◌≤◌, length, IfSome};
 
 use crate::shared::Shared;
 use line_io::{LF, ReadFailed, Sink, Source, WriteFailed};
+use site_desk::SiteNaming;
 use site_rules::{Pace, Times, paid_with, pause};
 use std::alloc::Global;
 use std::cell::Cell;
@@ -105,9 +106,9 @@ pub(crate) fn is_interrupted(error: &Error) -> bool {
 
 /// The bytes of a connection.
 #[derive(Drop)]
-pub(crate) struct Incoming<'a, R> {
+pub(crate) struct Incoming<'a, J: SiteNaming, R> {
     pub(crate) rt: &'a R,
-    pub(crate) shared: &'a Shared,
+    pub(crate) shared: &'a Shared<J>,
     pub(crate) stream: Arc<TcpStream, Global>,
     pub(crate) talk: &'a TalkState,
     pub(crate) times: Times,
@@ -117,7 +118,7 @@ pub(crate) struct Incoming<'a, R> {
     pub(crate) given: usize,
 }
 
-impl<R: Clock> Incoming<'_, R> {
+impl<J: SiteNaming, R: Clock> Incoming<'_, J, R> {
     /// Reads a block, as long as it may take. None at a failure, and where it takes longer.
     pub(crate) fn read(&mut self, block: &mut [u8]) -> Option<usize>
         ensures { IfSome result (λ n. n ≤ length block.new) }
@@ -187,7 +188,7 @@ impl<R: Clock> Incoming<'_, R> {
     }
 }
 
-impl<R: Clock> Source for Incoming<'_, R> {
+impl<J: SiteNaming, R: Clock> Source for Incoming<'_, J, R> {
     ghost gives = { λ _ _ _. Unit {0} };
 
     fn fill(&mut self, block: &mut [u8]) -> Result<usize, ReadFailed> {
@@ -215,15 +216,15 @@ impl<R: Clock> Source for Incoming<'_, R> {
 
 /// What goes to a connection.
 #[derive(Drop)]
-pub(crate) struct Outgoing<'a, R> {
+pub(crate) struct Outgoing<'a, J: SiteNaming, R> {
     pub(crate) rt: &'a R,
-    pub(crate) shared: &'a Shared,
+    pub(crate) shared: &'a Shared<J>,
     pub(crate) stream: Arc<TcpStream, Global>,
     /// Milliseconds in which an answer is taken.
     pub(crate) limit: u64,
 }
 
-impl<R: Clock> Sink for Outgoing<'_, R> {
+impl<J: SiteNaming, R: Clock> Sink for Outgoing<'_, J, R> {
     ghost takes = { λ _ _ _. Unit {0} };
 
     fn put(&mut self, bytes: &[u8]) -> Result<usize, WriteFailed> {

@@ -4,6 +4,7 @@ use crate::counts::{DESCRIPTOR, FULL, THREAD};
 use crate::ending::Why;
 use crate::shared::Shared;
 use crate::telling::{log_refusal, log_shortage};
+use site_desk::SiteNaming;
 use site_file::Address;
 use site_rules::Port;
 use std::alloc::Global;
@@ -18,11 +19,11 @@ use tcp_server::tcp_door::Door;
 const STACK: usize = 256 << 10;
 
 /// Serves this connection in a thread of its own. Where there are too many, or no thread can be had, it is closed.
-fn start<'s, E, R>(
+fn start<'s, J: SiteNaming + Send + Sync, E, R>(
     scope: &'s Scope<'s, E>,
     rt: &'s R,
     alloc: Global,
-    shared: &'s Shared,
+    shared: &'s Shared<J>,
     stream: TcpStream,
     port: Port,
 )
@@ -48,10 +49,10 @@ where
 }
 
 /// Counts a connection that was closed at once, and says it.
-fn turn_away<R: Clock + Wait>(
+fn turn_away<J: SiteNaming, R: Clock + Wait>(
     rt: &R,
     alloc: Global,
-    shared: &Shared,
+    shared: &Shared<J>,
     peer: io::Result<SocketAddr>,
     place: usize,
 ) {
@@ -64,11 +65,11 @@ fn turn_away<R: Clock + Wait>(
 
 /// Takes connections until the listener fails. A shortage of descriptors or of threads closes connections, which is counted and said, and
 /// ends nothing.
-pub(crate) fn take_all<'s, E, R>(
+pub(crate) fn take_all<'s, J: SiteNaming + Send + Sync, E, R>(
     scope: &'s Scope<'s, E>,
     rt: &'s R,
     alloc: Global,
-    shared: &'s Shared,
+    shared: &'s Shared<J>,
     listener: TcpListener,
     port: Port,
 )

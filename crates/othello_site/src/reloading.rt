@@ -3,6 +3,7 @@ use crate::paths::Paths;
 use crate::shared::Shared;
 use crate::watching::shut_told;
 use site_book::{Amount, Group, Plan, Who};
+use site_desk::SiteNaming;
 use site_file::{FileFault, SiteConfig, amount_text, read_config_again};
 use site_rules::{connections_within, plan_of_both};
 use std::alloc::{AllocError, Global};
@@ -77,9 +78,9 @@ pub(crate) fn lower(config: &mut SiteConfig, descriptors: Option<u64>) -> bool {
 
 /// Goes on by the file, as it is now, where all that is out is within it. At `ends` those who are beyond it are told to end first.
 /// One at a time: who is new in a file gets the next number that nobody has, which two at once would both give.
-pub(crate) fn reload<R: Paths + AllocGlobal + Clock + Wait>(
+pub(crate) fn reload<J: SiteNaming, R: Paths + AllocGlobal + Clock + Wait>(
     rt: &R,
-    shared: &Shared,
+    shared: &Shared<J>,
     ends: bool,
 ) -> Result<(), Unread> {
     if shared.path.is_empty() {
@@ -143,7 +144,7 @@ fn change_of(alloc: Global, now: &SiteConfig, config: &SiteConfig) -> Result<Pla
 }
 
 /// Tells those to end who don't stay under another plan, and waits a little until they have left.
-fn end_beyond<R: Clock + Wait>(rt: &R, shared: &Shared, config: &SiteConfig) {
+fn end_beyond<J: SiteNaming, R: Clock + Wait>(rt: &R, shared: &Shared<J>, config: &SiteConfig) {
     for (hall, desk) in shared.desks.iter().enumerate() {
         if let Some(plan) = config.halls.get(hall) {
             desk.tell_by(rt, plan);
@@ -158,9 +159,9 @@ fn end_beyond<R: Clock + Wait>(rt: &R, shared: &Shared, config: &SiteConfig) {
 }
 
 /// Has all halls and the directory go by another file, or none. Nobody is met meanwhile.
-fn go_by<R: AllocGlobal + Wait>(
+fn go_by<J: SiteNaming, R: AllocGlobal + Wait>(
     rt: &R,
-    shared: &Shared,
+    shared: &Shared<J>,
     config: SiteConfig,
     change: PlanChange,
 ) -> Result<(), Unread> {
@@ -188,7 +189,12 @@ fn go_by<R: AllocGlobal + Wait>(
 }
 
 /// Has each hall go by what both files allow. Where one has more out, all before it go by what they went by; that one's number.
-fn go_between<R: Wait>(rt: &R, shared: &Shared, plans: Vec<Plan>, was: Vec<Plan>) -> Option<usize> {
+fn go_between<J: SiteNaming, R: Wait>(
+    rt: &R,
+    shared: &Shared<J>,
+    plans: Vec<Plan>,
+    was: Vec<Plan>,
+) -> Option<usize> {
     let mut was = was;
     let mut hall: usize = 0;
     for plan in plans {
@@ -209,7 +215,7 @@ fn go_between<R: Wait>(rt: &R, shared: &Shared, plans: Vec<Plan>, was: Vec<Plan>
 }
 
 /// Has the halls go by these plans, from the first on, within which all is that is out.
-fn go_all<R: Wait>(rt: &R, shared: &Shared, plans: Vec<Plan>) {
+fn go_all<J: SiteNaming, R: Wait>(rt: &R, shared: &Shared<J>, plans: Vec<Plan>) {
     let mut hall: usize = 0;
     for plan in plans {
         if let Some(desk) = shared.desks.get(hall) {
@@ -220,9 +226,9 @@ fn go_all<R: Wait>(rt: &R, shared: &Shared, plans: Vec<Plan>) {
 }
 
 /// Who has more than a plan allows, and by how much: a line for each session.
-fn over_text<R: AllocGlobal + Wait>(
+fn over_text<J: SiteNaming, R: AllocGlobal + Wait>(
     rt: &R,
-    shared: &Shared,
+    shared: &Shared<J>,
     hall: usize,
     plan: &Plan,
 ) -> Result<String, AllocError> {

@@ -4,6 +4,7 @@
 //! that it is told why the site ends ([`Ending`]). Then the program ends at once, and its sessions with it, so that whoever supervises it can
 //! start it again.
 ghost use Rattle.std.specs.Prelude.{◌≡◌, IfSome};
+ghost use Rattle.site_desk.specs.Stocks.{AreStocked};
 
 use crate::control::{answer_control, serve_control};
 use crate::ending::{Ending, Unheard, Why};
@@ -20,16 +21,18 @@ use fair_share::FairShare;
 use hall::{Config as Totals, Hall};
 use sched_rules::Worker;
 use site_book::{CustomerBook, Plan};
-use site_desk::{BookedHall, SiteDesk};
+use site_desk::{SiteDesk, SiteNaming, SiteStock, desks_of};
 use site_file::SiteConfig;
 use site_rules::Port;
 use std::alloc::{AllocError, Global};
 use std::io;
+use std::marker::Brand;
 use std::net::{Net, SocketAddr, TcpListener, TcpStream};
 use std::os::unix::net::UnixListener;
 use std::sync::{Arc, Mutex, Wait};
 use std::thread::{self, Builder, Scope, Threads};
 use std::time::{Clock, Instant};
+use steal_pool::desk::Opened;
 use steal_pool::{OpenGate, Order, PoolConfig, Quiet, run_pool_announced};
 
 /// Where a site listens.
@@ -43,8 +46,8 @@ struct Listeners {
 
 /// What a site serves with.
 #[derive(Drop)]
-struct SiteService {
-    shared: Shared,
+struct SiteService<J: SiteNaming> {
+    shared: Shared<J>,
     listeners: Listeners,
     workers: u8,
 }
@@ -121,36 +124,38 @@ fn totals_of(plan: &Plan) -> Option<Totals>
 /// How many customers may be new in files that are read later, whose shares outlive their sessions.
 const LATER: usize = 4_096;
 
-/// A desk for a hall with this plan of so many named customers; `None` where there is no such hall.
-fn desk_of(
+/// What the desk of a hall with this plan of so many named customers is made of; `None` where there is no such hall.
+fn stock_of(
     alloc: Global,
     plan: Plan,
     customers: usize,
     grain: u8,
-) -> Result<Option<SiteDesk>, AllocError> {
+) -> Result<Option<SiteStock>, AllocError> {
     let Some(totals) = totals_of(&plan) else {
         return Ok(None);
     };
     let hall = Hall::new(alloc, totals, grain.min(6))?;
     let book = CustomerBook::new(alloc, plan)?;
     let shares = FairShare::new(alloc, customers.saturating_add(LATER))?;
-    Ok(Some(SiteDesk::new(BookedHall::new(hall, book), shares)))
+    let opened = Opened::new(alloc)?;
+    let granted = Opened::new(alloc)?;
+    Ok(Some(SiteStock::new(hall, book, shares, opened, granted)))
 }
 
-/// The desks of a site, one for each plan; `None` where one's totals are beyond any hall's.
-fn desks_of(alloc: Global, config: &SiteConfig) -> Result<Option<Vec<SiteDesk>>, AllocError> {
-    let mut desks = Vec::new(alloc);
+/// What the desks of a site are made of, one for each plan; `None` where one's totals are beyond any hall's.
+fn stocks_of(alloc: Global, config: &SiteConfig) -> Result<Option<Vec<SiteStock>>, AllocError> {
+    let mut stocks = Vec::new(alloc);
     for plan in &config.halls {
         let customers = config.directory.customers.len();
         let Some(plan) = copied(alloc, plan, customers)? else {
             return Ok(None);
         };
-        match desk_of(alloc, plan, customers, config.workers.grain)? {
-            Some(desk) => desks.push(desk)?,
+        match stock_of(alloc, plan, customers, config.workers.grain)? {
+            Some(stock) => stocks.push(stock)?,
             None => return Ok(None),
         }
     }
-    Ok(Some(desks))
+    Ok(Some(stocks))
 }
 
 /// How many workers a hall has.
@@ -164,22 +169,19 @@ fn workers_of<R: Threads>(rt: &R, config: &SiteConfig) -> u8 {
     }
 }
 
-/// What the threads share, where nobody is there; `None` where a hall's totals are beyond any hall's.
-fn shared_of<R: Clock + Paths + AllocGlobal>(
+/// What the threads share, where nobody is there.
+fn shared_of<J: SiteNaming, R: Clock + Paths + AllocGlobal>(
     rt: &R,
-    path: &str,
+    path: String,
     config: SiteConfig,
+    desks: Vec<SiteDesk<J>>,
     ending: Arc<Ending, Global>,
-) -> io::Result<Option<Shared>> {
+) -> io::Result<Shared<J>> {
     let alloc = rt.alloc();
     let start = Some(Instant::now(rt)?);
-    let Some(desks) = desks_of(alloc, &config)? else {
-        return Ok(None);
-    };
     let grain = config.workers.grain;
-    let path = String::from_str(alloc, path)?;
     let config = Arc::new(alloc, config)?;
-    Ok(Some(Shared {
+    Ok(Shared {
         desks,
         grain,
         lock: Mutex::new(Register::new(alloc, config)),
@@ -191,7 +193,7 @@ fn shared_of<R: Clock + Paths + AllocGlobal>(
         web: Visits::new(alloc),
         operators: Visits::new(alloc),
         ending,
-    }))
+    })
 }
 
 /// Listens as a file says, and serves until it is told why the site ends; `None` where a hall's totals are beyond any hall's.
@@ -210,17 +212,46 @@ where
         + Sync
         + 'static,
 {
-    let workers = workers_of(rt, &config);
     let listeners = match listeners_of(rt, &config) {
         Ok(listeners) => listeners,
         Err(fault) => return Ok(Some(Why::Unheard(fault))),
     };
+    let path = String::from_str(rt.alloc(), path)?;
+    match stocks_of(rt.alloc(), &config)? {
+        Some(stocks) => serve_halls::<Brand, R>(rt, path, config, listeners, stocks),
+        None => Ok(None),
+    }
+}
+
+/// Serves at desks that are made of these until it is told why the site ends.
+fn serve_halls<J, R>(
+    rt: &R,
+    path: String,
+    config: SiteConfig,
+    listeners: Listeners,
+    stocks: Vec<SiteStock>,
+) -> io::Result<Option<Why>>
+where
+    J: SiteNaming + Send + Sync + 'static,
+    R: Net<Listener = TcpListener, Stream = TcpStream>
+        + Threads
+        + Wait
+        + Clock
+        + Paths
+        + Print
+        + Eprint
+        + AllocGlobal
+        + Copy
+        + Send
+        + Sync
+        + 'static,
+    requires { AreStocked (record { table = J.table; begun = J.begun; granted = J.granted; plan = J.plan }) 0 stocks.items }
+{
+    let workers = workers_of(rt, &config);
     let (ending, theirs) = endings(rt.alloc())?;
-    let Some(shared) = shared_of(rt, path, config, theirs)? else {
-        return Ok(None);
-    };
+    let desks = desks_of::<J, Global>(rt.alloc(), stocks)?;
     let site = SiteService {
-        shared,
+        shared: shared_of(rt, path, config, desks, theirs)?,
         listeners,
         workers,
     };
@@ -246,10 +277,10 @@ fn say_listening<R: Print>(rt: &R, listener: &Option<TcpListener>) {
 }
 
 /// Runs the workers of a hall, until its desk is closed.
-fn run_workers<R: Threads + Wait + Sync>(
+fn run_workers<J: SiteNaming + Send + Sync, R: Threads + Wait + Sync>(
     rt: &R,
     alloc: Global,
-    shared: &Shared,
+    shared: &Shared<J>,
     hall: usize,
     workers: u8,
 ) {
@@ -270,11 +301,11 @@ fn run_workers<R: Threads + Wait + Sync>(
 }
 
 /// Starts the workers of a hall, in a thread of their own.
-fn start_hall<'s, E, R: Threads + Wait + Sync>(
+fn start_hall<'s, J: SiteNaming + Send + Sync, E, R: Threads + Wait + Sync>(
     scope: &'s Scope<'s, E>,
     rt: &'s R,
     alloc: Global,
-    shared: &'s Shared,
+    shared: &'s Shared<J>,
     hall: usize,
     workers: u8,
 ) {
@@ -282,11 +313,11 @@ fn start_hall<'s, E, R: Threads + Wait + Sync>(
 }
 
 /// Starts the workers of all halls.
-fn start_workers<'s, E, R: Threads + Wait + Sync>(
+fn start_workers<'s, J: SiteNaming + Send + Sync, E, R: Threads + Wait + Sync>(
     scope: &'s Scope<'s, E>,
     rt: &'s R,
     alloc: Global,
-    shared: &'s Shared,
+    shared: &'s Shared<J>,
     workers: u8,
 ) {
     for hall in 0..shared.desks.len() {
@@ -295,11 +326,11 @@ fn start_workers<'s, E, R: Threads + Wait + Sync>(
 }
 
 /// Starts taking connections at a port, if the site listens there.
-fn start_port<'s, E, R>(
+fn start_port<'s, J: SiteNaming + Send + Sync, E, R>(
     scope: &'s Scope<'s, E>,
     rt: &'s R,
     alloc: Global,
-    shared: &'s Shared,
+    shared: &'s Shared<J>,
     listener: Option<TcpListener>,
     port: Port,
 )
@@ -312,12 +343,12 @@ where
 }
 
 /// Starts what answers the operator.
-fn start_control<'s, E, R: Threads + Wait + Clock + Paths + AllocGlobal + Sync>(
-    scope: &'s Scope<'s, E>,
-    rt: &'s R,
-    shared: &'s Shared,
-    listener: UnixListener,
-) {
+fn start_control<
+    's,
+    J: SiteNaming + Send + Sync,
+    E,
+    R: Threads + Wait + Clock + Paths + AllocGlobal + Sync,
+>(scope: &'s Scope<'s, E>, rt: &'s R, shared: &'s Shared<J>, listener: UnixListener) {
     for _ in 0..HOSTS {
         let _ = scope.spawn(move || answer_control(rt, shared));
     }
@@ -325,10 +356,10 @@ fn start_control<'s, E, R: Threads + Wait + Clock + Paths + AllocGlobal + Sync>(
 }
 
 /// Starts what says health and metrics.
-fn start_web<'s, E, R: Threads + Wait + Clock + AllocGlobal + Sync>(
+fn start_web<'s, J: SiteNaming + Send + Sync, E, R: Threads + Wait + Clock + AllocGlobal + Sync>(
     scope: &'s Scope<'s, E>,
     rt: &'s R,
-    shared: &'s Shared,
+    shared: &'s Shared<J>,
     listener: TcpListener,
 ) {
     for _ in 0..HOSTS {
@@ -338,7 +369,7 @@ fn start_web<'s, E, R: Threads + Wait + Clock + AllocGlobal + Sync>(
 }
 
 /// Starts all threads of a site.
-fn serve_site<R>(rt: &R, site: SiteService)
+fn serve_site<J: SiteNaming + Send + Sync, R>(rt: &R, site: SiteService<J>)
 where
     R: Net<Listener = TcpListener, Stream = TcpStream>
         + Threads
@@ -355,6 +386,27 @@ where
         listeners,
         workers,
     } = site;
+    serve_threads(rt, &shared, listeners, workers);
+}
+
+/// Starts all threads of a site, and waits for them.
+fn serve_threads<J: SiteNaming + Send + Sync, R>(
+    rt: &R,
+    shared: &Shared<J>,
+    listeners: Listeners,
+    workers: u8,
+)
+where
+    R: Net<Listener = TcpListener, Stream = TcpStream>
+        + Threads
+        + Wait
+        + Clock
+        + Paths
+        + Print
+        + Eprint
+        + AllocGlobal
+        + Sync,
+{
     let Listeners {
         plain,
         proxied,
@@ -363,7 +415,6 @@ where
     } = listeners;
     say_listening(rt, &plain);
     say_listening(rt, &proxied);
-    let shared = &shared;
     thread::scope(thread::scope_env(), rt, |scope| {
         start_workers(scope, rt, rt.alloc(), shared, workers);
         let _ = scope.spawn(move || shared.log.write_all(rt, rt.alloc()));

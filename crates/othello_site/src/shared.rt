@@ -3,7 +3,7 @@ use crate::ending::Ending;
 use crate::logging::Log;
 use crate::register::Register;
 use crate::visits::Visits;
-use site_desk::SiteDesk;
+use site_desk::{SiteDesk, SiteNaming};
 use std::alloc::Global;
 use std::net::TcpStream;
 use std::os::unix::net::UnixStream;
@@ -13,9 +13,9 @@ use std::time::{Clock, Duration, Instant};
 
 /// What all threads share.
 #[derive(Drop)]
-pub(crate) struct Shared {
+pub(crate) struct Shared<J: SiteNaming> {
     /// The desk of each hall.
-    pub(crate) desks: Vec<SiteDesk>,
+    pub(crate) desks: Vec<SiteDesk<J>>,
     /// The depth of the leaves that workers compute.
     pub(crate) grain: u8,
     /// What connections share beside the desks; taken by [`Shared::register`] alone.
@@ -41,7 +41,7 @@ pub(crate) struct Shared {
 /// Microseconds between two tries to take what connections share.
 const NAP_MICROS: u64 = 50;
 
-impl Shared {
+impl<J: SiteNaming> Shared<J> {
     /// What connections share, for this thread alone. It tries again and again, and naps in between. It never sleeps on the lock: a
     /// thread that does is handed it, and until that thread runs nobody else can take it. Where all processors are busy that takes
     /// milliseconds, and each connection takes it some ten times.

@@ -4,6 +4,7 @@ use crate::links::TalkState;
 use crate::shared::Shared;
 use crate::telling::log_refusal;
 use site_book::{Group, Told, Who};
+use site_desk::SiteNaming;
 use site_file::Address;
 use site_office::{Cause, Environment, Identity, Note};
 use site_rules::HallRoom;
@@ -14,10 +15,10 @@ use std::time::Clock;
 
 /// The environment of a connection's office.
 #[derive(Drop)]
-pub(crate) struct SiteEnvironment<'a, R> {
+pub(crate) struct SiteEnvironment<'a, J: SiteNaming, R> {
     pub(crate) rt: &'a R,
     pub(crate) alloc: Global,
-    pub(crate) shared: &'a Shared,
+    pub(crate) shared: &'a Shared<J>,
     pub(crate) stream: Arc<TcpStream, Global>,
     pub(crate) talk: &'a TalkState,
     /// Whose the connection is, and where it comes from.
@@ -37,7 +38,7 @@ pub(crate) struct SiteEnvironment<'a, R> {
     pub(crate) asked: u64,
 }
 
-impl<R: Clock + Wait> SiteEnvironment<'_, R> {
+impl<J: SiteNaming, R: Clock + Wait> SiteEnvironment<'_, J, R> {
     /// Its session has begun.
     fn begin(&mut self, number: u64, who: Who) {
         let took = self.shared.micros(self.rt).saturating_sub(self.asked);
@@ -121,7 +122,7 @@ impl<R: Clock + Wait> SiteEnvironment<'_, R> {
     }
 }
 
-impl<R: Clock + Wait> Environment for SiteEnvironment<'_, R> {
+impl<J: SiteNaming, R: Clock + Wait> Environment for SiteEnvironment<'_, J, R> {
     fn now(&self) -> u64 {
         self.shared.now(self.rt)
     }

@@ -2,6 +2,7 @@
 use crate::counts::{BOUNDS, Buckets, Counts, NAMES, name_at};
 use crate::shared::Shared;
 use site_book::{Amount, Group, Who};
+use site_desk::SiteNaming;
 use site_file::Address;
 use std::alloc::{AllocError, Global};
 use std::fmt::Write;
@@ -28,10 +29,10 @@ pub(crate) fn address_text(alloc: Global, address: Address) -> Result<String, Al
 
 /// Says why somebody was refused, and as which customer if that is known; unless too many were in this second by this reason, or from
 /// this address.
-pub(crate) fn log_refusal<R: Clock + Wait>(
+pub(crate) fn log_refusal<J: SiteNaming, R: Clock + Wait>(
     rt: &R,
     alloc: Global,
-    shared: &Shared,
+    shared: &Shared<J>,
     address: Address,
     who: Option<Who>,
     place: usize,
@@ -46,10 +47,10 @@ pub(crate) fn log_refusal<R: Clock + Wait>(
 }
 
 /// The line of a refusal.
-fn refusal_line<R: Wait>(
+fn refusal_line<J: SiteNaming, R: Wait>(
     rt: &R,
     alloc: Global,
-    shared: &Shared,
+    shared: &Shared<J>,
     address: Address,
     who: Option<Who>,
     place: usize,
@@ -69,7 +70,12 @@ fn refusal_line<R: Wait>(
 }
 
 /// Says that a connection was closed whose address isn't known, unless too many were in this second.
-pub(crate) fn log_shortage<R: Clock + Wait>(rt: &R, alloc: Global, shared: &Shared, place: usize) {
+pub(crate) fn log_shortage<J: SiteNaming, R: Clock + Wait>(
+    rt: &R,
+    alloc: Global,
+    shared: &Shared<J>,
+    place: usize,
+) {
     if !shared.log.has_room(rt, shared.now(rt) / 1_000, place, None) {
         return;
     }
@@ -80,9 +86,9 @@ pub(crate) fn log_shortage<R: Clock + Wait>(rt: &R, alloc: Global, shared: &Shar
 }
 
 /// The answer to STATS: a line for each hall, for the guests and each customer of it that is there, and for each session, and an empty one.
-pub(crate) fn stats_of<R: AllocGlobal + Clock + Wait>(
+pub(crate) fn stats_of<J: SiteNaming, R: AllocGlobal + Clock + Wait>(
     rt: &R,
-    shared: &Shared,
+    shared: &Shared<J>,
 ) -> Result<String, AllocError> {
     let mut out = String::new(rt.alloc());
     let (all, extra) = {
@@ -108,9 +114,9 @@ fn push_amounts(out: &mut String, may: Amount, has: Amount) -> Result<(), AllocE
 }
 
 /// Appends the lines of a hall.
-fn push_hall<R: AllocGlobal + Clock + Wait>(
+fn push_hall<J: SiteNaming, R: AllocGlobal + Clock + Wait>(
     rt: &R,
-    shared: &Shared,
+    shared: &Shared<J>,
     hall: usize,
     out: &mut String,
 ) -> Result<(), AllocError> {
@@ -204,9 +210,9 @@ fn push_histogram(
 }
 
 /// All metrics, in the text format of Prometheus (version 0.0.4).
-pub(crate) fn metrics_of<R: AllocGlobal + Clock + Wait>(
+pub(crate) fn metrics_of<J: SiteNaming, R: AllocGlobal + Clock + Wait>(
     rt: &R,
-    shared: &Shared,
+    shared: &Shared<J>,
 ) -> Result<String, AllocError> {
     let mut out = String::new(rt.alloc());
     let (counts, connections) = {
@@ -229,7 +235,11 @@ pub(crate) fn metrics_of<R: AllocGlobal + Clock + Wait>(
 }
 
 /// Appends what the halls have.
-fn push_halls<R: Wait>(rt: &R, shared: &Shared, out: &mut String) -> Result<(), AllocError> {
+fn push_halls<J: SiteNaming, R: Wait>(
+    rt: &R,
+    shared: &Shared<J>,
+    out: &mut String,
+) -> Result<(), AllocError> {
     push_head(out, "sessions", "Sessions now.", "gauge")?;
     for (hall, desk) in shared.desks.iter().enumerate() {
         let number = hall.saturating_add(1);
@@ -257,9 +267,9 @@ fn push_halls<R: Wait>(rt: &R, shared: &Shared, out: &mut String) -> Result<(), 
 }
 
 /// Appends the refusals of those named customers that had most.
-fn push_refused<R: AllocGlobal + Wait>(
+fn push_refused<J: SiteNaming, R: AllocGlobal + Wait>(
     rt: &R,
-    shared: &Shared,
+    shared: &Shared<J>,
     out: &mut String,
 ) -> Result<(), AllocError> {
     push_head(

@@ -2,6 +2,7 @@
 use crate::ending::Why;
 use crate::shared::Shared;
 use site_book::{Group, Present, Told, Whom};
+use site_desk::SiteNaming;
 use std::sync::Wait;
 use std::thread;
 use std::time::{Clock, Duration};
@@ -10,7 +11,7 @@ use std::time::{Clock, Duration};
 const BETWEEN: u64 = 1_000;
 
 /// Looks each second, until all have left where the operator asked for it.
-pub(crate) fn watch_all<R: Clock + Wait>(rt: &R, shared: &Shared) {
+pub(crate) fn watch_all<J: SiteNaming, R: Clock + Wait>(rt: &R, shared: &Shared<J>) {
     for _ in rt.forever() {
         thread::sleep(rt, Duration::from_millis(BETWEEN));
         end_gone(rt, shared);
@@ -23,7 +24,7 @@ pub(crate) fn watch_all<R: Clock + Wait>(rt: &R, shared: &Shared) {
 }
 
 /// Ends the sessions whose client is gone while they wait for a job.
-fn end_gone<R: Clock + Wait>(rt: &R, shared: &Shared) {
+fn end_gone<J: SiteNaming, R: Clock + Wait>(rt: &R, shared: &Shared<J>) {
     let now = shared.now(rt);
     let many = shared.register(rt).links.len();
     for place in 0..many {
@@ -40,7 +41,13 @@ fn end_gone<R: Clock + Wait>(rt: &R, shared: &Shared) {
 }
 
 /// Tells sessions of a hall to end, and returns how many these are that weren't told before.
-pub(crate) fn tell<R: Wait>(rt: &R, shared: &Shared, hall: usize, whom: Whom, why: Told) -> u64 {
+pub(crate) fn tell<J: SiteNaming, R: Wait>(
+    rt: &R,
+    shared: &Shared<J>,
+    hall: usize,
+    whom: Whom,
+    why: Told,
+) -> u64 {
     let Some(desk) = shared.desks.get(hall) else {
         return 0;
     };
@@ -64,7 +71,7 @@ fn is_meant(whom: Whom, present: &Present) -> bool {
 }
 
 /// Shuts the connections of all sessions that were told to end, and returns how many these are.
-pub(crate) fn shut_told<R: Wait>(rt: &R, shared: &Shared) -> u64 {
+pub(crate) fn shut_told<J: SiteNaming, R: Wait>(rt: &R, shared: &Shared<J>) -> u64 {
     let mut many: u64 = 0;
     for (hall, desk) in shared.desks.iter().enumerate() {
         let roll = desk.roll(rt);
@@ -79,7 +86,7 @@ pub(crate) fn shut_told<R: Wait>(rt: &R, shared: &Shared) -> u64 {
 }
 
 /// Whether all have left, where nobody else may come. Those who stay longer than they may are told to end.
-fn is_drained<R: Clock + Wait>(rt: &R, shared: &Shared) -> bool {
+fn is_drained<J: SiteNaming, R: Clock + Wait>(rt: &R, shared: &Shared<J>) -> bool {
     let draining = shared.register(rt).draining;
     let Some(until) = draining else {
         return false;
@@ -96,7 +103,7 @@ fn is_drained<R: Clock + Wait>(rt: &R, shared: &Shared) -> bool {
 }
 
 /// Whether nobody is in any hall.
-fn are_empty<R: Wait>(rt: &R, shared: &Shared) -> bool {
+fn are_empty<J: SiteNaming, R: Wait>(rt: &R, shared: &Shared<J>) -> bool {
     for desk in &shared.desks {
         if !desk.roll(rt).is_empty() {
             return false;

@@ -3,6 +3,7 @@ use crate::links::{MOST_BYTES, Received, first_line, is_interrupted};
 use crate::shared::Shared;
 use crate::telling::metrics_of;
 use crate::visits::{PAUSE_MILLIS, Shut};
+use site_desk::SiteNaming;
 use std::alloc::AllocError;
 use std::io::{Read, Write};
 use std::net::{TcpListener, TcpStream};
@@ -34,9 +35,9 @@ fn asked_by(request: &[u8]) -> Option<Asked> {
 }
 
 /// The answer to what a request asks for.
-fn answer<R: AllocGlobal + Clock + Wait>(
+fn answer<J: SiteNaming, R: AllocGlobal + Clock + Wait>(
     rt: &R,
-    shared: &Shared,
+    shared: &Shared<J>,
     asked: Asked,
 ) -> Result<String, AllocError> {
     match asked {
@@ -66,9 +67,9 @@ fn answer<R: AllocGlobal + Clock + Wait>(
 }
 
 /// Answers one connection.
-fn converse<R: AllocGlobal + Clock + Wait>(
+fn converse<J: SiteNaming, R: AllocGlobal + Clock + Wait>(
     rt: &R,
-    shared: &Shared,
+    shared: &Shared<J>,
     stream: &TcpStream,
 ) -> Option<()> {
     let limit = Some(Duration::from_secs(REQUEST_SECS));
@@ -93,9 +94,9 @@ fn converse<R: AllocGlobal + Clock + Wait>(
 }
 
 /// Takes connections, which other threads answer ([`answer_web`]).
-pub(crate) fn serve_web<R: Clock + AllocGlobal + Wait>(
+pub(crate) fn serve_web<J: SiteNaming, R: Clock + AllocGlobal + Wait>(
     rt: &R,
-    shared: &Shared,
+    shared: &Shared<J>,
     listener: TcpListener,
 ) {
     for stream in listener.incoming() {
@@ -109,7 +110,7 @@ pub(crate) fn serve_web<R: Clock + AllocGlobal + Wait>(
 }
 
 /// Answers one connection after another, for ever.
-pub(crate) fn answer_web<R: Clock + AllocGlobal + Wait>(rt: &R, shared: &Shared) {
+pub(crate) fn answer_web<J: SiteNaming, R: Clock + AllocGlobal + Wait>(rt: &R, shared: &Shared<J>) {
     for _ in rt.forever() {
         if let Some(stream) = shared.web.next(rt) {
             let _ = converse(rt, shared, &stream);

@@ -5,3 +5,4 @@ mod Turned
 mod Replied
 mod Solved
 mod Reserving
+mod SiteParts

@@ -9,7 +9,9 @@ ghost use Rattle.site_book.specs.declared.who.Who.TheVariants.{Named, V4, V6};
 ghost use Rattle.site_book.specs.Names.{same_who, is_guest, network_of};
 ghost use Rattle.site_book.specs.Plans.{PlanOf, budget_of, sums_fit};
 ghost use Rattle.site_book.specs.Grants.{used, grant_of, grants_without};
-ghost use Rattle.site_book.specs.Books.{BookOf, BookEvent, Opens, new_book, why_over, why_no_raise, why_not_replan};
+ghost use Rattle.site_book.specs.Books.{BookOf, new_book, why_over, why_no_raise, why_not_replan};
+ghost use Rattle.site_book.specs.declared.event.BookEvent.{BookEvent};
+ghost use Rattle.site_book.specs.declared.event.BookEvent.TheVariants.{Opens};
 ghost use Rattle.site_book.specs.Events.{book_after_events, answers, only_events, answers_of, grants_of, still_open, names_granted};
 
 use site_book::laws::{

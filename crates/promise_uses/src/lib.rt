@@ -19,6 +19,7 @@ mod reserved;
 mod runs;
 mod seen;
 mod sessions;
+mod sites;
 mod solving;
 mod soundness;
 mod turns;
@@ -44,6 +45,11 @@ pub use runs::{
 };
 pub use seen::{a_spent_ask, hello_and_bye, quota_after_hello};
 pub use sessions::third_answer;
+pub use sites::{
+    a_session_asks, a_session_asks_in_vain, a_session_cancels, a_session_comes, a_session_leaves,
+    a_session_reserves, budget_of_a_customer, customers_of_two_halls, job_of_a_session,
+    live_of_a_session, quota_of_a_session, two_customers,
+};
 pub use solving::three_lines;
 pub use soundness::third_frame_of_nine;
 pub use turns::{when_it_is_picked_again, when_the_least_is_picked};

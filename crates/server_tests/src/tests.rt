@@ -5,6 +5,7 @@ mod charges;
 mod neighbours;
 mod servers;
 mod sites;
+mod trials;
 
 use std::alloc::Global;
 use std::fmt::Display;

@@ -12,7 +12,9 @@ pub use Rattle.std.specs.Prelude.{IfNone, if◌then◌else◌}
 pub use Rattle.tenant_quota.specs.Quota.{IsAbove, Quota}
 pub use Rattle.site_book.specs.Allowed.{HasBudgetFor, MayGrow}
 pub use Rattle.site_book.specs.Amounts.{IsAmountWithin, is_amount_within, is_same, minus, nothing, of_one, plus, sum_of}
-pub use Rattle.site_book.specs.Books.{BookEvent, BookOf, Closes, Opens, Raises, Replans, answer_of_book, are_within, book_after, book_after_answer}
+pub use Rattle.site_book.specs.Books.{BookOf, answer_of_book, are_within, book_after, book_after_answer}
+pub use Rattle.site_book.specs.declared.event.BookEvent.{BookEvent}
+pub use Rattle.site_book.specs.declared.event.BookEvent.TheVariants.{Closes, Opens, Raises, Replans}
 pub use Rattle.site_book.specs.Books.{first_refusal, is_beyond_part, is_over, new_book, part_over, taken, why_beyond, why_no_raise, why_not_replan, why_over}
 pub use Rattle.site_book.specs.Comings.{by_book, stays, told_by, told_unless, unless_idle, with_staying}
 pub use Rattle.site_book.specs.Events.{Name, answers, answers_of, book_after_events, grants_of, is_event_kept, is_of, names_granted, names_without, only_events}

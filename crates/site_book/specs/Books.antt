@@ -2,6 +2,8 @@
 use Rattle.std.specs.Prelude.{ℕ, Bool, true, not, ◌&&◌, is_none, List, [], ◌∷◌, ◌++◌, Option, Some, None, if◌then◌else◌}
 use Rattle.tenant_quota.specs.Quota.{Quota}
 use Rattle.site_book.specs.declared.amount.Amount.{Amount}
+use Rattle.site_book.specs.declared.event.BookEvent.{BookEvent}
+use Rattle.site_book.specs.declared.event.BookEvent.TheVariants.{Opens, Raises, Closes, Replans}
 use Rattle.site_book.specs.declared.held.Grant.{Grant}
 use Rattle.site_book.specs.declared.held.Group.{Group}
 use Rattle.site_book.specs.declared.held.Group.TheVariants.{Own, Network, Guests}
@@ -22,14 +24,6 @@ pub record BookOf : Type 0 where
 -- a book in which nothing has happened
 abbrev pub new_book : PlanOf → BookOf
 new_book plan = record { plan = plan; grants = [] }
-
--- what happens at a hall: a session of this number is opened for a customer and reserves this, or is raised to this, or ends; or
--- another plan comes
-pub data BookEvent : Type 0 where
-  Opens : (who : Who) (session : ℕ) (ask : Quota) → BookEvent
-  Raises : (who : Who) (session : ℕ) (ask : Quota) → BookEvent
-  Closes : (who : Who) (session : ℕ) → BookEvent
-  Replans : (plan : PlanOf) → BookEvent
 
 -- the refusal of the first test that applies
 abbrev pub first_refusal : List (Bool × BookRefusal) → Option BookRefusal

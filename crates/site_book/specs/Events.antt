@@ -4,7 +4,9 @@ use Rattle.site_book.specs.declared.held.Grant.{Grant}
 use Rattle.site_book.specs.declared.refusal.BookRefusal.{BookRefusal}
 use Rattle.site_book.specs.declared.who.Who.{Who}
 use Rattle.site_book.specs.Names.{same_who}
-use Rattle.site_book.specs.Books.{BookOf, BookEvent, Opens, Raises, Closes, Replans, answer_of_book, book_after}
+use Rattle.site_book.specs.Books.{BookOf, answer_of_book, book_after}
+use Rattle.site_book.specs.declared.event.BookEvent.{BookEvent}
+use Rattle.site_book.specs.declared.event.BookEvent.TheVariants.{Opens, Raises, Closes, Replans}
 
 -- the book after a list of events
 abbrev pub book_after_events : BookOf → List BookEvent → BookOf

@@ -7,7 +7,9 @@ use Rattle.site_book.specs.declared.who.Who.{Who}
 use Rattle.site_book.specs.declared.who.Who.TheVariants.{Named}
 use Rattle.site_book.specs.Plans.{PlanOf}
 use Rattle.site_book.specs.Amounts.{nothing}
-use Rattle.site_book.specs.Books.{BookEvent, Opens, Closes, Replans, new_book, overrun_of}
+use Rattle.site_book.specs.Books.{new_book, overrun_of}
+use Rattle.site_book.specs.declared.event.BookEvent.{BookEvent}
+use Rattle.site_book.specs.declared.event.BookEvent.TheVariants.{Opens, Closes, Replans}
 use Rattle.site_book.specs.declared.held.Overrun.{Overrun}
 use Rattle.site_book.specs.Events.{answers, book_after_events}
 

@@ -2,7 +2,8 @@ ghost use Rattle.std.specs.Prelude.{◌≡◌, [], ◌≤◌, None, length, is_s
 ghost use Rattle.site_book.specs.declared.held.Group.TheVariants.{All};
 ghost use Rattle.site_book.specs.Amounts.{IsAmountWithin, of_one, plus};
 ghost use Rattle.site_book.specs.Grants.{used, grant_of, grants_without};
-ghost use Rattle.site_book.specs.Books.{new_book, is_beyond_part, why_beyond, why_over, why_no_raise, is_over, part_over, overrun_of, are_within, why_not_replan, taken, Opens, Raises, Closes, Replans};
+ghost use Rattle.site_book.specs.Books.{new_book, is_beyond_part, why_beyond, why_over, why_no_raise, is_over, part_over, overrun_of, are_within, why_not_replan, taken};
+ghost use Rattle.site_book.specs.declared.event.BookEvent.TheVariants.{Opens, Raises, Closes, Replans};
 
 use crate::amount::Amount;
 use crate::held::{

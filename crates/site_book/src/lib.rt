@@ -56,6 +56,7 @@
 mod amount;
 mod book;
 mod coming;
+mod event;
 mod held;
 pub mod laws;
 mod plan;
@@ -69,6 +70,7 @@ mod who;
 pub use amount::Amount;
 pub use book::{CustomerBook, why_over};
 pub use coming::{Comer, Coming, told_by, what_comes_of};
+pub use event::BookEvent;
 pub use held::{Grant, Group, Overrun};
 pub use plan::Plan;
 pub use present::{Leaver, Present, SessionMark, Told, Whom};

@@ -7,7 +7,8 @@ ghost use Rattle.site_book.specs.declared.who.Who.TheVariants.{Named, V4, V6};
 ghost use Rattle.site_book.specs.Names.{same_who, is_guest, network_of};
 ghost use Rattle.site_book.specs.Plans.{sums_fit};
 ghost use Rattle.site_book.specs.Grants.{used};
-ghost use Rattle.site_book.specs.Books.{Opens, Raises, Closes, Replans, new_book, why_not_replan};
+ghost use Rattle.site_book.specs.Books.{new_book, why_not_replan};
+ghost use Rattle.site_book.specs.declared.event.BookEvent.TheVariants.{Opens, Raises, Closes, Replans};
 ghost use Rattle.site_book.specs.Events.{book_after_events, answers, only_events, still_open};
 ghost use Rattle.site_book.specs.Rows.{amount, ask, hall_for, small, school, answers_told, one_sided, even, sold, ended_in_time, told_one_sided, beyond_even};
 

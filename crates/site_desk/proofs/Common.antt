@@ -1,12 +1,16 @@
 -- The names that the proofs take of the library, of the crates below and of this crate's definitions, from one place.
 pub use Rattle.std.proofs.Common.{Bool, Contains, Err, IfErr, List, None, Ok, Option, Result, Some, [], ap, arith, cond, drop, eqb, false, inl, inr, length}
-pub use Rattle.std.proofs.Common.{length-append, refl, rules, subst, sym, true, ℕ, ◌&&◌, ◌++◌, ◌+◌, ◌<◌, ◌∙◌, ◌∷◌, ◌≡◌, ◌≤◌}
+pub use Rattle.std.proofs.Common.{length-append, refl, rules, subst, sym, true, ℕ, ◌&&◌, ◌++◌, ◌+◌, ◌<◌, ◌==◌, ◌∙◌, ◌∷◌, ◌≡◌, ◌≢◌, ◌≤◌, ◌⊎◌}
+pub use Rattle.std.specs.Prelude.{OnErr, nat_le, nat_lt, ◌^◌, ◌||◌}
+pub use Rattle.std.proofs.lemmas.Bool.Decides.{nat_tests}
 pub use Rattle.std.proofs.lemmas.Bool.{and_parts, cases_Bool, eq-eqb, eqb-true, false≢true, le-ltb, lt-leb, ne_eqb, or_from}
 pub use Rattle.std.proofs.lemmas.List.Sums.{sum_by-cons}
-pub use Rattle.std.specs.Option.{is_some}
+pub use Rattle.std.specs.Option.{IsSome, is_some}
 pub use Rattle.desk.specs.Counts.{IsNextReady}
-pub use Rattle.hall.proofs.DeskRules.Refused.{ask-refused}
-pub use Rattle.hall.specs.desk_rules.Asked.{ask_refusals}
+pub use Rattle.desk.specs.Histories.{AreTaken, IsShownAt, IsTrueTo, Took, core_at, steps_of}
+pub use Rattle.hall.specs.desk_rules.Asked.{found_or_no_tenant}
+pub use Rattle.sched_rules.specs.Views.{left_in_core, live_of}
+pub use Rattle.desk.specs.Noted.{HasCome, IsDone}
 pub use Rattle.hall.specs.Halls.{HallOf, IsDecided}
 pub use Rattle.hall.specs.jamboree_rules.Procedure.{jamboree}
 pub use Rattle.hall.specs.jamboree_rules.declared.leaf.Leaf.{Leaf}
@@ -32,7 +36,9 @@ pub use Rattle.site_book.proofs.AmountLemmas.{plus-swap}
 pub use Rattle.site_book.proofs.ComingLemmas.{only_enters}
 pub use Rattle.site_book.proofs.RunLemmas.{names-with-ask}
 pub use Rattle.site_book.specs.Amounts.{IsAmountWithin, nothing, of_one, plus}
-pub use Rattle.site_book.specs.Books.{BookOf, Closes, Opens, Raises, taken, why_no_raise}
+pub use Rattle.site_book.specs.Books.{BookOf, taken, why_no_raise, why_over}
+pub use Rattle.site_book.specs.declared.event.BookEvent.{BookEvent}
+pub use Rattle.site_book.specs.declared.event.BookEvent.TheVariants.{Closes, Opens, Raises, Replans}
 pub use Rattle.site_book.specs.Comings.{stays, told_by, told_unless, with_staying}
 pub use Rattle.site_book.specs.Events.{Name, names_granted}
 pub use Rattle.site_book.specs.Grants.{grant_of, grants_raised, grants_without, is_held_as, used}
@@ -52,8 +58,11 @@ pub use Rattle.site_book.specs.declared.who.Who.{Who}
 pub use Rattle.tenant_quota.specs.Accounts.{reserved_nodes, reserved_segments}
 pub use Rattle.tenant_quota.specs.Quota.{Quota}
 pub use Rattle.tenant_quota.specs.declared.account.Account.{Account}
-pub use Rattle.site_desk.specs.Booked.{BookedOf, IsAdmission, IsBooked, IsRaise, TookInHall, is_within_seat}
+pub use Rattle.desk.specs.Traces.{Known}
+pub use Rattle.site_desk.specs.Granted.{AreGranted, IsBookBy, IsBookLook, IsGrantedFrom, IsOpened, book_at, events_of}
+pub use Rattle.site_desk.specs.Booked.{BookedOf, IsBooked, IsRaise, IsTurnedAway, TookInHall, is_within_seat, turned_by}
 pub use Rattle.site_desk.specs.BookedSeats.{BookedSeat, number_of, seats_in_book, seats_in_hall}
-pub use Rattle.site_desk.specs.Sites.{IsCame, IsListed, IsNextTask, IsSitePick, SiteOf, met, overruns_of, stays_in}
+pub use Rattle.site_desk.specs.Sites.{IsCame, IsListed, IsNextTask, IsSessionGone, IsSitePick, SiteOf, met, overruns_of, stays_in}
+pub use Rattle.site_desk.specs.Seats.{IsRaiseTold, SiteSeatOf}
 pub use Rattle.site_desk.specs.declared.turned.Turned.{Turned}
 pub use Rattle.site_desk.specs.declared.turned.Turned.TheVariants.{ByBook, OldTenant, OutOfMemory}

@@ -1,11 +1,15 @@
 -- What a hall's steps do to its seats.
-use Rattle.site_desk.proofs.Common.{◌≡◌, ℕ, true, false, Option, Some, None, Result, Ok, refl, ap, sym, ◌∙◌, arith, false≢true, Quota, Refusal, StepOf, Admit, AdmitMore, Leave, DidOf, Left, Functions, Tenant, admitted_with, Outcome, lone, lone_step, tenant_of, CoreState, tenant_in, with_outcome, shared_with, AreNumbersGiven, IsOneStep, is_admission, IsTaken, step-taken, shared-after-taken, by-kinds, unless-passed, is_within_seat}
+use Rattle.site_desk.proofs.Common.{◌≡◌, ℕ, ◌+◌, ◌≤◌, ◌==◌, ◌||◌, ◌^◌, ◌⊎◌, inl, inr, nat_le, nat_lt, nat_tests, true, false, cases_Bool, Option, Some, None, Result, Ok, Err, refl, ap, sym, ◌∙◌, arith, false≢true, Quota, Refusal, StepOf, Admit, AdmitMore, Leave, DidOf, Functions, Tenant, admitted_with, Outcome, is_lower, lone, lone_step, tenant_of, CoreState, tenant_in, reservations_in, is_full, is_beyond, with_outcome, shared_with, AreNumbersGiven, IsOneStep, IsTaken, shared-after-taken, step-taken, by-kinds, unless-passed, is_within_seat}
+use Rattle.sched_rules.specs.declared.refusal.Refusal.TheVariants.{OldTenant, OutOfMemory}
+use Rattle.hall.specs.Journals.{is_worker_step}
+use Rattle.sched_rules.specs.declared.step.DidOf.TheVariants.{Admitted, AdmittedMore}
 
--- a step within its seat is no admission
-pub no-admission : {A : Type 0} (step : StepOf A) → is_within_seat step ≡ true → is_admission step ≡ false
-no-admission (Admit n q) within = absurd cc
-no-admission (AdmitMore n q) within = absurd cc
-no-admission _ within = refl
+-- a worker's step is within its seat
+pub worker-within : {A : Type 0} (step : StepOf A) → is_worker_step step ≡ true → is_within_seat step ≡ true
+worker-within (Admit n q) worker = absurd cc
+worker-within (AdmitMore n q) worker = absurd cc
+worker-within (Leave n) worker = absurd cc
+worker-within _ worker = refl
 
 module _ {I A : Type 0} (functions : Functions I A) where
   -- a step that was taken
@@ -63,6 +67,26 @@ module _ {I A : Type 0} (functions : Functions I A) where
   pub moved : (before after : CoreState) (step : StepOf A) (o : Option Tenant) → after ≡ shared_with before step o → (after.tenants ≡ with_outcome (tenant_of step) o before.tenants) × (after.totals ≡ before.totals)
   moved before after step o is = (ap (λ (s : CoreState). s.tenants) is, ap (λ (s : CoreState). s.totals) is)
 
-  -- a leave of who is there is taken
-  pub leave-taken : (before after : CoreState) (n : ℕ) (tenant : Tenant) (answer : Result (DidOf I) Refusal) → tenant_in before.tenants n ≡ Some tenant → IsOneStep functions before (Leave n) answer after → answer ≡ Ok Left
-  leave-taken before after n tenant answer at one = (one.answered.1 refl).else_taken (rw at refl) refl ∙ (rw at refl)
+  -- what an admission is refused for where there is room for it: all numbers were given, or memory ran out
+  pub admit-refused : (before after : CoreState) (n : ℕ) (q : Quota) (refusal : Refusal) → n ≡ before.newest + 1 → is_full (reservations_in before) q ≡ false → IsOneStep functions before (Admit n q) (Err refusal) after
+      → ((refusal ≡ OldTenant) × (2 ^ 62 ≤ before.newest)) ⊎ (refusal ≡ OutOfMemory)
+  admit-refused before after n q refusal next room one =
+      let right = one.answered.0 refl in
+      let old = (n == 0) || nat_le n before.newest || nat_lt (2 ^ 62) n in
+      elim (cases_Bool old) [
+        | inl aye ↦ (let said : ◌≡◌ {A = Result (DidOf I) Refusal} (Err refusal) (Err OldTenant) = right.refused OldTenant (rw aye refl) in inl (cc, grind (arith, nat_tests, next, aye)))
+        | inr nay ↦ elim (right.else_taken (rw (nay, room) refl)) [
+          | inl is ↦ (let taken : ◌≡◌ {A = Result (DidOf I) Refusal} (Err refusal) (Ok Admitted) = rw (nay, room) at is in absurd cc)
+          | inr is ↦ inr cc
+        ]
+      ]
+
+  -- and a raise
+  pub raise-refused : (before after : CoreState) (n : ℕ) (q : Quota) (tenant : Tenant) (refusal : Refusal) → tenant_in before.tenants n ≡ Some tenant → is_lower tenant.reserve q ≡ false → is_beyond (reservations_in before) tenant.reserve q ≡ false
+      → IsOneStep functions before (AdmitMore n q) (Err refusal) after → refusal ≡ OutOfMemory
+  raise-refused before after n q tenant refusal at more room one =
+      let right = one.answered.0 refl in
+      elim (right.else_taken (rw (at, more, room) refl)) [
+        | inl is ↦ (let taken : ◌≡◌ {A = Result (DidOf I) Refusal} (Err refusal) (Ok AdmittedMore) = rw (at, more, room) at is in absurd cc)
+        | inr is ↦ cc
+      ]

@@ -1,8 +1,13 @@
 -- Each call leaves the grants the hall's tenants.
-use Rattle.site_desk.proofs.Common.{◌≡◌, ℕ, ◌+◌, ◌<◌, ◌≤◌, inl, inr, true, false, List, [], ◌∷◌, ◌++◌, Option, Some, None, Result, Ok, Err, refl, ap, sym, ◌∙◌, subst, arith, cases_Bool, is_some, AreRising, Quota, Refusal, StepOf, Admit, AdmitMore, Leave, DidOf, Tenant, admitted_with, is_lower, tenant_of, tenant_in, with_outcome, reservations_in, is_full, is_beyond, AreNumbersGiven, tenant_in-new, IsTaken, Leaf, LeafAnswer, jamboree, HallOf, IsDecided, Amount, Grant, All, Lower, Who, of_one, plus, IsAmountWithin, used, grant_of, grants_without, BookOf, Opens, Raises, Closes, taken, why_no_raise, IsBooked, TookInHall, is_within_seat, BookedSeat, seats_in_book, seats_in_hall, number_of}
+use Rattle.site_desk.proofs.Common.{◌≡◌, ◌≢◌, ℕ, ◌+◌, ◌<◌, ◌≤◌, length, OnErr, inl, inr, true, false, List, [], ◌∷◌, ◌++◌, Option, Some, None, Result, Ok, Err, refl, ap, sym, ◌∙◌, subst, arith, cases_Bool, is_some, AreRising, Quota, Refusal, StepOf, Admit, AdmitMore, Leave, DidOf, Tenant, admitted_with, is_lower, tenant_of, tenant_in, with_outcome, reservations_in, is_full, is_beyond, AreNumbersGiven, AreNumbersTaken, tenant_in-new, IsTaken, Leaf, LeafAnswer, jamboree, HallOf, IsDecided, IsDone, Amount, Grant, All, Lower, Who, of_one, plus, IsAmountWithin, used, grant_of, grants_without, BookOf, Opens, Raises, Closes, taken, why_no_raise, why_over, BookedOf, IsBooked, IsRaise, IsRaiseTold, IsTurnedAway, TookInHall, is_within_seat, turned_by, BookedSeat, seats_in_book, seats_in_hall, number_of}
 use Rattle.site_book.specs.declared.refusal.BookRefusal.{BookRefusal}
+use Rattle.sched_rules.specs.declared.refusal.Refusal.TheVariants.{NoJob, OutOfMemory as HallOutOfMemory}
+use Rattle.hall.specs.declared.desk_rules.asked.SeatAsked.{SeatAsked}
+use Rattle.desk.specs.Noted.{NotedOf}
+use Rattle.desk.specs.Seats.{SeatOf, seeing, IsAsked}
+use Rattle.desk.specs.Histories.{IsToldOf}
 use Rattle.site_desk.proofs.SeatLemmas.{set_seat, drop_seats, seat_at, amount_of, hall-same, hall-new, hall-set, hall-drop, IsThere, hall-at, book-push, book-set, book-drop, book-at, taken-upto, rising-push, rising-set, rising-drop, book-amount, used-found, not-full, not-beyond}
-use Rattle.site_desk.proofs.HallSteps.{went, admit-outcome, more-outcome, leave-outcome, stayed, moved}
+use Rattle.site_desk.proofs.HallSteps.{went, admit-outcome, more-outcome, leave-outcome, stayed, moved, admit-refused, raise-refused}
 
 abbrev Step : Type 0
 Step = StepOf LeafAnswer
@@ -95,6 +100,29 @@ pub booked-step : (hall hall' : HallOf) (book : BookOf) (step : Step) (answer : 
 booked-step hall hall' book step (Ok did) is within decided = booked-went hall hall' book step is within (did, decided)
 booked-step hall hall' book step (Err refusal) is within decided = subst (λ h. IsBooked h book) (sym decided.refused) is
 
+-- the same of an ask, and of a cancel
+
+pub booked-ask : (asked : SeatAsked) (before after : SeatOf) (noted noted' : NotedOf) (book : BookOf) (step : Step) (answer : Result ℕ Refusal) → IsBooked noted.hall book → is_within_seat step ≡ true → IsAsked asked before answer after
+    → (length before.asked ≢ 256 → IsDone noted.hall step answer noted'.hall) → OnErr answer (noted' ≡ noted) → IsBooked noted'.hall book
+booked-ask asked before after noted noted' book step (Ok job) is within took done same = booked-went noted.hall noted'.hall book step is within (done took.2)
+booked-ask asked before after noted noted' book step (Err refusal) is within took done same = subst (λ (n : NotedOf). IsBooked n.hall book) (sym same) is
+
+pub booked-cancel : (asked : Option SeatAsked) (noted noted' : NotedOf) (book : BookOf) (step : Step) (answer : Result (Unit {0}) Refusal) → IsBooked noted.hall book → is_within_seat step ≡ true → (asked ≡ None → answer ≡ Err NoJob)
+    → (asked ≢ None → IsDone noted.hall step answer noted'.hall) → OnErr answer (noted' ≡ noted) → IsBooked noted'.hall book
+booked-cancel asked noted noted' book step (Ok done) is within none step_done same = booked-went noted.hall noted'.hall book step is within (step_done (λ e. absurd (cc (none e))))
+booked-cancel asked noted noted' book step (Err refusal) is within none step_done same = subst (λ (n : NotedOf). IsBooked n.hall book) (sym same) is
+
+-- nobody
+
+pub booked-new : (hall : HallOf) (book : BookOf) → hall.shared.tenants ≡ [] → book.grants ≡ [] → book.plan.totals.segments ≤ hall.shared.totals.segments → book.plan.totals.nodes ≤ hall.shared.totals.nodes → IsBooked hall book
+booked-new hall book nobody nothing segments nodes = record {
+  seated = ap seats_in_book nothing ∙ sym (ap seats_in_hall nobody);
+  rising = subst (λ es. AreRising number_of (seats_in_hall es)) (sym nobody) tt;
+  given = subst (λ es. AreNumbersTaken hall.shared.newest es) (sym nobody) tt;
+  segments = segments;
+  nodes = nodes;
+}
+
 -- room
 
 all-seats : (hall : HallOf) (book : BookOf) → IsBooked hall book → used All book.grants ≡ amount_of (seats_in_hall hall.shared.tenants)
@@ -138,3 +166,33 @@ may-raise hall book who n q is none room = raise-by hall book who n q (grant_of 
 pub found-of : (o : Option Grant) → is_some o ≡ true → (held : Grant) × (o ≡ Some held)
 found-of None none = absurd cc
 found-of (Some held) some = (held, refl)
+
+-- who isn't admitted, or raised, though the book allows it
+
+not-changed : (hall hall' : HallOf) (book : BookOf) (step : Step) (refusal : Refusal) → IsDecided hall step (Err refusal) hall' → ◌≡◌ {A = BookedOf} (record { hall = hall'; book = book }) (record { hall = hall; book = book })
+not-changed hall hall' book step refusal decided = ap (λ (h : HallOf). record { hall = h; book = book }) decided.refused
+
+pub not-admitted : (hall hall' : HallOf) (book : BookOf) (who : Who) (q : Quota) (refusal : Refusal) → why_over book.plan who q book.grants ≡ None → is_full (reservations_in hall.shared) q ≡ false → IsDecided hall (Admit (hall.shared.newest + 1) q) (Err refusal) hall'
+    → IsTurnedAway (record { hall = hall; book = book }) who q (turned_by refusal) (record { hall = hall'; book = book })
+not-admitted hall hall' book who q refusal none room decided =
+    let same = not-changed hall hall' book (Admit (hall.shared.newest + 1) q) refusal decided in
+    elim (admit-refused (jamboree hall.grain) hall.shared hall'.shared (hall.shared.newest + 1) q refusal refl room decided.one) [
+      | inl old ↦ rw old.0 (old.1, same)
+      | inr memory ↦ rw memory (none, same, rw memory at decided)
+    ]
+
+out-of-memory : (hall hall' : HallOf) (book : BookOf) (who : Who) (n : ℕ) (q : Quota) (refusal : Refusal) → MayRaise hall book who n q → IsDecided hall (AdmitMore n q) (Err refusal) hall' → refusal ≡ HallOutOfMemory
+out-of-memory hall hall' book who n q refusal may decided = raise-refused (jamboree hall.grain) hall.shared hall'.shared n q may.tenant refusal may.at may.more may.room decided.one
+
+pub not-raised : (hall hall' : HallOf) (book : BookOf) (who : Who) (n : ℕ) (q : Quota) (refusal : Refusal) → why_no_raise book.plan who n q book.grants (grant_of who n book.grants) ≡ None → MayRaise hall book who n q → IsDecided hall (AdmitMore n q) (Err refusal) hall'
+    → IsRaise (record { hall = hall; book = book }) who n q (Err (turned_by refusal)) (record { hall = hall'; book = book })
+not-raised hall hall' book who n q refusal none may decided =
+    let same = not-changed hall hall' book (AdmitMore n q) refusal decided in
+    let memory = out-of-memory hall hall' book who n q refusal may decided in
+    rw memory (none, same, rw memory at decided)
+
+pub not-raised-told : (hall hall' : HallOf) (book : BookOf) (begun : HallOf) (who : Who) (before after : SeatOf) (q : Quota) (refusal : Refusal) → MayRaise hall book who before.tenant q → IsDecided hall (AdmitMore before.tenant q) (Err refusal) hall'
+    → after ≡ seeing after.known before → IsToldOf {X = Unit {0}} begun before.known (AdmitMore before.tenant q) (Err refusal) after.known → IsRaiseTold begun before q (Err (turned_by refusal)) after
+not-raised-told hall hall' book begun who before after q refusal may decided seen told =
+    let memory = out-of-memory hall hall' book who before.tenant q refusal may decided in
+    rw memory (seen, rw memory at told)

@@ -5,3 +5,5 @@ mod Keepings
 pub mod Lists
 pub mod Comings
 mod Tasks
+mod Granting
+pub mod Stocks

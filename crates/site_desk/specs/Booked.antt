@@ -1,5 +1,5 @@
 -- Meaning: a hall with its book, and what each call does to both.
-use Rattle.std.specs.Prelude.{◌≡◌, ℕ, ◌+◌, ◌≤◌, ◌^◌, ◌⊎◌, Bool, true, false, Some, None, Result, Ok, Err, IsSome}
+use Rattle.std.specs.Prelude.{◌≡◌, ℕ, ◌+◌, ◌≤◌, ◌^◌, Bool, true, false, Some, None, Result, Ok, Err, IsSome}
 use Rattle.numbered_list.specs.Places.{AreRising}
 use Rattle.tenant_quota.specs.Quota.{Quota}
 use Rattle.sched_rules.specs.declared.refusal.Refusal.{Refusal as HallRefusal}
@@ -12,7 +12,8 @@ use Rattle.hall.specs.jamboree_rules.declared.leaf.Leaf.{Leaf}
 use Rattle.hall.specs.jamboree_rules.declared.leaf.LeafAnswer.{LeafAnswer}
 use Rattle.hall.specs.Halls.{HallOf, IsDecided}
 use Rattle.site_book.specs.declared.who.Who.{Who}
-use Rattle.site_book.specs.Books.{BookOf, Opens, Raises, Closes, taken, why_over, why_no_raise}
+use Rattle.site_book.specs.Books.{BookOf, taken, why_over, why_no_raise}
+use Rattle.site_book.specs.declared.event.BookEvent.TheVariants.{Opens, Raises, Closes}
 use Rattle.site_book.specs.Grants.{grant_of}
 use Rattle.site_desk.specs.declared.turned.Turned.{Turned}
 use Rattle.site_desk.specs.declared.turned.Turned.TheVariants.{ByBook, OldTenant, OutOfMemory}
@@ -40,31 +41,22 @@ TookInHall before step after = (did : DidOf Leaf) × IsDecided before step (Ok d
 abbrev pub RanOut : HallOf → StepOf LeafAnswer → HallOf → Type 0
 RanOut before step after = IsDecided before step (Err HallOutOfMemory) after
 
--- what comes of a tenant for which there is room: it is admitted under the number after the newest, or all numbers were given, or memory ran
--- out
-abbrev pub IsLetIn : HallOf → Quota → Result ℕ HallRefusal → HallOf → Type 0
-IsLetIn before ask (Ok number) after = (number ≡ before.shared.newest + 1) × TookInHall before (Admit number ask) after
-IsLetIn before ask (Err refusal) after =
-    ((refusal ≡ HallOldTenant) ⊎ (refusal ≡ HallOutOfMemory)) × (refusal ≡ HallOldTenant → 2 ^ 62 ≤ before.shared.newest) × IsDecided before (Admit (before.shared.newest + 1) ask) (Err refusal) after
-
--- what comes of a tenant that is raised to what there is room for: it has that, or memory ran out
-abbrev pub IsRaisedTo : HallOf → ℕ → Quota → Result (Unit {0}) HallRefusal → HallOf → Type 0
-IsRaisedTo before number ask (Ok _) after = TookInHall before (AdmitMore number ask) after
-IsRaisedTo before number ask (Err refusal) after = (refusal ≡ HallOutOfMemory) × IsDecided before (AdmitMore number ask) (Err refusal) after
-
 -- why a customer is turned away, by the hall's refusal
 abbrev pub turned_by : HallRefusal → Turned
 turned_by HallOldTenant = OldTenant
 turned_by _ = OutOfMemory
 
--- what comes of a session that a customer asks for: it is refused exactly where the book refuses it, or else the tenant is admitted under
--- the number after the newest, and the grant is entered, both at once; or the hall has no number or no memory left, and nothing changes
-abbrev pub IsAdmission : BookedOf → Who → Quota → Result ℕ Turned → BookedOf → Type 0
-IsAdmission before who ask (Ok number) after =
+-- a customer's session is admitted: where the book allows it the tenant is admitted under the number after the newest, and the grant is
+-- entered, both at once
+abbrev pub IsLetIn : BookedOf → Who → Quota → ℕ → BookedOf → Type 0
+IsLetIn before who ask number after =
     (why_over before.book.plan who ask before.book.grants ≡ None) × (number ≡ before.hall.shared.newest + 1) × (after.book ≡ taken before.book (Opens who number ask)) × TookInHall before.hall (Admit number ask) after.hall
-IsAdmission before who ask (Err (ByBook refusal)) after = (why_over before.book.plan who ask before.book.grants ≡ Some refusal) × (after ≡ before)
-IsAdmission before who ask (Err OldTenant) after = (2 ^ 62 ≤ before.hall.shared.newest) × (after ≡ before)
-IsAdmission before who ask (Err OutOfMemory) after =
+
+-- or it is turned away, and nothing changes: the book refuses it, or the hall has no number or no memory left
+abbrev pub IsTurnedAway : BookedOf → Who → Quota → Turned → BookedOf → Type 0
+IsTurnedAway before who ask (ByBook refusal) after = (why_over before.book.plan who ask before.book.grants ≡ Some refusal) × (after ≡ before)
+IsTurnedAway before who ask OldTenant after = (2 ^ 62 ≤ before.hall.shared.newest) × (after ≡ before)
+IsTurnedAway before who ask OutOfMemory after =
     (why_over before.book.plan who ask before.book.grants ≡ None) × (after ≡ before) × RanOut before.hall (Admit (before.hall.shared.newest + 1) ask) after.hall
 
 -- what comes of a raise: it is refused exactly where the book refuses it, or else the tenant and the grant have this, both at once; or no

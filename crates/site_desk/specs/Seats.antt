@@ -1,18 +1,39 @@
--- Meaning: what contracts see of a seat, and what an ask makes of it.
-use Rattle.std.specs.Prelude.{◌≡◌, ◌≢◌, ℕ, List, [], ◌∷◌, ◌++◌, length, Result, Ok, Err}
-use Rattle.sched_rules.specs.declared.refusal.Refusal.{Refusal}
-use Rattle.sched_rules.specs.declared.refusal.Refusal.TheVariants.{NoJobsLeft}
-use Rattle.hall.specs.declared.desk_rules.asked.SeatAsked.{SeatAsked}
+-- Meaning: what contracts see of a seat at a site's desk, and what it is told of its calls.
+use Rattle.std.specs.Prelude.{◌≡◌, ℕ, Result, Ok, Err}
+use Rattle.sched_rules.specs.declared.refusal.Refusal.TheVariants.{OutOfMemory as HallOutOfMemory}
+use Rattle.sched_rules.specs.declared.step.StepOf.{StepOf}
+use Rattle.sched_rules.specs.declared.step.StepOf.TheVariants.{AdmitMore}
+use Rattle.tenant_quota.specs.Quota.{Quota}
+use Rattle.hall.specs.Halls.{HallOf}
+use Rattle.hall.specs.jamboree_rules.declared.leaf.LeafAnswer.{LeafAnswer}
+use Rattle.desk.specs.Traces.{Known}
+use Rattle.desk.specs.Seats.{SeatOf, seeing, stepped}
+use Rattle.desk.specs.Histories.{IsToldOf}
+use Rattle.site_book.specs.declared.event.BookEvent.{BookEvent}
 use Rattle.site_book.specs.declared.who.Who.{Who}
+use Rattle.site_desk.specs.declared.turned.Turned.{Turned}
+use Rattle.site_desk.specs.declared.turned.Turned.TheVariants.{ByBook, OldTenant, OutOfMemory}
 
--- a seat: whose it is, its number, which is its tenant's, and what it asked, from job 1 on
+-- a seat: whose it is, the number of the desk that it is at, the seat of its tenant there, as at any desk, and what it knows of what the book
+-- granted
 pub record SiteSeatOf : Type 0 where
   pub who : Who
-  pub number : ℕ
-  pub asked : List SeatAsked
+  pub at : ℕ
+  pub seat : SeatOf
+  pub books : Known BookEvent
 
--- how a seat's ask is answered, with the seat before and after it: at Ok what was asked is appended to its list, whose new length is the job's
--- number; at Err the seat is unchanged, and the refusal is NoJobsLeft where its list has 256 entries
-abbrev pub IsSiteAsk : SeatAsked → SiteSeatOf → Result ℕ Refusal → SiteSeatOf → Type 0
-IsSiteAsk asked before (Ok job) after = (after ≡ record before { asked = before.asked ++ asked ∷ [] }) × (job ≡ length after.asked) × (length before.asked ≢ 256)
-IsSiteAsk asked before (Err refusal) after = (after ≡ before) × (length before.asked ≡ 256 → refusal ≡ NoJobsLeft)
+-- what a session that has left knew of the two histories of the desk of this number: that of its hall, and that of its book
+pub record SiteTraceOf : Type 0 where
+  pub at : ℕ
+  pub known : Known (StepOf LeafAnswer)
+  pub books : Known BookEvent
+
+-- how a raise of what a seat reserves is answered, by the history: the raise was taken, and the history ends with it; or the book refused it,
+-- and nobody was asked; or memory ran out
+abbrev pub IsRaiseTold : HallOf → SeatOf → Quota → Result (Unit {0}) Turned → SeatOf → Type 0
+IsRaiseTold begun before ask (Ok done) after =
+    (after ≡ stepped after.known before) × IsToldOf {X = Unit {0}} begun before.known (AdmitMore before.tenant ask) (Ok done) after.known
+IsRaiseTold begun before ask (Err (ByBook refusal)) after = after ≡ before
+IsRaiseTold begun before ask (Err OldTenant) after = ⊥
+IsRaiseTold begun before ask (Err OutOfMemory) after =
+    (after ≡ seeing after.known before) × IsToldOf {X = Unit {0}} begun before.known (AdmitMore before.tenant ask) (Err HallOutOfMemory) after.known

@@ -1,21 +1,24 @@
 -- Meaning: what lies under a site's lock, and what each call does to it.
-use Rattle.std.specs.Prelude.{◌≡◌, ℕ, ◌+◌, ◌%◌, ◌^◌, ◌==◌, Bool, true, false, ◌&&◌, ◌||◌, ◌⊎◌, List, [], ◌∷◌, ◌++◌, map, is_none, Option, Some, None, Result, Ok, Err}
-use Rattle.tenant_quota.specs.Quota.{Quota}
+use Rattle.std.specs.Prelude.{◌≡◌, ℕ, ◌+◌, ◌%◌, ◌^◌, ◌==◌, Bool, true, false, ◌&&◌, ◌||◌, ◌⊎◌, List, [], ◌∷◌, ◌++◌, map, is_none, Option, Some, None, Result}
 use Rattle.sched_rules.specs.declared.refusal.Refusal.{Refusal}
 use Rattle.sched_rules.specs.declared.step.StepOf.{StepOf}
 use Rattle.sched_rules.specs.declared.step.DidOf.{DidOf}
 use Rattle.desk.specs.Counts.{is_awaited, IsNextReady}
-use Rattle.site_desk.specs.Booked.{BookedOf, IsAdmission, IsEnd}
+use Rattle.desk.specs.Noted.{IsDone}
+use Rattle.site_desk.specs.Booked.{BookedOf, IsLetIn, IsTurnedAway, IsEnd}
+use Rattle.site_desk.specs.Seats.{SiteSeatOf}
 use Rattle.site_desk.specs.declared.turned.Turned.TheVariants.{ByBook, OldTenant, OutOfMemory}
 use Rattle.hall.specs.Halls.{IsDecided}
 use Rattle.hall.specs.jamboree_rules.declared.leaf.Leaf.{Leaf}
 use Rattle.hall.specs.jamboree_rules.declared.leaf.LeafAnswer.{LeafAnswer}
 use Rattle.site_book.specs.declared.held.Grant.{Grant}
 use Rattle.site_book.specs.declared.held.Overrun.{Overrun}
-use Rattle.site_book.specs.declared.who.Who.{Who}
+use Rattle.site_book.specs.declared.event.BookEvent.{BookEvent}
+use Rattle.site_book.specs.declared.event.BookEvent.TheVariants.{Opens, Closes}
 use Rattle.site_book.specs.Books.{BookOf, overrun_of}
 use Rattle.site_book.specs.Events.{names_granted}
 use Rattle.site_book.specs.Plans.{PlanOf}
+use Rattle.site_book.specs.declared.coming.Comer.{Comer}
 use Rattle.site_book.specs.declared.coming.Coming.{Coming}
 use Rattle.site_book.specs.declared.coming.Coming.TheVariants.{Enters, Waits, Ends, Refused}
 use Rattle.site_book.specs.declared.present.SessionMark.TheVariants.{Told as told_to}
@@ -31,9 +34,12 @@ use Rattle.site_desk.specs.Sharing.{share_customer, share_network, unshared}
 use Rattle.site_desk.specs.declared.entry.SeatOutcome.{SeatOutcome}
 use Rattle.site_desk.specs.declared.entry.SeatOutcome.TheVariants.{Seated, Later, Turned}
 
--- the hall with its book, who is there, who shares the workers and what each was served, and how many sessions have left, modulo 2^64
+-- the number of the desk, the hall with its book, what the book granted, who is there, who shares the workers and what each was served, and how
+-- many sessions have left, modulo 2^64
 pub record SiteOf : Type 0 where
+  pub at : ℕ
   pub booked : BookedOf
+  pub events : List (ℕ × BookEvent)
   pub roll : List Present
   pub shares : SharesOf
   pub left : ℕ
@@ -43,33 +49,38 @@ abbrev pub IsListed : BookOf → List Present → Type 0
 IsListed book roll = names_present roll ≡ names_granted book.grants
 
 -- what comes of one who asks for a session there
-abbrev pub met : SiteOf → Who → Quota → ℕ → ℕ → Coming
-met site who ask now most = coming site.booked.book.plan site.booked.book.grants site.roll who ask now most
+abbrev pub met : SiteOf → Comer → Coming
+met site comer = coming site.booked.book.plan site.booked.book.grants site.roll comer.who comer.ask comer.at comer.most
 
--- what is done where one asks for a session: where it enters, its tenant is admitted, its grant entered, itself listed and its share begun, all
--- at once; where a guest is to end for it, that one is told so; and else nothing changes. It is turned away where the book refuses it and
--- nobody's going would help, or where no number or no memory is left
-abbrev pub IsCame : SiteOf → Who → Quota → ℕ → ℕ → SeatOutcome → SiteOf → Type 0
-IsCame before who ask now most (Seated seat) after =
-    (met before who ask now most ≡ Enters) × (seat.who ≡ who) × (seat.asked ≡ []) × IsAdmission before.booked who ask (Ok seat.number) after.booked × (after ≡ record before { booked = after.booked; roll = before.roll ++ newcomer who seat.number now ∷ []; shares = tenant_entered seat.number (share_customer who) (share_network who) before.shares })
-IsCame before who ask now most (Later refusal None left) after = (met before who ask now most ≡ Waits refusal) × (left ≡ before.left) × (after ≡ before)
-IsCame before who ask now most (Later refusal (Some session) left) after =
-    (met before who ask now most ≡ Ends session refusal) × (left ≡ before.left) × (after ≡ record before { roll = marked_all (One session) (told_to ForAnother) before.roll })
-IsCame before who ask now most (Turned (ByBook refusal)) after = (met before who ask now most ≡ Refused refusal) × (after ≡ before)
-IsCame before who ask now most (Turned OldTenant) after = (met before who ask now most ≡ Enters) × (after ≡ before) × IsAdmission before.booked who ask (Err OldTenant) after.booked
-IsCame before who ask now most (Turned OutOfMemory) after = (met before who ask now most ≡ Enters) × (after ≡ before) × IsAdmission before.booked who ask (Err OutOfMemory) after.booked
+-- what is done where one asks for a session: where it enters, its tenant is admitted, its grant entered, which the book's history then has,
+-- itself listed and its share begun, all at once; where a guest is to end for it, that one is told so; and else nothing changes. It is turned
+-- away where the book refuses it and nobody's going would help, or where no number or no memory is left
+abbrev pub IsCame : SiteOf → Comer → SeatOutcome SiteSeatOf → SiteOf → Type 0
+IsCame before comer (Seated seat) after =
+    (met before comer ≡ Enters) × IsLetIn before.booked comer.who comer.ask seat.seat.tenant after.booked × (after ≡ record before { booked = after.booked; events = before.events ++ (seat.books.maker, Opens comer.who seat.seat.tenant comer.ask) ∷ []; roll = before.roll ++ newcomer comer.who seat.seat.tenant comer.at ∷ []; shares = tenant_entered seat.seat.tenant (share_customer comer.who) (share_network comer.who) before.shares })
+IsCame before comer (Later refusal None left) after = (met before comer ≡ Waits refusal) × (left ≡ before.left) × (after ≡ before)
+IsCame before comer (Later refusal (Some session) left) after =
+    (met before comer ≡ Ends session refusal) × (left ≡ before.left) × (after ≡ record before { roll = marked_all (One session) (told_to ForAnother) before.roll })
+IsCame before comer (Turned (ByBook refusal)) after = (met before comer ≡ Refused refusal) × (after ≡ before)
+IsCame before comer (Turned OldTenant) after = (met before comer ≡ Enters) × (after ≡ before) × IsTurnedAway before.booked comer.who comer.ask OldTenant after.booked
+IsCame before comer (Turned OutOfMemory) after = (met before comer ≡ Enters) × (after ≡ before) × IsTurnedAway before.booked comer.who comer.ask OutOfMemory after.booked
 
 -- what is done where a session leaves: its tenant leaves, its grant is taken back, it is listed no more and shares no more, all at once; nothing
 -- where it isn't there
-abbrev pub IsSessionGone : SiteOf → Who → ℕ → Bool → SiteOf → Type 0
-IsSessionGone before who number true after =
-    IsEnd before.booked who number true after.booked × (after ≡ record before { booked = after.booked; roll = without_present who number before.roll; shares = unshared number before.shares; left = (before.left + 1) % 2 ^ 64 })
-IsSessionGone before who number false after = IsEnd before.booked who number false after.booked × (after ≡ before)
+abbrev pub IsSessionGone : SiteOf → SiteSeatOf → Bool → SiteOf → Type 0
+IsSessionGone before seat true after =
+    IsEnd before.booked seat.who seat.seat.tenant true after.booked × (after ≡ record before { booked = after.booked; events = before.events ++ (seat.books.maker, Closes seat.who seat.seat.tenant) ∷ []; roll = without_present seat.who seat.seat.tenant before.roll; shares = unshared seat.seat.tenant before.shares; left = (before.left + 1) % 2 ^ 64 })
+IsSessionGone before seat false after = IsEnd before.booked seat.who seat.seat.tenant false after.booked × (after ≡ before)
 
 -- one step was offered to the hall, and nothing else was done
 abbrev pub IsSiteStep : SiteOf → StepOf LeafAnswer → Result (DidOf Leaf) Refusal → SiteOf → Type 0
 IsSiteStep before step answer after =
     IsDecided before.booked.hall step answer after.booked.hall × (after ≡ record before { booked = record before.booked { hall = after.booked.hall } })
+
+-- the same of a seat's step
+abbrev pub IsSeatStep : {X : Type 0} → SiteOf → StepOf LeafAnswer → Result X Refusal → SiteOf → Type 0
+IsSeatStep before step answer after =
+    IsDone before.booked.hall step answer after.booked.hall × (after ≡ record before { booked = record before.booked { hall = after.booked.hall } })
 
 -- whether one of these sessions has this number and wasn't told to end
 abbrev pub stays_in : ℕ → List Present → Bool

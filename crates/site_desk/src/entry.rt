@@ -1,12 +1,11 @@
-use crate::seat::SiteSeat;
 use crate::turned::Turned;
 use site_book::BookRefusal;
 
-/// What comes of one who asks for a session.
+/// What comes of one who asks for a session; `S` is its seat.
 #[derive(Drop)]
-pub enum SeatOutcome {
+pub enum SeatOutcome<S> {
     /// It has this seat.
-    Seated(SiteSeat),
+    Seated(S),
     /// It is refused now, but there is room once those have left who were told to end.
     Later {
         /// Why it is refused now.

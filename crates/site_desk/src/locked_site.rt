@@ -1,89 +1,143 @@
-//! What lies under a site's lock: the hall with its book, the roll of who is there, and who shares the workers.
-ghost use Rattle.std.specs.Prelude.{◌≡◌, ◌≢◌, ◌≤◌, [], true, length, Ok, Err, Some, None, Contains, IfErr, Option, MatchResult};
-ghost use Rattle.sched_rules.specs.declared.refusal.Refusal.TheVariants.{NoJob, OutOfMemory};
-ghost use Rattle.sched_rules.specs.declared.step.StepOf.TheVariants.{Submit, Cancel};
-ghost use Rattle.sched_rules.specs.declared.step.DidOf.{DidOf};
-ghost use Rattle.sched_rules.specs.Views.{left_in_core, live_of, job_of};
-ghost use Rattle.site_desk.specs.Booked.{IsRaise, is_within_seat};
-ghost use Rattle.hall.specs.Halls.{count_of};
-ghost use Rattle.hall.specs.jamboree_rules.declared.leaf.Leaf.{Leaf as LeafOf};
+//! What lies under a site's lock: the hall with the history of its steps, the book of its customers, the roll of who is there, and who
+//! shares the workers. The seat is the grant.
+//!
+//! A session is a tenant and a grant of the same number. It begins by [`LockedSite::come`], may be raised, and ends by
+//! [`LockedSite::leave`]; each of these does both or neither. All other steps of the hall neither begin nor end a tenant, nor raise what it
+//! reserves.
+//!
+//! The invariant is that the book's grants are the hall's tenants, one for one and in their order, with the same reservations
+//! (`IsBooked` of `specs/Booked.antt`), and that those listed are those who have a grant, in the same order (`IsListed`). So nothing can
+//! leak: no tenant is there without a grant, no grant without a tenant, and what a session gives back is given back in both. And the hall
+//! never refuses for room what the book grants: a customer is turned away by the book, or since all 2^62 numbers were given, or for want of
+//! memory ([`Turned`]), and for nothing else.
+//!
+//! - The plan's totals are within the hall's, and whatever the book doesn't refuse is within the plan's totals. Both sums are of
+//!   the same seats, so the hall's own test for room can't fail.
+//! - The hall is asked between the book's two calls, since it alone may run out of memory: the book has nothing to undo then.
+//! - The numbers of tenants rise, so a number means one seat, though the hall removes by number and the book by customer and number.
+//!
+//! All halls of a site are of one type. So the type names the histories of all of them, and a number says which one is this hall's
+//! ([`SiteNaming`]): the hall has come from the one that its desk was made with by the steps of that one (`HasCome`).
+ghost use Rattle.std.specs.Prelude.{◌≡◌, ◌≢◌, ◌≤◌, ◌++◌, ◌∷◌, [], ℕ, if◌then◌else◌, is_ok, length, Err, Some, None, Contains, IfErr, IfSome, MatchResult, is_some};
+ghost use Rattle.sched_rules.specs.declared.refusal.Refusal.TheVariants.{NoJob};
+ghost use Rattle.sched_rules.specs.declared.step.StepOf.TheVariants.{Submit, Cancel, Leave};
+ghost use Rattle.site_desk.specs.Booked.{IsRaise};
 ghost use Rattle.hall.specs.jamboree_rules.Places.{root_words, frame_size};
+ghost use Rattle.hall.specs.jamboree_rules.Procedure.{jamboree};
 ghost use Rattle.hall.specs.jamboree_rules.othello_eval.othello_moves.declared.choices.TheConstants.{DEEPEST};
-ghost use Rattle.hall.specs.jamboree_core.Replies.{IsSearch};
-ghost use Rattle.hall.specs.jamboree_core.declared.outcomes.Outcome.{Outcome as OutcomeOf};
-ghost use Rattle.hall.specs.jamboree_core.Outcomes.{IsOutcomeIn};
-ghost use Rattle.hall.specs.desk_rules.Asked.{ask_refusals, cancel_refusals, seat_asked_at, IsShown, IsToldBy, found_or_no_tenant};
-ghost use Rattle.site_book.specs.Books.{taken, why_not_replan, Replans};
+ghost use Rattle.hall.specs.desk_rules.Asked.{ask_refusals, cancel_refusals, seat_asked_at, IsShown};
+ghost use Rattle.desk.specs.Seats.{seeing, stepped, IsAsked};
+ghost use Rattle.desk.specs.Histories.{core_at, steps_of, AreTaken, IsLook, IsShownAt, IsToldOf, IsTrueTo, Saw, Took};
+ghost use Rattle.site_book.specs.Books.{taken, why_not_replan};
+ghost use Rattle.site_book.specs.declared.event.BookEvent.TheVariants.{Closes, Raises, Replans};
 ghost use Rattle.site_book.specs.Comings.{told_by};
 ghost use Rattle.site_book.specs.declared.coming.Coming.TheVariants.{Enters};
 ghost use Rattle.site_book.specs.Rolls.{marked_all};
-ghost use Rattle.fair_share.specs.Lines.{empty_line};
 ghost use Rattle.fair_share.specs.Picks.{charged_to};
-ghost use Rattle.site_desk.specs.Seats.{IsSiteAsk};
-ghost use Rattle.site_desk.specs.Sites.{IsCame, IsSessionGone, IsSiteStep, IsSitePick, met, overruns_of, stays_in};
+ghost use Rattle.site_desk.specs.Entries.{IsEntry};
+ghost use Rattle.site_desk.specs.Granted.{book_at, IsBookLook, IsGrantedFrom};
+ghost use Rattle.site_desk.specs.Seats.{IsRaiseTold};
+ghost use Rattle.site_desk.specs.Sites.{IsCame, IsSeatStep, IsSessionGone, IsSitePick, met, overruns_of, stays_in};
 
 use crate::badge::SiteBadge;
-use crate::booked::BookedHall;
 use crate::entry::SeatOutcome;
-use crate::seat::SiteSeat;
+use crate::naming::SiteNaming;
+use crate::seat::{SiteSeat, SiteTrace};
 use crate::sharing::{share, unshare};
-use crate::turned::Turned;
+use crate::stock::SiteStock;
+use crate::turned::{Turned, turned_by};
 use arrayvec::ArrayVec;
-use desk::UnderLock;
-use desk::reading::{has_ready, is_awaited, left_of, live_of, next_ready, told_of};
+use desk::reading::{has_ready, is_awaited, next_ready, told_of};
+use desk::{NotedHall, StepLog, Token, UnderLock};
 use fair_share::{FairShare, charge, fair_task};
-use hall::desk_rules::{JOBS, SeatAsked, seat_asked_at};
-use hall::{Jamboree, Outcome, Refusal, Step, StepAnswer, StepOf, submit};
+use hall::{Hall, Jamboree, Outcome, Refusal, Step, StepAnswer};
 use jamboree_rules::pool_rules::Task;
 use othello_board::position_text::Position;
 use site_book::{
-    BookRefusal, Comer, Coming, CustomerBook, MOST, Overrun, Plan, Present, Roll, SessionMark,
-    Told, Who, Whom, what_comes_of,
+    BookEvent, BookRefusal, Comer, Coming, CustomerBook, MOST, Overrun, Plan, Present, Roll,
+    SessionMark, Told, Whom, what_comes_of,
 };
 use std::alloc::{Allocator, Global};
-use std::marker::Model;
-use tenant_quota::{Left, Reserve};
-
+use std::marker::{Model, PhantomData};
+use tenant_quota::Reserve;
 /// What lies under a site's lock.
 #[derive(Drop)]
-pub struct LockedSite<A: Allocator = Global> {
-    booked: BookedHall<A>,
+pub struct LockedSite<J: SiteNaming, A: Allocator = Global> {
+    /// The number of the desk.
+    at: u64,
+    noted: NotedHall<A>,
+    /// What all workers make their steps with. It takes no bytes.
+    workers: Token<Step<Jamboree>>,
+    book: CustomerBook,
+    /// What the book granted since it was made. It takes a word.
+    events: StepLog<BookEvent>,
+    /// What other plans come by. It takes no bytes.
+    plans: Token<BookEvent>,
     roll: Roll,
     /// Who shares the workers, and what each was served.
     shares: FairShare,
     /// How many sessions have left.
     left: u64,
+    of: PhantomData<J>,
 }
 
-// Clauses see the hall with its book, who is there, who shares the workers, and how many sessions have left.
-impl<A: Allocator> Model for LockedSite<A> {
+// Clauses see the desk's number, the hall with its book, what the book granted, who is there, who shares the workers, and how many sessions
+// have left.
+impl<J: SiteNaming, A: Allocator> Model for LockedSite<J, A> {
+    ghost use Rattle.std.specs.Prelude.{◌≡◌};
+    ghost use Rattle.desk.specs.Noted.{HasCome};
+    ghost use Rattle.site_desk.specs.Booked.{IsBooked};
+    ghost use Rattle.site_desk.specs.Granted.{IsBookBy};
     ghost use Rattle.site_desk.specs.Sites.{SiteOf, IsListed};
 
     ghost Value = { SiteOf };
 
-    ghost view = { λ k. record { booked = k.booked; roll = k.roll; shares = k.shares; left = k.left } };
+    ghost view = { λ k. record { at = k.at; booked = record { hall = k.noted.hall; book = k.book }; events = k.events.entries; roll = k.roll; shares = k.shares; left = k.left } };
 
-    ghost invariant = { λ k. IsListed k.booked.book k.roll };
+    ghost invariant = { λ k. IsBooked k.noted.hall k.book × IsListed k.book k.roll × HasCome (J.begun k.at) k.noted × (k.noted.id ≡ J.table k.at) × (k.workers.id ≡ J.table k.at) × IsBookBy (J.plan k.at) k.events.entries k.book × (k.events.id ≡ J.granted k.at) × (k.plans.id ≡ J.granted k.at) };
 }
 
-impl<A: Allocator + Clone> LockedSite<A> {
-    /// A hall with its book, where nobody is, and what customers were served before.
-    pub(crate) fn new(booked: BookedHall<A>, shares: FairShare) -> LockedSite<A>
-        requires nobody { booked.book.grants ≡ [] }
-        requires none_shares { shares.tenants ≡ empty_line }
-        ensures { result ≡ record { booked = booked; roll = []; shares = shares; left = 0 } }
+impl<J: SiteNaming, A: Allocator + Clone> LockedSite<J, A> {
+    /// A hall with its book, where nobody is, for the desk of this number.
+    pub(crate) fn new(at: u64, stock: SiteStock<A>) -> LockedSite<J, A>
+        requires history { stock.opened ≡ J.table at }
+        requires begun { stock.hall ≡ J.begun at }
+        requires granted { stock.granted ≡ J.granted at }
+        requires plan { stock.book.plan ≡ J.plan at }
+        ensures { result ≡ record { at = at; booked = record { hall = stock.hall; book = stock.book }; events = []; roll = []; shares = stock.shares; left = 0 } }
     {
+        let SiteStock {
+            hall,
+            book,
+            shares,
+            opened,
+            granted,
+        } = stock;
+        let mut noted = NotedHall::new(hall, opened);
+        let workers = noted.begin();
+        let mut events = granted.into_log();
+        let plans = events.begin();
         LockedSite {
-            booked,
+            at,
+            noted,
+            workers,
+            book,
+            events,
+            plans,
             roll: Roll::new(),
             shares,
             left: 0,
+            of: PhantomData,
         }
     }
 
-    /// What comes of one who asks for a session: it enters where the book allows it.
-    pub(crate) fn come(&mut self, comer: &Comer) -> SeatOutcome
-        ensures { IsCame self.old comer.now.who comer.now.ask comer.now.at comer.now.most result self.new }
+    /// What comes of one who asks for a session: it enters where the book allows it. Turned away `ByBook` exactly where the book refuses
+    /// it and nobody's going would help; never for room, since the hall has room for what the book grants; else only where all 2^62
+    /// numbers were given, or memory ran out. Then nothing has changed.
+    #[tactic(auto, using(crate::proofs::Lists::names_marked))]
+    pub fn come(&mut self, comer: &Comer) -> SeatOutcome<SiteSeat<J>>
+        ensures came { IsCame self.old comer.now result self.new }
+        ensures entry { IsEntry (J.begun self.old.at) (J.plan self.old.at) self.old.at comer.now.who comer.now.ask result }
     {
         match self.met(comer) {
             Coming::Enters => self.let_in(comer),
@@ -107,60 +161,104 @@ impl<A: Allocator + Clone> LockedSite<A> {
     /// What is to come of one who asks for a session.
     #[tactic(auto, using(crate::proofs::Lists::alike))]
     fn met(&self, comer: &Comer) -> Coming
-        ensures { result ≡ met self.now comer.now.who comer.now.ask comer.now.at comer.now.most }
+        ensures { result ≡ met self.now comer.now }
     {
-        let book = self.booked.book();
-        what_comes_of(book.plan(), book.grants(), self.roll.entries(), comer)
+        let grants = self.book.grants();
+        what_comes_of(self.book.plan(), grants, self.roll.entries(), comer)
     }
 
-    /// Lets one in whom the book allows it: its tenant is admitted, its grant entered, itself listed, and its share begun.
-    #[tactic(auto, using(crate::proofs::Lists::has_place, crate::proofs::Lists::listed_open, crate::proofs::Comings::turned_away))]
-    fn let_in(&mut self, comer: &Comer) -> SeatOutcome
-        requires { met self.old comer.now.who comer.now.ask comer.now.at comer.now.most ≡ Enters }
-        ensures { IsCame self.old comer.now.who comer.now.ask comer.now.at comer.now.most result self.new }
+    /// Lets one in whom the book allows it: its tenant is admitted under the number after the greatest so far, its grant entered, itself
+    /// listed, and its share begun.
+    fn let_in(&mut self, comer: &Comer) -> SeatOutcome<SiteSeat<J>>
+        requires { met self.old comer.now ≡ Enters }
+        ensures came { IsCame self.old comer.now result self.new }
+        ensures entry { IsEntry (J.begun self.old.at) (J.plan self.old.at) self.old.at comer.now.who comer.now.ask result }
     {
-        match self.booked.admit(comer.who, comer.ask) {
-            Ok(number) => {
+        if let Some(refusal) = self.book.why_not_open(comer.who, comer.ask) {
+            return SeatOutcome::Turned(Turned::ByBook(refusal));
+        }
+        match self.noted.admit(comer.ask) {
+            Ok(core) => {
+                let number = core.tenant();
+                self.book.open(comer.who, number, comer.ask);
+                let mut books = self.events.begin();
+                self.events.add(&mut books, &BookEvent::Opens(comer.who, number, comer.ask));
                 // This read says that there is a place left in the roll.
-                let _grants = self.booked.book().grants();
+                let _grants = self.book.grants();
                 self.roll.enter(comer.who, number, comer.at);
                 share(&mut self.shares, comer.who, number);
-                SeatOutcome::Seated(SiteSeat::new(comer.who, number))
+                SeatOutcome::Seated(SiteSeat {
+                    who: comer.who,
+                    at: self.at,
+                    core,
+                    books,
+                    of: PhantomData,
+                })
             }
-            Err(turned) => SeatOutcome::Turned(turned),
+            Err(refusal) => SeatOutcome::Turned(turned_by(refusal)),
         }
     }
 
-    /// Raises what a session reserves where the book allows it: in the hall and in the book, or in neither.
-    #[tactic(auto, using(crate::proofs::Lists::listed_raised))]
-    pub(crate) fn raise(&mut self, seat: &SiteSeat, ask: Reserve) -> Result<(), Turned>
-        ensures raise { IsRaise self.old.booked seat.now.who seat.now.number ask result self.new.booked }
-        ensures others { self.new ≡ record self.old { booked = self.new.booked } }
+    /// Raises what a session reserves where the book allows it: in the hall and in the book, or in neither. Turned away `ByBook` exactly
+    /// where the book refuses it (among others as there is no such session), else only where memory ran out. Then nothing has changed.
+    pub fn raise(&mut self, seat: &mut SiteSeat<J>, ask: Reserve) -> Result<(), Turned>
+        requires { seat.old.at ≡ self.old.at }
+        ensures raise { IsRaise self.old.booked seat.old.who seat.old.seat.tenant ask result self.new.booked }
+        ensures events { self.new.events ≡ if is_ok result then self.old.events ++ (seat.old.books.maker, Raises seat.old.who seat.old.seat.tenant ask) ∷ [] else self.old.events }
+        ensures others { self.new ≡ record self.old { booked = self.new.booked; events = self.new.events } }
+        ensures told { IsRaiseTold (J.begun self.old.at) seat.old.seat ask result seat.new.seat }
+        ensures granted { MatchResult result (λ _. Took seat.old.books (Raises seat.old.who seat.old.seat.tenant ask) seat.new.books) (λ _. seat.new.books ≡ seat.old.books) }
+        ensures seat { seat.new ≡ record seat.old { seat = seat.new.seat; books = seat.new.books } }
     {
-        self.booked.raise(seat.who, seat.number, ask)
+        let number = seat.core.tenant();
+        if let Some(refusal) = self.book.why_not_raise(seat.who, number, ask) {
+            return Err(Turned::ByBook(refusal));
+        }
+        match self.noted.reserve(&mut seat.core, ask) {
+            Ok(()) => {
+                self.book.raise(seat.who, number, ask);
+                let who = seat.who;
+                self.events
+                    .add(&mut seat.books, &BookEvent::Raises(who, number, ask));
+                Ok(())
+            }
+            Err(refusal) => Err(turned_by(refusal)),
+        }
     }
 
-    /// A session leaves: its tenant leaves the hall, its grant is taken back, it is listed no more, and shares no more.
-    /// False where it isn't there.
-    #[tactic(auto, using(crate::proofs::Lists::listed_close))]
-    pub(crate) fn leave(&mut self, seat: &SiteSeat) -> bool
-        ensures { IsSessionGone self.old seat.now.who seat.now.number result self.new }
+    /// A session leaves: its tenant leaves the hall, its grant is taken back, it is listed no more, and shares no more. Gives back what
+    /// its seat then knows of the history, which ends with the tenant's Leave. `None` where the book has no such session: then nothing
+    /// has changed.
+    pub fn leave(&mut self, seat: SiteSeat<J>) -> Option<SiteTrace<J>>
+        requires { seat.at ≡ self.old.at }
+        ensures gone { IsSessionGone self.old seat (is_some result) self.new }
+        ensures told { IfSome result (λ trace. (trace.at ≡ seat.at) × Took seat.seat.known (Leave seat.seat.tenant) trace.known × IsTrueTo (J.begun seat.at) seat.seat.tenant trace.known) }
+        ensures closed { IfSome result (λ trace. Took seat.books (Closes seat.who seat.seat.tenant) trace.books × IsGrantedFrom (J.plan seat.at) trace.books.seen) }
     {
-        let (who, number) = (seat.who, seat.number);
-        let LockedSite {
-            booked,
-            roll,
-            shares,
-            left,
+        let SiteSeat {
+            who,
+            at,
+            core,
+            books,
             ..
-        } = self;
-        if !booked.leave(who, number) {
-            return false;
+        } = seat;
+        let mut books = books;
+        let number = core.tenant();
+        if !self.book.has(who, number) {
+            return None;
         }
-        roll.leave(who, number);
-        unshare(shares, number);
-        *left = left.wrapping_add(1);
-        true
+        let token = self.noted.leave(core);
+        self.book.close(who, number);
+        self.events.add(&mut books, &BookEvent::Closes(who, number));
+        self.roll.leave(who, number);
+        unshare(&mut self.shares, number);
+        self.left = self.left.wrapping_add(1);
+        Some(SiteTrace {
+            at,
+            token,
+            books,
+            of: PhantomData,
+        })
     }
 
     /// Notes something of these sessions.
@@ -176,84 +274,139 @@ impl<A: Allocator + Clone> LockedSite<A> {
     pub(crate) fn tell_by(&mut self, plan: &Plan)
         ensures { self.new ≡ record self.old { roll = told_by plan.now [] self.old.booked.book.grants self.old.roll } }
     {
-        let grants = self.booked.book().grants();
+        let grants = self.book.grants();
         self.roll.tell_by(plan, grants);
     }
 
     /// Goes on by another plan where nothing forbids it, and returns the one that was there; else returns the plan and why it
     /// doesn't come in.
-    pub(crate) fn replan(&mut self, plan: Plan) -> Result<Plan, (Plan, BookRefusal)>
+    pub fn replan(&mut self, plan: Plan) -> Result<Plan, (Plan, BookRefusal)>
         ensures { MatchResult result
-            (λ was. (why_not_replan self.old.booked.book plan ≡ None) × (was ≡ self.old.booked.book.plan) × (self.new ≡ record self.old { booked = record self.old.booked { book = taken self.old.booked.book (Replans plan) } }))
+            (λ was. (why_not_replan self.old.booked.book plan ≡ None) × (was ≡ self.old.booked.book.plan) × (maker : ℕ) × (self.new ≡ record self.old { booked = record self.old.booked { book = taken self.old.booked.book (Replans plan) }; events = self.old.events ++ (maker, Replans plan) ∷ [] }))
             (λ refused. (why_not_replan self.old.booked.book plan ≡ Some refused.1) × (refused.0 ≡ plan) × (self.new ≡ self.old)) }
     {
-        match self.booked.book().why_not_replan(&plan) {
-            None => Ok(self.booked.replan(plan)),
+        match self.book.why_not_replan(&plan) {
+            None => Ok(self.go_by(plan)),
             Some(refusal) => Err((plan, refusal)),
         }
     }
 
-    /// Offers a step that neither begins nor ends a tenant, nor raises what it reserves.
-    fn take(&mut self, step: &Step<Jamboree>) -> StepAnswer
-        requires search { IsSearch step.now }
-        requires within { is_within_seat step.now ≡ true }
-        ensures step { IsSiteStep self.old step.now result self.new }
-        ensures memory { result ≢ Err OutOfMemory }
+    /// Goes on by another plan, which nothing forbids, and returns the one that was there.
+    fn go_by(&mut self, plan: Plan) -> Plan
+        requires { why_not_replan self.old.booked.book plan ≡ None }
+        ensures was { result ≡ self.old.booked.book.plan }
+        ensures taken { (maker : ℕ) × (self.new ≡ record self.old { booked = record self.old.booked { book = taken self.old.booked.book (Replans plan) }; events = self.old.events ++ (maker, Replans plan) ∷ [] }) }
     {
-        self.booked.offer(step)
+        let LockedSite {
+            book,
+            events,
+            plans,
+            ..
+        } = self;
+        let event = BookEvent::Replans(plan);
+        events.add(plans, &event);
+        match event {
+            BookEvent::Replans(plan) => book.replan(plan),
+            _ => unreachable!(),
+        }
     }
 
     /// Submits the search of a position for a seat, adds it to the seat's list, and returns the job's number, the list's new length.
     /// Where the list has 256 entries the hall isn't asked, and the refusal is `NoJobsLeft`. At any refusal nothing changes.
     pub(crate) fn ask(
         &mut self,
-        seat: &mut SiteSeat,
+        seat: &mut SiteSeat<J>,
         position: &Position,
         depth: u8,
     ) -> Result<u64, Refusal>
-        requires { depth ≤ DEEPEST }
-        ensures asked { IsSiteAsk (record { board = position.now.board; depth = depth }) seat.old result seat.new }
+        requires own { seat.old.at ≡ self.old.at }
+        requires deep { depth ≤ DEEPEST }
+        ensures asked { IsAsked (record { board = position.now.board; depth = depth }) seat.old.seat result seat.new.seat }
         ensures refused { IfErr result (Contains ask_refusals) }
-        ensures full { length seat.old.asked ≡ 256 → self.new ≡ self.old }
-        ensures step { MatchResult result
-            (λ _. (did : DidOf LeafOf) × IsSiteStep self.old (Submit seat.old.number (root_words position.now.board.own position.now.board.opp depth) frame_size) (Ok did) self.new)
-            (λ refusal. length seat.old.asked ≢ 256 → IsSiteStep self.old (Submit seat.old.number (root_words position.now.board.own position.now.board.opp depth) frame_size) (Err refusal) self.new) }
+        ensures full { length seat.old.seat.asked ≡ 256 → (self.new ≡ self.old) × (seat.new ≡ seat.old) }
+        ensures told { length seat.old.seat.asked ≢ 256 → IsToldOf (J.begun self.old.at) seat.old.seat.known (Submit seat.old.seat.tenant (root_words position.now.board.own position.now.board.opp depth) frame_size) result seat.new.seat.known }
+        ensures step { length seat.old.seat.asked ≢ 256 → IsSeatStep self.old (Submit seat.old.seat.tenant (root_words position.now.board.own position.now.board.opp depth) frame_size) result self.new }
+        ensures seat { seat.new ≡ record seat.old { seat = seat.new.seat } }
     {
-        if seat.asked.len() == JOBS {
-            return Err(Refusal::NoJobsLeft);
-        }
-        let search = submit(seat.number, position, depth);
-        self.take(&search)?;
-        seat.asked.push(SeatAsked {
-            board: position.board,
-            depth,
-        });
-        Ok(seat.asked.len() as u64)
+        self.noted.ask(&mut seat.core, position, depth)
     }
 
     /// Cancels a seat's job. Where the seat asked for no job of this number the hall isn't asked, and the refusal is `NoJob`; the
     /// hall refuses with `NoJob` where the job has ended, and with `NoTenant`.
-    pub(crate) fn cancel(&mut self, seat: &SiteSeat, job: u64) -> Result<(), Refusal>
-        ensures none { seat_asked_at seat.now.asked job ≡ None → (result ≡ Err NoJob) × (self.new ≡ self.old) }
-        ensures step { MatchResult result
-            (λ _. (did : DidOf LeafOf) × IsSiteStep self.old (Cancel seat.now.number job) (Ok did) self.new)
-            (λ refusal. seat_asked_at seat.now.asked job ≢ None → IsSiteStep self.old (Cancel seat.now.number job) (Err refusal) self.new) }
+    pub(crate) fn cancel(&mut self, seat: &mut SiteSeat<J>, job: u64) -> Result<(), Refusal>
+        requires { seat.old.at ≡ self.old.at }
+        ensures share { MatchResult result (λ _. seat.new.seat ≡ stepped seat.new.seat.known seat.old.seat) (λ _. seat.new.seat ≡ seeing seat.new.seat.known seat.old.seat) }
+        ensures none { seat_asked_at seat.old.seat.asked job ≡ None → (result ≡ Err NoJob) × (self.new ≡ self.old) × (seat.new ≡ seat.old) }
+        ensures told { seat_asked_at seat.old.seat.asked job ≢ None → IsToldOf (J.begun self.old.at) seat.old.seat.known (Cancel seat.old.seat.tenant job) result seat.new.seat.known }
+        ensures step { seat_asked_at seat.old.seat.asked job ≢ None → IsSeatStep self.old (Cancel seat.old.seat.tenant job) result self.new }
         ensures refused { IfErr result (Contains cancel_refusals) }
+        ensures seat { seat.new ≡ record seat.old { seat = seat.new.seat } }
     {
-        if seat_asked_at(seat.asked.as_slice(), job).is_none() {
-            return Err(Refusal::NoJob);
-        }
-        let step = StepOf::Cancel(seat.number, job);
-        self.take(&step)?;
-        Ok(())
+        self.noted.cancel(&mut seat.core, job)
     }
 
-    /// How a seat's job stands, as `shown` tells it; `NoJob` where the seat asked for no job of this number.
-    pub(crate) fn get(&self, seat: &SiteSeat, job: u64) -> Result<Outcome, Refusal>
-        ensures shown { IsShown (seat_asked_at seat.now.asked job) result }
-        ensures told { (told : Option OutcomeOf) × IsOutcomeIn (job_of self.now.booked.hall.shared seat.now.number job) told × IsToldBy (seat_asked_at seat.now.asked job) told result }
+    /// Lets a seat see the history so far.
+    pub(crate) fn show(&mut self, seat: &mut SiteSeat<J>)
+        requires { seat.old.at ≡ self.old.at }
+        ensures same { self.new ≡ self.old }
+        ensures look { IsLook (J.begun self.old.at) seat.old.seat seat.new.seat }
+        ensures core { self.old.booked.hall.shared ≡ core_at (J.begun self.old.at) seat.new.seat.known.seen }
+        ensures seat { seat.new ≡ record seat.old { seat = seat.new.seat } }
     {
-        told_of(self.booked.hall(), seat.number(), seat.asked(), job)
+        self.noted.show(&mut seat.core);
+    }
+
+    /// How a seat's job stands, as `shown` tells it; `NoJob` where the seat asked for no job of this number. The seat has then seen the
+    /// history so far.
+    pub(crate) fn get(&mut self, seat: &mut SiteSeat<J>, job: u64) -> Result<Outcome, Refusal>
+        requires { seat.old.at ≡ self.old.at }
+        ensures look { IsLook (J.begun self.old.at) seat.old.seat seat.new.seat }
+        ensures shown { IsShown (seat_asked_at seat.new.seat.asked job) result }
+        ensures told { IsShownAt (J.begun self.old.at) seat.new.seat job result }
+        ensures seat { seat.new ≡ record seat.old { seat = seat.new.seat } }
+    {
+        self.show(seat);
+        told_of(self.hall(), seat.number(), seat.asked(), job)
+    }
+
+    /// Lets two makers see the history so far.
+    pub(crate) fn compare(&mut self, one: &mut SiteTrace<J>, other: &mut SiteTrace<J>)
+        requires { (one.old.at ≡ self.old.at) × (other.old.at ≡ self.old.at) }
+        ensures same { self.new ≡ self.old }
+        ensures one { (one.new.at ≡ one.old.at) × Saw one.old.known one.new.known }
+        ensures other { (other.new.at ≡ other.old.at) × Saw other.old.known other.new.known }
+        ensures history { one.new.known.seen ≡ other.new.known.seen }
+        ensures legal { AreTaken (jamboree (J.begun self.old.at).grain) (J.begun self.old.at).shared (steps_of one.new.known.seen) }
+        ensures books { IsBookLook (J.plan self.old.at) one.old.books one.new.books × IsBookLook (J.plan self.old.at) other.old.books other.new.books × (one.new.books.seen ≡ other.new.books.seen) }
+    {
+        self.noted.compare(&mut one.token, &mut other.token);
+        self.events.show(&mut one.books);
+        self.events.show(&mut other.books);
+    }
+
+    /// Lets a seat see what the book granted so far.
+    pub(crate) fn show_book(&mut self, seat: &mut SiteSeat<J>)
+        requires { seat.old.at ≡ self.old.at }
+        ensures same { self.new ≡ self.old }
+        ensures look { IsBookLook (J.plan self.old.at) seat.old.books seat.new.books }
+        ensures book { self.old.booked.book ≡ book_at (J.plan self.old.at) seat.new.books.seen }
+        ensures seat { seat.new ≡ record seat.old { books = seat.new.books } }
+    {
+        self.events.show(&mut seat.books);
+    }
+
+    /// The hall, for reading.
+    pub(crate) fn hall(&self) -> &Hall<A>
+        ensures { result.now ≡ self.now.booked.hall }
+    {
+        self.noted.hall()
+    }
+
+    /// The number of the desk.
+    pub(crate) fn at(&self) -> u64
+        ensures { result ≡ self.now.at }
+    {
+        self.at
     }
 
     /// Whether a session is there and wasn't told to end.
@@ -263,26 +416,12 @@ impl<A: Allocator + Clone> LockedSite<A> {
         stays_in(self.roll.entries(), number)
     }
 
-    /// The segments, nodes and steps that a seat's tenant has left; `NoTenant` where it isn't there.
-    pub(crate) fn quota(&self, seat: &SiteSeat) -> Result<Left, Refusal>
-        ensures { result ≡ found_or_no_tenant (left_in_core self.now.booked.hall.shared seat.now.number) }
-    {
-        left_of(self.booked.hall(), seat.number())
-    }
-
-    /// How many frames a seat's tenant has, and how many words these have together; `NoTenant` where it isn't there.
-    pub(crate) fn live(&self, seat: &SiteSeat) -> Result<(usize, usize), Refusal>
-        ensures { result ≡ found_or_no_tenant (live_of self.now.booked.hall.shared seat.now.number) }
-    {
-        live_of(self.booked.hall(), seat.number())
-    }
-
     /// The task that comes next, by who was served least: the newest ready frame of a tenant of a customer that none with a ready frame
     /// was served less than; `None` where no tenant that shares has one. The frame isn't taken, and nobody is charged.
     pub(crate) fn pick(&mut self) -> Option<Task>
         ensures { IsSitePick self.old result self.new }
     {
-        let hall = self.booked.hall();
+        let hall = self.noted.hall();
         fair_task(hall, &mut self.shares)
     }
 
@@ -291,13 +430,6 @@ impl<A: Allocator + Clone> LockedSite<A> {
         ensures { self.new ≡ record self.old { shares = charged_to tenant amount self.old.shares } }
     {
         charge(&mut self.shares, tenant, amount);
-    }
-
-    /// How many steps the hall has taken since it was made.
-    pub(crate) fn count(&self) -> u128
-        ensures { result ≡ count_of self.now.booked.hall }
-    {
-        self.booked.hall().count()
     }
 
     /// How many sessions have left, modulo 2^64.
@@ -311,14 +443,14 @@ impl<A: Allocator + Clone> LockedSite<A> {
     pub(crate) fn book(&self) -> &CustomerBook
         ensures { result.now ≡ self.now.booked.book }
     {
-        self.booked.book()
+        &self.book
     }
 
     /// By how much each grant's part has more than a plan allows, in the order of the grants.
     pub(crate) fn overruns(&self, plan: &Plan) -> ArrayVec<Option<Overrun>, MOST>
         ensures { result.items ≡ overruns_of plan.now self.now.booked.book.grants self.now.booked.book.grants }
     {
-        let book = self.booked.book();
+        let book = &self.book;
         let mut overruns = ArrayVec::new();
         let mut rest = book.grants();
         while let Some((held, later)) = rest.split_first() {
@@ -338,7 +470,7 @@ impl<A: Allocator + Clone> LockedSite<A> {
     }
 }
 
-impl<A: Allocator + Clone> UnderLock for LockedSite<A> {
+impl<J: SiteNaming, A: Allocator + Clone> UnderLock for LockedSite<J, A> {
     ghost use Rattle.desk.specs.Counts.{has_ready};
     ghost use Rattle.fair_share.specs.Picks.{IsFairTask};
     ghost use Rattle.site_desk.specs.Sites.{IsSiteStep, IsNextTask, site_waits_on};
@@ -357,7 +489,7 @@ impl<A: Allocator + Clone> UnderLock for LockedSite<A> {
     ghost is_fair = { λ site task. IsFairTask site.booked.hall.shared site.shares task };
 
     fn offer(&mut self, badge: &mut SiteBadge, step: &Step<Jamboree>) -> StepAnswer {
-        let answer = self.take(step);
+        let answer = self.noted.offer(&mut self.workers, step);
         if answer.is_ok() {
             badge.steps += 1;
         }
@@ -365,17 +497,17 @@ impl<A: Allocator + Clone> UnderLock for LockedSite<A> {
     }
 
     fn has_ready(&self) -> bool {
-        has_ready(self.booked.hall())
+        has_ready(self.noted.hall())
     }
 
     fn waits_on(&self, tenant: u64, job: u64) -> bool {
-        self.stays(tenant) && is_awaited(self.booked.hall(), tenant, job)
+        self.stays(tenant) && is_awaited(self.noted.hall(), tenant, job)
     }
 
     fn next_task(&mut self) -> Option<Task> {
         match self.pick() {
             Some(task) => Some(task),
-            None => next_ready(self.booked.hall()),
+            None => next_ready(self.noted.hall()),
         }
     }
 

@@ -1,42 +1,40 @@
 //! A session's seat.
-ghost use Rattle.std.specs.Prelude.{◌≡◌, ◌≤◌, [], length};
+ghost use Rattle.std.specs.Prelude.{◌≡◌, ◌≢◌, ◌≤◌, ◌<◌, length, Err, None, Contains};
+ghost use Rattle.sched_rules.specs.declared.refusal.Refusal.TheVariants.{NoJob, NoJobsLeft};
+ghost use Rattle.hall.specs.desk_rules.Asked.{ask_refusals, cancel_refusals, seat_asked_at, IsShown};
 
-use arrayvec::ArrayVec;
-use hall::desk_rules::{JOBS, SeatAsked};
-use site_book::Who;
-use std::marker::Model;
+use crate::naming::SiteNaming;
+use desk::{SeatCore, Token};
+use hall::desk_rules::{JOBS, SeatAsked, seat_asked_at};
+use hall::{Jamboree, Outcome, Refusal, Step};
+use site_book::{BookEvent, Who};
+use std::marker::{Model, PhantomData};
 
-/// A session's place at a site's desk, with which its calls are made. Contracts see whose it is, its number, which is its tenant's,
-/// and the list of what it asked.
+/// A session's place at a site's desk, with which its calls are made. Contracts see whose it is, the number of its desk, the seat of its
+/// tenant, as at any desk, and what it knows of what the book granted.
 #[derive(Drop)]
-pub struct SiteSeat {
+pub struct SiteSeat<J: SiteNaming> {
     pub(crate) who: Who,
-    pub(crate) number: u64,
-    /// What it asked, from job 1 on.
-    pub(crate) asked: ArrayVec<SeatAsked, JOBS>,
+    /// The number of its desk.
+    pub(crate) at: u64,
+    pub(crate) core: SeatCore,
+    pub(crate) books: Token<BookEvent>,
+    pub(crate) of: PhantomData<J>,
 }
 
-// Clauses see whose it is, the number and the list.
-impl Model for SiteSeat {
+// Clauses see whose it is, the desk's number, the seat, and what it knows of the book's history. The tenant wasn't there before the desk was.
+impl<J: SiteNaming> Model for SiteSeat<J> {
+    ghost use Rattle.std.specs.Prelude.{◌≡◌, ◌<◌};
     ghost use Rattle.site_desk.specs.Seats.{SiteSeatOf};
 
     ghost Value = { SiteSeatOf };
 
-    ghost view = { λ s. record { who = s.who; number = s.number; asked = s.asked.items } };
+    ghost view = { λ s. record { who = s.who; at = s.at; seat = s.core.seat; books = s.books.known } };
+
+    ghost invariant = { λ s. (s.core.id ≡ J.table s.at) × ((J.begun s.at).shared.newest < s.core.seat.tenant) × (s.books.id ≡ J.granted s.at) };
 }
 
-impl SiteSeat {
-    /// The seat of a session that has just begun.
-    pub(crate) fn new(who: Who, number: u64) -> SiteSeat
-        ensures { result ≡ record { who = who; number = number; asked = [] } }
-    {
-        SiteSeat {
-            who,
-            number,
-            asked: ArrayVec::new(),
-        }
-    }
-
+impl<J: SiteNaming> SiteSeat<J> {
     /// Whose it is.
     pub fn who(&self) -> Who
         ensures { result ≡ self.now.who }
@@ -44,18 +42,72 @@ impl SiteSeat {
         self.who
     }
 
-    /// Its number.
+    /// Its number, which is its tenant's.
     pub fn number(&self) -> u64
-        ensures { result ≡ self.now.number }
+        ensures { result ≡ self.now.seat.tenant }
     {
-        self.number
+        self.core.tenant()
     }
 
     /// What it asked, from job 1 on; at most 256.
     pub fn asked(&self) -> &[SeatAsked]
-        ensures asked { result.now ≡ self.now.asked }
+        ensures asked { result.now ≡ self.now.seat.asked }
         ensures few { length result.now ≤ 256 }
     {
-        self.asked.as_slice()
+        self.core.asked()
     }
+
+    /// How it is refused where it asks at another desk than its own, as one that isn't there.
+    pub(crate) fn ask_elsewhere(&self) -> Refusal
+        ensures refused { Contains ask_refusals result }
+        ensures full { length self.now.seat.asked ≡ 256 → result ≡ NoJobsLeft }
+    {
+        if self.asked().len() == JOBS {
+            Refusal::NoJobsLeft
+        } else {
+            Refusal::NoTenant
+        }
+    }
+
+    /// How it is refused where it cancels at another desk.
+    pub(crate) fn cancel_elsewhere(&self, job: u64) -> Refusal
+        ensures refused { Contains cancel_refusals result }
+        ensures none { seat_asked_at self.now.seat.asked job ≡ None → result ≡ NoJob }
+    {
+        match seat_asked_at(self.asked(), job) {
+            Some(_) => Refusal::NoTenant,
+            None => Refusal::NoJob,
+        }
+    }
+
+    /// What it is told of a job at another desk.
+    pub(crate) fn told_elsewhere(&self, job: u64) -> Result<Outcome, Refusal>
+        ensures { IsShown (seat_asked_at self.now.seat.asked job) result }
+    {
+        match seat_asked_at(self.asked(), job) {
+            Some(_) => Ok(Outcome::Pending),
+            None => Err(Refusal::NoJob),
+        }
+    }
+}
+
+/// What a session that has left knew of its desk's two histories. Contracts see the number of its desk, and what it knew of the hall's and of the
+/// book's. It takes a word.
+#[derive(Drop)]
+pub struct SiteTrace<J: SiteNaming> {
+    pub(crate) at: u64,
+    pub(crate) token: Token<Step<Jamboree>>,
+    pub(crate) books: Token<BookEvent>,
+    pub(crate) of: PhantomData<J>,
+}
+
+impl<J: SiteNaming> Model for SiteTrace<J> {
+    ghost use Rattle.std.specs.Prelude.{◌≡◌};
+    ghost use Rattle.site_desk.specs.Seats.{SiteTraceOf};
+
+    ghost Value = { SiteTraceOf };
+
+    ghost view = { λ t. record { at = t.at; known = t.token.known; books = t.books.known } };
+
+    ghost invariant = { λ t. (t.token.id ≡ J.table t.at) × (t.books.id ≡ J.granted t.at) };
 }

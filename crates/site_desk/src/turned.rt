@@ -1,3 +1,7 @@
+ghost use Rattle.std.specs.Prelude.{◌≡◌};
+ghost use Rattle.site_desk.specs.Booked.{turned_by};
+
+use hall::Refusal;
 use site_book::BookRefusal;
 
 /// Why a customer is turned away.
@@ -9,4 +13,14 @@ pub enum Turned {
     OldTenant,
     /// There is no memory.
     OutOfMemory,
+}
+
+/// Why a customer is turned away, by the hall's refusal.
+pub(crate) fn turned_by(refusal: Refusal) -> Turned
+    ensures { result ≡ turned_by refusal }
+{
+    match refusal {
+        Refusal::OldTenant => Turned::OldTenant,
+        _ => Turned::OutOfMemory,
+    }
 }

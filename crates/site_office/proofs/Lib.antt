@@ -3,3 +3,7 @@ mod TokenLemmas
 mod ChainLemmas
 mod HandlerLemmas
 pub mod SeatLemmas
+mod BareLines
+mod LineLemmas
+mod SessionLemmas
+mod TurnLemmas

@@ -4,3 +4,5 @@ pub mod Turns
 pub mod Views
 pub mod Offices
 pub mod Refusing
+pub mod Moments
+pub mod Sessions

@@ -1,5 +1,6 @@
--- Meaning: how HELLO and RESERVE are refused, by why the desk turned away.
-use Rattle.std.specs.Prelude.{List, [], ◌∷◌}
+-- Meaning: how HELLO and RESERVE are refused, by why the desk turned away; and how LIVE is answered.
+use Rattle.std.specs.Prelude.{ℕ, List, [], ◌∷◌, Result, Ok, Err}
+use Rattle.session.specs.declared.standings.Live.{Live}
 use Rattle.site_desk.specs.declared.turned.Turned.{Turned}
 use Rattle.site_desk.specs.declared.turned.Turned.TheVariants.{ByBook, OldTenant, OutOfMemory}
 use Rattle.sched_rules.specs.declared.refusal.Refusal.{Refusal}
@@ -27,3 +28,8 @@ raise_refusal OutOfMemory = no_memory
 -- the refusals of HELLO where no tenant is there
 abbrev pub comer_refusals : List Refusal
 comer_refusals = Full ∷ no_number ∷ no_memory ∷ []
+
+-- how many frames and words the desk counts, as a session tells it; a refusal stays as it is
+abbrev pub live_answer : Result (ℕ × ℕ) Refusal → Result Live Refusal
+live_answer (Ok counts) = Ok (record { frames = counts.0; words = counts.1 })
+live_answer (Err refusal) = Err refusal

@@ -1,9 +1,11 @@
-//! How an office's calls are refused, by why the desk turned away.
+//! How an office's calls are refused, by why the desk turned away, and what it tells of LIVE.
 ghost use Rattle.std.specs.Prelude.{◌≡◌};
-ghost use Rattle.site_office.specs.Refusing.{comer_refusal, raise_refusal};
+ghost use Rattle.site_office.specs.Refusing.{comer_refusal, live_answer, raise_refusal};
 
 use crate::environment::Cause;
+use desk_office::told_live;
 use hall::Refusal;
+use session::Live;
 use site_book::BookRefusal;
 use site_desk::Turned;
 
@@ -39,4 +41,11 @@ pub(crate) fn cause_of(turned: Turned) -> Option<Cause> {
         Turned::ByBook(_) => None,
         Turned::OldTenant | Turned::OutOfMemory => Some(Cause::Memory),
     }
+}
+
+/// How many frames and words the desk counts, as a session tells it; a refusal stays as it is.
+pub(crate) fn live_answer(answer: Result<(usize, usize), Refusal>) -> Result<Live, Refusal>
+    ensures { result ≡ live_answer answer }
+{
+    Ok(told_live(answer?))
 }

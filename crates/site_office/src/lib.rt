@@ -13,12 +13,15 @@
 //!
 //! What stands for what: an [`AccessControl`] is a state with relations of its own, as an `Office` is; what comes of a line is `SiteTurned`
 //! of `specs/Turns.antt`. A [`SiteHandler`] is an office with its access control, whether its tenant is there, and the last answer. A
-//! [`SiteOffice`] is the list of what its tenant asked for (`asks_of` of `specs/Offices.antt`), as at any desk: each call keeps that list
-//! (`KeepsAsks`), so a job is shown as done only with the minimax value, the best choice and a table of what stands under its number. Its
-//! invariant is that the seat is that of the customer who was greeted.
+//! [`SiteOffice`] is its desk's number, its seat, and what that knew when its tenant left (`specs/Offices.antt`): each call is one of an
+//! office at that desk (`IsTurnAt` of `desk_office`), or a raise that the book refuses (`specs/Moments.antt`). Its invariant is that the
+//! seat is that of the customer who was greeted, and at the office's desk.
 //!
-//! [`serve_connection`] serves a session of bytes in and bytes out. Nothing in it knows a socket, so rows and tests play whole sessions
-//! with a clock that they give.
+//! [`serve_connection`] serves a session of bytes in and bytes out, and promises of it what `desk_office::serve_desk_seen` does
+//! (`specs/Sessions.antt`). Some lines are answered beside the session: by INFO, PONG, or a refusal for which no desk's history is asked.
+//! The others, less their tokens, are the lines of a session as any other: each `DONE`, `JOB` and `TABLE` is true by them, and the one
+//! tenant that they made was answered by its own part of its desk's history. Nothing in it knows a socket, so rows and tests play whole
+//! sessions with a clock that they give.
 //!
 //! | `ERR` | where |
 //! |---|---|

@@ -1,19 +1,21 @@
 //! The office of one connection.
-ghost use Rattle.std.specs.Prelude.{◌≡◌, [], is_some, IfOk, IfErr, Contains};
-ghost use Rattle.session.specs.Turns.{seated_after};
-ghost use Rattle.session.specs.Asks.{KeepsAsks};
+ghost use Rattle.std.specs.Prelude.{◌≡◌, IfOk, IfErr, Contains};
+ghost use Rattle.sched_rules.specs.declared.step.StepOf.TheVariants.{Leave};
+ghost use Rattle.desk.specs.Histories.{IsTrueTo, Took};
 ghost use Rattle.session.specs.Calls.{Get, Wait as to_wait, Cancel, Told, Ended, reply_of};
-ghost use Rattle.site_office.specs.Offices.{asks_of_seat, owner_of};
+ghost use Rattle.site_desk.specs.Entries.{IsNewSeat};
+ghost use Rattle.site_office.specs.Offices.{at_site, owner_of, place_of, IsSameSeat};
+ghost use Rattle.site_office.specs.Moments.{IsSiteTurn, Stays};
 ghost use Rattle.site_office.specs.Refusing.{comer_refusal, comer_refusals};
 
 use crate::access::{AccessControl, Greeted, Info};
-use crate::entering::{cause_of, comer_refusal, raise_refusal};
+use crate::entering::{cause_of, comer_refusal, live_answer, raise_refusal};
 use crate::environment::{Cause, Environment, Identity, Note};
-use desk_office::{told_answer, told_live};
+use desk_office::told_answer;
 use hall::Refusal;
 use session::{Live, Office, Question, Standing};
 use site_book::{Amount, BookRefusal, Comer, SessionMark, Who, Whom};
-use site_desk::{SeatOutcome, SiteDesk, SiteSeat, Turned};
+use site_desk::{SeatOutcome, SiteDesk, SiteNaming, SiteSeat, SiteTrace, Turned};
 use std::alloc::{Allocator, Global};
 use std::sync::Wait;
 use std::time::{Clock, Duration};
@@ -30,39 +32,49 @@ const BETWEEN_NOTES: u64 = 1_000;
 
 /// The office of one connection at a site's desk. It has a seat from a HELLO that was welcomed until the tenant leaves; without a seat all
 /// calls but `hello` and `leave` are refused.
-pub struct SiteOffice<'a, H: Environment, R: Wait + Clock, A: Allocator = Global> {
+pub struct SiteOffice<'a, J: SiteNaming, H: Environment, R: Wait + Clock, A: Allocator = Global> {
     rt: &'a R,
     /// The desks of all halls.
-    desks: &'a [SiteDesk<A>],
+    desks: &'a [SiteDesk<J, A>],
     /// The desk of the session, or of the next.
-    desk: &'a SiteDesk<A>,
+    desk: &'a SiteDesk<J, A>,
     environment: H,
     /// Whose the next session is to be; the seat's customer where one is there.
     who: Who,
     /// Whose the connection is.
     own: Who,
     /// The session's seat; `None` where no tenant is there.
-    seat: Option<SiteSeat>,
+    seat: Option<SiteSeat<J>>,
+    /// What the seat knew of its desk's history when its tenant left.
+    knew: Option<SiteTrace<J>>,
     /// When it was last noted that the session said something.
     noted: u64,
     /// The depth of the leaves that workers compute.
     grain: u8,
     ghost seated: { owner_of who seat ≡ who },
+    ghost placed: { place_of desk.now seat ≡ desk.now },
 }
 
-impl<'a, H: Environment, R: Wait + Clock, A: Allocator + Clone> SiteOffice<'a, H, R, A> {
+impl<'a, J: SiteNaming, H: Environment, R: Wait + Clock, A: Allocator + Clone> SiteOffice<
+    'a,
+    J,
+    H,
+    R,
+    A,
+> {
     ghost use Rattle.std.specs.Prelude.{None};
 
     /// The office of a connection that is this customer's, at one of these desks, where no tenant is there.
     pub fn new(
         rt: &'a R,
-        desks: &'a [SiteDesk<A>],
-        desk: &'a SiteDesk<A>,
+        desks: &'a [SiteDesk<J, A>],
+        desk: &'a SiteDesk<J, A>,
         environment: H,
         own: Who,
         grain: u8,
-    ) -> SiteOffice<'a, H, R, A>
+    ) -> SiteOffice<'a, J, H, R, A>
         ensures seat { result.seat ≡ None }
+        ensures knew { result.knew ≡ None }
         ensures who { result.who ≡ own }
     {
         SiteOffice {
@@ -73,6 +85,7 @@ impl<'a, H: Environment, R: Wait + Clock, A: Allocator + Clone> SiteOffice<'a, H
             who: own,
             own,
             seat: None,
+            knew: None,
             noted: 0,
             grain,
         }
@@ -90,6 +103,7 @@ impl<'a, H: Environment, R: Wait + Clock, A: Allocator + Clone> SiteOffice<'a, H
             who: _,
             own: _,
             seat: _seat,
+            knew: _knew,
             noted: _,
             grain: _,
         } = self;
@@ -97,11 +111,12 @@ impl<'a, H: Environment, R: Wait + Clock, A: Allocator + Clone> SiteOffice<'a, H
     }
 
     /// A seat for a session of the customer, for which it waits while others are to leave.
-    fn come(&mut self, reserve: Reserve) -> Result<SiteSeat, Refusal>
-        ensures seat { IfOk result (λ seat. (seat.who ≡ self.old.who) × (seat.asked ≡ [])) }
+    fn come(&mut self, reserve: Reserve) -> Result<SiteSeat<J>, Refusal>
+        ensures seat { IfOk result (IsNewSeat (J.begun self.old.desk.now) (J.plan self.old.desk.now) self.old.desk.now self.old.who reserve) }
         ensures refused { IfErr result (Contains comer_refusals) }
         ensures same_seat { self.new.seat ≡ self.old.seat }
         ensures same_who { self.new.who ≡ self.old.who }
+        ensures same_desk { (self.new.desk ≡ self.old.desk) × (self.new.knew ≡ self.old.knew) }
     {
         let start = self.environment.now();
         for _ in 0..MOST_TRIES {
@@ -134,6 +149,7 @@ impl<'a, H: Environment, R: Wait + Clock, A: Allocator + Clone> SiteOffice<'a, H
     fn has_waited(&mut self, start: u64, ending: Option<u64>, left: u64) -> bool
         ensures same_seat { self.new.seat ≡ self.old.seat }
         ensures same_who { self.new.who ≡ self.old.who }
+        ensures same_desk { (self.new.desk ≡ self.old.desk) × (self.new.knew ≡ self.old.knew) }
     {
         if let Some(session) = ending {
             self.environment.note(Note::Tells(session));
@@ -152,6 +168,7 @@ impl<'a, H: Environment, R: Wait + Clock, A: Allocator + Clone> SiteOffice<'a, H
         ensures refusal { result ≡ comer_refusal turned }
         ensures same_seat { self.new.seat ≡ self.old.seat }
         ensures same_who { self.new.who ≡ self.old.who }
+        ensures same_desk { (self.new.desk ≡ self.old.desk) × (self.new.knew ≡ self.old.knew) }
     {
         self.count(cause_of(turned));
         comer_refusal(turned)
@@ -161,6 +178,7 @@ impl<'a, H: Environment, R: Wait + Clock, A: Allocator + Clone> SiteOffice<'a, H
     fn count(&mut self, cause: Option<Cause>)
         ensures same_seat { self.new.seat ≡ self.old.seat }
         ensures same_who { self.new.who ≡ self.old.who }
+        ensures same_desk { (self.new.desk ≡ self.old.desk) × (self.new.knew ≡ self.old.knew) }
     {
         if let Some(cause) = cause {
             self.environment.note(Note::Refused(cause));
@@ -171,6 +189,7 @@ impl<'a, H: Environment, R: Wait + Clock, A: Allocator + Clone> SiteOffice<'a, H
     fn hear(&mut self, number: u64)
         ensures same_seat { self.new.seat ≡ self.old.seat }
         ensures same_who { self.new.who ≡ self.old.who }
+        ensures same_desk { (self.new.desk ≡ self.old.desk) × (self.new.knew ≡ self.old.knew) }
     {
         let now = self.environment.now();
         if now.saturating_sub(self.noted) >= BETWEEN_NOTES {
@@ -184,6 +203,7 @@ impl<'a, H: Environment, R: Wait + Clock, A: Allocator + Clone> SiteOffice<'a, H
     fn hear_any(&mut self)
         ensures same_seat { self.new.seat ≡ self.old.seat }
         ensures same_who { self.new.who ≡ self.old.who }
+        ensures same_desk { (self.new.desk ≡ self.old.desk) × (self.new.knew ≡ self.old.knew) }
     {
         if let Some(number) = self.number() {
             self.hear(number);
@@ -191,30 +211,33 @@ impl<'a, H: Environment, R: Wait + Clock, A: Allocator + Clone> SiteOffice<'a, H
     }
 
     /// How the session's job stands now; `NoJob` where there is no session.
-    fn got(&self, job: u64) -> Result<Standing, Refusal>
-        ensures { KeepsAsks (asks_of_seat self.now.seat) (Get job) (reply_of (Told job) result) (asks_of_seat self.now.seat) }
+    fn got(&mut self, job: u64) -> Result<Standing, Refusal>
+        ensures turn { IsSiteTurn J.begun (at_site self.old.desk.now self.old.seat self.old.knew) (Get job) (reply_of (Told job) result) (at_site self.new.desk.now self.new.seat self.new.knew) }
+        ensures who { self.new.who ≡ self.old.who }
     {
-        match &self.seat {
+        match &mut self.seat {
             Some(seat) => told_answer(self.desk.get(self.rt, seat, job)),
             None => Err(Refusal::NoJob),
         }
     }
 
     /// How the session's job stands once it has ended, the session is told to end, or the desk is closed; `NoJob` where there is no session.
-    fn waited(&self, job: u64, now: u64) -> Result<Standing, Refusal>
-        ensures { KeepsAsks (asks_of_seat self.now.seat) (to_wait job) (reply_of (Told job) result) (asks_of_seat self.now.seat) }
+    fn waited(&mut self, job: u64, now: u64) -> Result<Standing, Refusal>
+        ensures turn { IsSiteTurn J.begun (at_site self.old.desk.now self.old.seat self.old.knew) (to_wait job) (reply_of (Told job) result) (at_site self.new.desk.now self.new.seat self.new.knew) }
+        ensures who { self.new.who ≡ self.old.who }
     {
-        match &self.seat {
+        match &mut self.seat {
             Some(seat) => told_answer(self.desk.wait(self.rt, seat, job, now)),
             None => Err(Refusal::NoJob),
         }
     }
 
     /// Cancels the session's job; `NoJob` where there is no session.
-    fn cancelled(&self, job: u64) -> Result<(), Refusal>
-        ensures { KeepsAsks (asks_of_seat self.now.seat) (Cancel job) (reply_of (λ _. Ended job) result) (asks_of_seat self.now.seat) }
+    fn cancelled(&mut self, job: u64) -> Result<(), Refusal>
+        ensures turn { IsSiteTurn J.begun (at_site self.old.desk.now self.old.seat self.old.knew) (Cancel job) (reply_of (λ _. Ended job) result) (at_site self.new.desk.now self.new.seat self.new.knew) }
+        ensures who { self.new.who ≡ self.old.who }
     {
-        match &self.seat {
+        match &mut self.seat {
             Some(seat) => self.desk.cancel(self.rt, seat, job),
             None => Err(Refusal::NoJob),
         }
@@ -224,6 +247,7 @@ impl<'a, H: Environment, R: Wait + Clock, A: Allocator + Clone> SiteOffice<'a, H
     fn begin_wait(&mut self) -> u64
         ensures same_seat { self.new.seat ≡ self.old.seat }
         ensures same_who { self.new.who ≡ self.old.who }
+        ensures same_desk { (self.new.desk ≡ self.old.desk) × (self.new.knew ≡ self.old.knew) }
     {
         self.environment.note(Note::Waits(true));
         self.environment.now()
@@ -233,6 +257,7 @@ impl<'a, H: Environment, R: Wait + Clock, A: Allocator + Clone> SiteOffice<'a, H
     fn end_wait(&mut self, answer: &Result<Standing, Refusal>)
         ensures same_seat { self.new.seat ≡ self.old.seat }
         ensures same_who { self.new.who ≡ self.old.who }
+        ensures same_desk { (self.new.desk ≡ self.old.desk) × (self.new.knew ≡ self.old.knew) }
     {
         self.environment.note(Note::Waits(false));
         if let Ok(Standing::Done(_)) = answer {
@@ -248,9 +273,25 @@ impl<'a, H: Environment, R: Wait + Clock, A: Allocator + Clone> SiteOffice<'a, H
         }
     }
 
+    /// The seat's tenant leaves. Gives back what the seat then knows of the history, which ends with that. The desk has a grant for each of
+    /// its seats, so it gives this; it is looked at, and where it didn't the call would never return.
+    fn left(&self, seat: SiteSeat<J>) -> SiteTrace<J>
+        ensures { (result.at ≡ seat.at) × Took seat.seat.known (Leave seat.seat.tenant) result.known × IsTrueTo (J.begun seat.at) seat.seat.tenant result.known }
+    {
+        if let Some(trace) = self.desk.leave(self.rt, seat) {
+            return trace;
+        }
+        for _ in self.rt.forever() {}
+        unreachable!()
+    }
+
     /// What the session's customer may have and has.
-    fn amounts(&self) -> (Amount, Amount) {
-        match &self.seat {
+    fn amounts(&mut self) -> (Amount, Amount)
+        ensures seat { IsSameSeat self.old.seat self.new.seat }
+        ensures same_who { self.new.who ≡ self.old.who }
+        ensures same_desk { (self.new.desk ≡ self.old.desk) × (self.new.knew ≡ self.old.knew) }
+    {
+        match &mut self.seat {
             Some(seat) => self.desk.budget(self.rt, seat),
             None => (Amount::NOTHING, Amount::NOTHING),
         }
@@ -265,9 +306,9 @@ impl<'a, H: Environment, R: Wait + Clock, A: Allocator + Clone> SiteOffice<'a, H
     }
 }
 
-impl<H: Environment, R: Wait + Clock, A: Allocator + Clone> Office for SiteOffice<'_, H, R, A> {
-    ghost does = { λ from call reply to. KeepsAsks (asks_of_seat from.seat) call reply (asks_of_seat to.seat)
-        × (is_some to.seat ≡ seated_after (is_some from.seat) reply) };
+impl<J: SiteNaming, H: Environment, R: Wait + Clock, A: Allocator + Clone> Office
+    for SiteOffice<'_, J, H, R, A> {
+    ghost does = { λ from call reply to. IsSiteTurn J.begun (at_site from.desk.now from.seat from.knew) call reply (at_site to.desk.now to.seat to.knew) };
 
     /// Takes a seat at the desk for a new tenant of the customer that was greeted. `OldTenant` where a tenant is there already, or all
     /// numbers were given; `Full` where its budget has no room, or for a guest that of all guests; `OutOfMemory`.
@@ -286,16 +327,15 @@ impl<H: Environment, R: Wait + Clock, A: Allocator + Clone> Office for SiteOffic
     /// Raises the reservation. `NoTenant` where no tenant is there; `Lower`, `Full` and `OutOfMemory`.
     fn reserve(&mut self, reserve: Reserve) -> Result<(), Refusal> {
         self.hear_any();
-        let answer = match &self.seat {
-            Some(seat) => self.desk.reserve(self.rt, seat, reserve),
-            None => return Err(Refusal::NoTenant),
-        };
-        match answer {
-            Ok(()) => Ok(()),
-            Err(turned) => {
-                self.count(cause_of(turned));
-                Err(raise_refusal(turned))
-            }
+        match &mut self.seat {
+            Some(seat) => match self.desk.reserve(self.rt, seat, reserve) {
+                Ok(()) => Ok(()),
+                Err(turned) => {
+                    self.count(cause_of(turned));
+                    Err(raise_refusal(turned))
+                }
+            },
+            None => Err(Refusal::NoTenant),
         }
     }
 
@@ -333,7 +373,7 @@ impl<H: Environment, R: Wait + Clock, A: Allocator + Clone> Office for SiteOffic
     /// What the tenant has left of its reservation now.
     fn quota(&mut self) -> Result<Left, Refusal> {
         self.hear_any();
-        match &self.seat {
+        match &mut self.seat {
             Some(seat) => self.desk.quota(self.rt, seat),
             None => Err(Refusal::NoTenant),
         }
@@ -342,29 +382,29 @@ impl<H: Environment, R: Wait + Clock, A: Allocator + Clone> Office for SiteOffic
     /// How many frames and words the tenant has now.
     fn live(&mut self) -> Result<Live, Refusal> {
         self.hear_any();
-        let Some(seat) = &self.seat else {
-            return Err(Refusal::NoTenant);
-        };
-        Ok(told_live(self.desk.live(self.rt, seat)?))
+        match &mut self.seat {
+            Some(seat) => live_answer(self.desk.live(self.rt, seat)),
+            None => Err(Refusal::NoTenant),
+        }
     }
 
     /// The tenant leaves the desk, with its jobs, frames and reservation, and the office has no seat then.
     fn leave(&mut self) {
         if let Some(seat) = self.seat.take() {
             let number = seat.number();
-            self.desk.leave(self.rt, seat);
+            self.knew = Some(self.left(seat));
             self.environment.note(Note::Ended(number));
         }
     }
 }
 
-impl<H: Environment, R: Wait + Clock, A: Allocator + Clone> AccessControl
-    for SiteOffice<'_, H, R, A> {
-    ghost greets = { λ from token greeted to. to.seat ≡ from.seat };
+impl<J: SiteNaming, H: Environment, R: Wait + Clock, A: Allocator + Clone> AccessControl
+    for SiteOffice<'_, J, H, R, A> {
+    ghost greets = { λ from token greeted to. Stays (at_site from.desk.now from.seat from.knew) (at_site to.desk.now to.seat to.knew) };
 
-    ghost pays = { λ from paid to. (to.seat ≡ from.seat) × (to.who ≡ from.who) };
+    ghost pays = { λ from paid to. Stays (at_site from.desk.now from.seat from.knew) (at_site to.desk.now to.seat to.knew) × (to.who ≡ from.who) };
 
-    ghost informs = { λ from info to. (to.seat ≡ from.seat) × (to.who ≡ from.who) };
+    ghost informs = { λ from info to. IsSameSeat from.seat to.seat × (to.who ≡ from.who) × (to.desk ≡ from.desk) × (to.knew ≡ from.knew) };
 
     /// Whose the next session is to be. Nothing is asked where one is there.
     fn greet(&mut self, token: Option<&[u8]>) -> Greeted {

@@ -2,9 +2,11 @@
 ghost use Rattle.std.specs.Prelude.{◌≡◌, [], ◌∷◌, ◌++◌, codes, true, false, Some, None};
 ghost use Rattle.line_io.specs.Lines.{Whole, TooLong};
 ghost use Rattle.protocol.specs.declared.faults.ProtocolFault.TheVariants.{NoCommand, LongLine, NoNumber, NoHello, HelloAgain};
-ghost use Rattle.session.specs.Calls.{AskQuota, Get};
+ghost use Rattle.session.specs.Calls.{AskQuota, Get, Welcome};
 ghost use Rattle.session.specs.Requests.{Fault, Makes, Ends};
 ghost use Rattle.site_office.specs.Lines.{Greets, Raises, Informs, Pings, Plain, site_request};
+ghost use Rattle.session.specs.Turns.{turns};
+ghost use Rattle.site_office.specs.Sessions.{AreMixed};
 ghost use Rattle.site_office.specs.Turns.{info_text};
 
 /// Lines before HELLO.
@@ -46,4 +48,11 @@ pub fn lines_of_a_tenant()
 /// What INFO says.
 pub fn what_info_says()
     ensures { info_text (record { grain = 4; may_segments = 16384; may_nodes = 1048576; has_segments = 4; has_nodes = 8 }) ≡ codes "INFO 4 16384 1048576 4 8 1.0.0" }
+{}
+
+/// PING is answered beside the session, and a HELLO less its token is the first line of its own. QUOTA, where a tenant is there, isn't
+/// answered beside it.
+pub fn what_is_beside_a_session()
+    ensures mixed { AreMixed false (Whole (codes "PING") ∷ Whole (codes "HELLO 4 8 abc") ∷ []) (codes "PONG" ∷ codes "WELCOME 4 8" ∷ []) (Whole (codes "HELLO 4 8") ∷ []) (turns false (Whole (codes "HELLO 4 8") ∷ []) (Welcome (record { segments = 4; nodes = 8 }) ∷ [])) }
+    ensures quota { AreMixed true (Whole (codes "QUOTA") ∷ []) (codes "PONG" ∷ []) [] [] → ⊥ }
 {}

@@ -1,13 +1,14 @@
 //! Whom a site's desk wakes: of sixty-four sessions that wait at once each once its own job ends, or as it is told to end; and none for
 //! another's job.
 use super::holds;
-use super::sites::{amount, desk_of, seat_of};
+use super::sites::{amount, seat_of, stock_of};
+use super::trials::{Trial, try_out};
 use frame_table::FrameId;
 use hall::{DidOf, LeafAnswer, Outcome, StepOf, Worker};
 use othello_board::Board;
 use othello_board::position_text::{Position, Side};
 use site_book::{Told, Who, Whom};
-use site_desk::{LockedSite, SiteBadge, SiteDesk, SiteSeat};
+use site_desk::{LockedSite, SiteBadge, SiteDesk, SiteNaming, SiteSeat, SiteStock};
 use std::alloc::Global;
 use std::process::Abort;
 use std::sync::Wait;
@@ -39,10 +40,10 @@ pub(super) const OPENING: Position = Position {
 };
 
 /// The desk of a hall where sixty-four guests may have one session each.
-pub(super) fn desk_for_all(rt: &impl Abort, alloc: Global) -> SiteDesk {
+pub(super) fn stock_for_all(rt: &impl Abort, alloc: Global) -> SiteStock {
     let all = amount(64, 512, 5_120);
     let guests = (amount(1, 8, 80), all, all);
-    desk_of(alloc, (64, 512, 5_120), Vec::new(alloc), guests).expect(rt, "a desk")
+    stock_of(alloc, (64, 512, 5_120), Vec::new(alloc), guests).expect(rt, "a desk")
 }
 
 /// How many have come to wait, how many are back, and how many of these were told that their job is done.
@@ -105,9 +106,9 @@ fn come_to_rest<C: Clock + CpuClock>(clock: &C) -> bool {
 }
 
 /// The five steps of a worker that compute and finish the job of a frame, while it holds the desk. Whether they are taken.
-fn finish<R: Wait>(
+fn finish<J: SiteNaming, R: Wait>(
     rt: &R,
-    held: &mut DeskGuard<'_, LockedSite>,
+    held: &mut DeskGuard<'_, LockedSite<J>>,
     badge: &mut SiteBadge,
     worker: Worker,
     root: FrameId,
@@ -127,7 +128,13 @@ fn finish<R: Wait>(
 }
 
 /// The jobs of this serial of the sessions from one number to before another are finished under one lock.
-fn finish_all<R: Wait + Abort>(rt: &R, desk: &SiteDesk, from: u64, to: u64, serial: u64) {
+fn finish_all<J: SiteNaming, R: Wait + Abort>(
+    rt: &R,
+    desk: &SiteDesk<J>,
+    from: u64,
+    to: u64,
+    serial: u64,
+) {
     let worker = Worker::new(1).expect(rt, "a worker");
     let badge = &mut desk.badge();
     let mut held = desk.hold(rt, badge);
@@ -140,7 +147,7 @@ fn finish_all<R: Wait + Abort>(rt: &R, desk: &SiteDesk, from: u64, to: u64, seri
 }
 
 /// The seat of a guest of this number, which is its session's, that has asked for a job of one frame.
-fn asked<R: Wait + Abort>(rt: &R, desk: &SiteDesk, number: u32) -> SiteSeat {
+fn asked<J: SiteNaming, R: Wait + Abort>(rt: &R, desk: &SiteDesk<J>, number: u32) -> SiteSeat<J> {
     let mut seat = seat_of(rt, desk, Who::V4(number), 1_000).expect(rt, "there is room");
     holds(rt, seat.number() == u64::from(number));
     holds(rt, desk.ask(rt, &mut seat, &OPENING, 0) == Ok(1));
@@ -148,21 +155,22 @@ fn asked<R: Wait + Abort>(rt: &R, desk: &SiteDesk, number: u32) -> SiteSeat {
 }
 
 /// A session waits for its first job, and is counted.
-fn waits<R: Wait>(rt: &R, desk: &SiteDesk, seat: SiteSeat, watch: &Watch) {
+fn waits<J: SiteNaming, R: Wait>(rt: &R, desk: &SiteDesk<J>, seat: SiteSeat<J>, watch: &Watch) {
+    let mut seat = seat;
     add(&watch.there);
-    if let Ok(Outcome::Done(_)) = desk.wait(rt, &seat, 1, 1_000) {
+    if let Ok(Outcome::Done(_)) = desk.wait(rt, &mut seat, 1, 1_000) {
         add(&watch.done);
     }
     add(&watch.back);
 }
 
 /// A session waits in a thread of its own.
-fn start<'s, E, R: Wait + Abort + Sync>(
+fn start<'s, J: SiteNaming + Send + Sync, E, R: Wait + Abort + Sync>(
     scope: &'s Scope<'s, E>,
     rt: &'s R,
-    desk: &'s SiteDesk,
+    desk: &'s SiteDesk<J>,
     watch: &'s Watch,
-    seat: SiteSeat,
+    seat: SiteSeat<J>,
 ) {
     let started = scope.spawn(move || waits(rt, desk, seat, watch));
     holds(rt, started.is_ok());
@@ -176,7 +184,12 @@ fn all_sleep<R: Abort + Clock + CpuClock>(rt: &R, watch: &Watch, many: u64) {
 }
 
 /// All wait. The last is told to end; then the jobs of the others end, the last of them first, and two under one lock. Each is back by that.
-fn end_all<'s, E, R>(scope: &'s Scope<'s, E>, rt: &'s R, desk: &'s SiteDesk, watch: &'s Watch)
+fn end_all<'s, J: SiteNaming + Send + Sync, E, R>(
+    scope: &'s Scope<'s, E>,
+    rt: &'s R,
+    desk: &'s SiteDesk<J>,
+    watch: &'s Watch,
+)
 where
     R: Wait + Abort + Clock + CpuClock + Sync,
 {
@@ -203,7 +216,11 @@ fn is_waiting(number: u32) -> bool {
 }
 
 /// Jobs of a session that doesn't wait end, by a worker and by its own word.
-fn end_own<R: Wait + Abort + Clock>(rt: &R, desk: &SiteDesk, seat: &mut SiteSeat) {
+fn end_own<J: SiteNaming, R: Wait + Abort + Clock>(
+    rt: &R,
+    desk: &SiteDesk<J>,
+    seat: &mut SiteSeat<J>,
+) {
     let number = seat.number();
     for turn in 1..TURNS + 1 {
         holds(rt, desk.ask(rt, seat, &OPENING, 0) == Ok(2 * turn));
@@ -216,17 +233,17 @@ fn end_own<R: Wait + Abort + Clock>(rt: &R, desk: &SiteDesk, seat: &mut SiteSeat
 }
 
 /// Half of them wait, and jobs of the others end: meanwhile those who wait sleep. Then the desk is closed, and all are back.
-fn end_others<'s, E, R>(
+fn end_others<'s, J: SiteNaming + Send + Sync, E, R>(
     scope: &'s Scope<'s, E>,
     rt: &'s R,
     alloc: Global,
-    desk: &'s SiteDesk,
+    desk: &'s SiteDesk<J>,
     watch: &'s Watch,
 )
 where
     R: Wait + Abort + Clock + CpuClock + Sync,
 {
-    let mut others: Vec<SiteSeat> = Vec::new(alloc);
+    let mut others: Vec<SiteSeat<J>> = Vec::new(alloc);
     for number in 1..LAST + 1 {
         let seat = asked(rt, desk, number);
         if is_waiting(number) {
@@ -247,25 +264,37 @@ where
     holds(rt, comes_to(rt, &watch.done, 0));
 }
 
-/// Each of sixty-four sessions that wait is back once its job is done, and the one that is told to end by that.
-#[test]
-fn each_session_is_woken_for_its_own_job(rt: HostRuntime) {
-    let rt = &rt;
-    let desk = &desk_for_all(rt, rt.alloc());
+/// Sixty-four sessions wait in threads of their own.
+pub(super) fn all_are_woken<J: SiteNaming + Send + Sync, R>(rt: &R, desk: &SiteDesk<J>)
+where
+    R: Wait + Abort + Threads + Clock + CpuClock + Sync,
+{
     let watch = &Watch::new();
     thread::scope(thread::scope_env(), rt, |scope| {
         end_all(scope, rt, desk, watch)
     });
 }
 
-/// Thirty-two sessions sleep while they wait, whatever jobs of others end.
+/// Each of sixty-four sessions that wait is back once its job is done, and the one that is told to end by that.
 #[test]
-fn nobody_is_woken_for_anothers_job(rt: HostRuntime) {
-    let rt = &rt;
-    let desk = &desk_for_all(rt, rt.alloc());
+fn each_session_is_woken_for_its_own_job(rt: HostRuntime) {
+    try_out(&rt, stock_for_all(&rt, rt.alloc()), Trial::AllAreWoken);
+}
+
+/// Thirty-two of sixty-four sessions wait in threads of their own.
+pub(super) fn others_end<J: SiteNaming + Send + Sync, R>(rt: &R, desk: &SiteDesk<J>)
+where
+    R: Wait + Abort + Threads + Clock + CpuClock + AllocGlobal + Sync,
+{
     let watch = &Watch::new();
     let alloc = rt.alloc();
     thread::scope(thread::scope_env(), rt, |scope| {
         end_others(scope, rt, alloc, desk, watch)
     });
+}
+
+/// Thirty-two sessions sleep while they wait, whatever jobs of others end.
+#[test]
+fn nobody_is_woken_for_anothers_job(rt: HostRuntime) {
+    try_out(&rt, stock_for_all(&rt, rt.alloc()), Trial::OthersEnd);
 }

@@ -1,17 +1,19 @@
 //! A site's sessions over a desk without workers: bytes in, bytes out, and a clock that goes on by a step at each look.
 ghost use Rattle.std.specs.Prelude.{◌≡◌};
 
+use super::trials::{Trial, try_out};
 use crate::tests::{holds, spell};
 use fair_share::FairShare;
 use hall::{Config, Hall};
 use line_io::{FromReader, FromWriter};
 use site_book::{Amount, Comer, CustomerBook, Plan, Who};
-use site_desk::{BookedHall, SeatOutcome, SiteDesk, SiteSeat};
+use site_desk::{SeatOutcome, SiteDesk, SiteNaming, SiteSeat, SiteStock};
 use site_office::{Cause, Environment, Identity, Note, SiteOffice, serve_connection};
 use std::alloc::Global;
 use std::process::Abort;
 use std::sync::Wait;
 use std::time::Clock;
+use steal_pool::desk::Opened;
 use tenant_quota::Reserve;
 
 /// Three guests of IPv4.
@@ -37,49 +39,50 @@ pub(super) fn amount(sessions: u32, segments: u64, nodes: u64) -> Amount
     }
 }
 
-/// The desk of a hall for so many sessions, with so many segments and nodes; its customers' budgets, and what a guest, a network and all
-/// guests may have. None where memory is refused.
-pub(super) fn desk_of(
+/// What the desk of a hall for so many sessions is made of, with so many segments and nodes; its customers' budgets, and what a guest, a
+/// network and all guests may have. None where memory is refused.
+pub(super) fn stock_of(
     alloc: Global,
     all: (u32, u32, u32),
     customers: Vec<Amount>,
     guests: (Amount, Amount, Amount),
-) -> Option<SiteDesk> {
+) -> Option<SiteStock> {
     let (sessions, segments, nodes) = all;
     let totals = amount(sessions, u64::from(segments), u64::from(nodes));
     let (guest, network, guests) = guests;
     let plan = Plan::new(totals, customers, guest, network, guests)?;
     let config = Config::new(segments, nodes)?;
-    let (Ok(book), Ok(hall), Ok(shares)) = (
+    let (Ok(book), Ok(hall), Ok(shares), Ok(opened), Ok(granted)) = (
         CustomerBook::new(alloc, plan),
         Hall::new(alloc, config, 4),
         FairShare::new(alloc, 8),
+        Opened::new(alloc),
+        Opened::new(alloc),
     ) else {
         return None;
     };
-    Some(SiteDesk::new(BookedHall::new(hall, book), shares))
+    Some(SiteStock::new(hall, book, shares, opened, granted))
 }
 
 /// A list of one.
-fn only<T: Drop>(rt: &impl Abort, alloc: Global, one: T) -> Vec<T> {
+pub(super) fn only<T: Drop>(rt: &impl Abort, alloc: Global, one: T) -> Vec<T> {
     let mut all = Vec::new(alloc);
     holds(rt, all.push(one).is_ok());
     all
 }
 
 /// The desk of a hall where the school may have two sessions, and two guests one each.
-fn desks_of(rt: &impl Abort, alloc: Global) -> Vec<SiteDesk> {
+fn stock_of_school(rt: &impl Abort, alloc: Global) -> SiteStock {
     let customers = only(rt, alloc, amount(2, 16, 160));
     let guests = (amount(1, 8, 80), amount(1, 8, 80), amount(2, 16, 160));
-    let desk = desk_of(alloc, (4, 32, 320), customers, guests).expect(rt, "a desk");
-    only(rt, alloc, desk)
+    stock_of(alloc, (4, 32, 320), customers, guests).expect(rt, "a desk")
 }
 
 /// An environment whose clock goes on at each look, and in which one other session may be that leaves when it is told.
 #[derive(Drop)]
-struct TestEnvironment<'a, R> {
+struct TestEnvironment<'a, J: SiteNaming, R> {
     rt: &'a R,
-    desk: &'a SiteDesk,
+    desk: &'a SiteDesk<J>,
     own: Who,
     /// The time, and how far it goes on.
     now: std::cell::Cell<u64>,
@@ -87,7 +90,7 @@ struct TestEnvironment<'a, R> {
     /// How many lines are paid.
     paid: u32,
     is_crowded: bool,
-    other: Option<SiteSeat>,
+    other: Option<SiteSeat<J>>,
     /// What it was told, a letter each.
     told: Vec<u8>,
 }
@@ -111,7 +114,7 @@ fn letter(note: Note) -> u8 {
     }
 }
 
-impl<R: Wait> Environment for TestEnvironment<'_, R> {
+impl<J: SiteNaming, R: Wait> Environment for TestEnvironment<'_, J, R> {
     fn now(&self) -> u64 {
         self.now.set(self.now.get().saturating_add(self.step));
         self.now.get()
@@ -142,14 +145,17 @@ impl<R: Wait> Environment for TestEnvironment<'_, R> {
         let _ = self.told.push(letter(note));
         if let Note::Tells(_) = note {
             if let Some(seat) = self.other.take() {
-                self.desk.leave(self.rt, seat);
+                let _trace = self.desk.leave(self.rt, seat);
             }
         }
     }
 }
 
 /// An environment for a connection of a guest.
-fn environment<'a, R: AllocGlobal>(rt: &'a R, desk: &'a SiteDesk) -> TestEnvironment<'a, R> {
+fn environment<'a, J: SiteNaming, R: AllocGlobal>(
+    rt: &'a R,
+    desk: &'a SiteDesk<J>,
+) -> TestEnvironment<'a, J, R> {
     TestEnvironment {
         rt,
         desk,
@@ -167,10 +173,10 @@ fn environment<'a, R: AllocGlobal>(rt: &'a R, desk: &'a SiteDesk) -> TestEnviron
 type Talk = (&'static str, &'static str, &'static str);
 
 /// Plays a session, and fails the test unless it is answered so and its environment is told so.
-fn plays<R: Wait + Clock + Abort + AllocGlobal>(
+fn plays<J: SiteNaming, R: Wait + Clock + Abort + AllocGlobal>(
     rt: &R,
-    desks: &[SiteDesk],
-    environment: TestEnvironment<'_, R>,
+    desks: &[SiteDesk<J>],
+    environment: TestEnvironment<'_, J, R>,
     talk: Talk,
 ) {
     let (said, answered, told) = talk;
@@ -188,22 +194,22 @@ fn plays<R: Wait + Clock + Abort + AllocGlobal>(
 }
 
 /// Plays a session over a guest's connection.
-fn guest_plays<R: Wait + Clock + Abort + AllocGlobal>(
+fn guest_plays<J: SiteNaming, R: Wait + Clock + Abort + AllocGlobal>(
     rt: &R,
-    desks: &[SiteDesk],
-    desk: &SiteDesk,
+    desks: &[SiteDesk<J>],
+    desk: &SiteDesk<J>,
     talk: Talk,
 ) {
     plays(rt, desks, environment(rt, desk), talk);
 }
 
 /// A seat of a customer that came then.
-pub(super) fn seat_of<R: Wait + Abort>(
+pub(super) fn seat_of<J: SiteNaming, R: Wait + Abort>(
     rt: &R,
-    desk: &SiteDesk,
+    desk: &SiteDesk<J>,
     who: Who,
     at: u64,
-) -> Option<SiteSeat> {
+) -> Option<SiteSeat<J>> {
     let ask = Reserve::new(8, 80)?;
     let comer = Comer {
         who,
@@ -218,8 +224,8 @@ pub(super) fn seat_of<R: Wait + Abort>(
 }
 
 /// Whose seat this is leaves.
-fn leaves<R: Wait + Abort>(rt: &R, desk: &SiteDesk, seat: Option<SiteSeat>) {
-    desk.leave(rt, seat.expect(rt, "a seat"));
+fn leaves<J: SiteNaming, R: Wait + Abort>(rt: &R, desk: &SiteDesk<J>, seat: Option<SiteSeat<J>>) {
+    let _trace = desk.leave(rt, seat.expect(rt, "a seat"));
 }
 
 /// A session of a guest, from its first line to its last.
@@ -229,13 +235,19 @@ const WHOLE: Talk = (
     "bBbE",
 );
 
+/// One guest's session, behind which nobody is there.
+pub(super) fn a_guest_plays<J: SiteNaming, R: Wait + Clock + Abort + AllocGlobal>(
+    rt: &R,
+    desks: &[SiteDesk<J>],
+    desk: &SiteDesk<J>,
+) {
+    guest_plays(rt, desks, desk, WHOLE);
+    holds(rt, desk.roll(rt).is_empty());
+}
+
 #[test]
 fn a_guests_session(rt: HostRuntime) {
-    let desks = desks_of(&rt, rt.alloc());
-    for desk in &desks {
-        guest_plays(&rt, &desks, desk, WHOLE);
-        holds(&rt, desk.roll(&rt).is_empty());
-    }
+    try_out(&rt, stock_of_school(&rt, rt.alloc()), Trial::GuestsSession);
 }
 
 /// The school's token, behind one that nobody has.
@@ -252,14 +264,20 @@ const OWN_AGAIN: Talk = (
     "btbBE",
 );
 
+/// The school's session, and then a guest's.
+pub(super) fn tokens_are_said<J: SiteNaming, R: Wait + Clock + Abort + AllocGlobal>(
+    rt: &R,
+    desks: &[SiteDesk<J>],
+    desk: &SiteDesk<J>,
+) {
+    guest_plays(rt, desks, desk, SCHOOLS);
+    guest_plays(rt, desks, desk, OWN_AGAIN);
+}
+
 /// A token says whose a session is; one that nobody has is refused, and then the connection is its own again.
 #[test]
 fn whose_a_session_is(rt: HostRuntime) {
-    let desks = desks_of(&rt, rt.alloc());
-    for desk in &desks {
-        guest_plays(&rt, &desks, desk, SCHOOLS);
-        guest_plays(&rt, &desks, desk, OWN_AGAIN);
-    }
+    try_out(&rt, stock_of_school(&rt, rt.alloc()), Trial::Tokens);
 }
 
 /// A guest that can pay for two lines.
@@ -272,38 +290,50 @@ const POOR: Talk = (
 /// A guest that can pay for one line, where all connections are taken.
 const CROWDED: Talk = ("HELLO 4 8\nHELLO 4 8\n", "ERR 14\nERR 31\n", "ccr");
 
+/// The session of a guest that can pay for two lines, and of one that finds all connections taken.
+pub(super) fn lines_are_paid<J: SiteNaming, R: Wait + Clock + Abort + AllocGlobal>(
+    rt: &R,
+    desks: &[SiteDesk<J>],
+    desk: &SiteDesk<J>,
+) {
+    let mut poor = environment(rt, desk);
+    poor.paid = 2;
+    plays(rt, desks, poor, POOR);
+    let mut crowded = environment(rt, desk);
+    crowded.is_crowded = true;
+    crowded.paid = 1;
+    plays(rt, desks, crowded, CROWDED);
+}
+
 /// Lines that ask for a reservation are paid for, and no others.
 #[test]
 fn lines_that_are_paid_for(rt: HostRuntime) {
-    let desks = desks_of(&rt, rt.alloc());
-    for desk in &desks {
-        let mut poor = environment(&rt, desk);
-        poor.paid = 2;
-        plays(&rt, desks.as_slice(), poor, POOR);
-        let mut crowded = environment(&rt, desk);
-        crowded.is_crowded = true;
-        crowded.paid = 1;
-        plays(&rt, desks.as_slice(), crowded, CROWDED);
-    }
+    try_out(&rt, stock_of_school(&rt, rt.alloc()), Trial::PaidLines);
 }
 
 /// A guest has its place once another one has left.
 const SEATED: Talk = ("HELLO 8 80\nBYE\n", "WELCOME 8 80\nBYE\n", "TBE");
 
+/// Of two guests one is idle, and leaves once it is told.
+pub(super) fn one_goes<J: SiteNaming, R: Wait + Clock + Abort + AllocGlobal>(
+    rt: &R,
+    desks: &[SiteDesk<J>],
+    desk: &SiteDesk<J>,
+) {
+    let idle = seat_of(rt, desk, OTHER, 1_000);
+    let busy = seat_of(rt, desk, THIRD, 99_000);
+    holds(rt, idle.is_some() && busy.is_some());
+    let mut waiting = environment(rt, desk);
+    waiting.other = idle;
+    plays(rt, desks, waiting, SEATED);
+    holds(rt, desk.roll(rt).len() == 1);
+    leaves(rt, desk, busy);
+}
+
 /// Where all guests' places are taken the one goes that has been idle for longest, and the comer has its place once that has left.
 #[test]
 fn a_guest_goes_for_another(rt: HostRuntime) {
-    let desks = desks_of(&rt, rt.alloc());
-    for desk in &desks {
-        let idle = seat_of(&rt, desk, OTHER, 1_000);
-        let busy = seat_of(&rt, desk, THIRD, 99_000);
-        holds(&rt, idle.is_some() && busy.is_some());
-        let mut waiting = environment(&rt, desk);
-        waiting.other = idle;
-        plays(&rt, desks.as_slice(), waiting, SEATED);
-        holds(&rt, desk.roll(&rt).len() == 1);
-        leaves(&rt, desk, busy);
-    }
+    try_out(&rt, stock_of_school(&rt, rt.alloc()), Trial::OneGoes);
 }
 
 /// A guest gives up, after it was told that another one was told to end; and where none is.
@@ -312,7 +342,11 @@ const GIVES_UP: Talk = ("HELLO 8 80\n", "ERR 14\n", "Tg");
 const FINDS_NO_PLACE: Talk = ("HELLO 8 80\n", "ERR 14\n", "g");
 
 /// Two guests are there, of whom one is idle and doesn't leave; and then two of whom none is idle.
-fn nobody_goes<R: Wait + Clock + Abort + AllocGlobal>(rt: &R, desks: &[SiteDesk], desk: &SiteDesk) {
+pub(super) fn nobody_goes<J: SiteNaming, R: Wait + Clock + Abort + AllocGlobal>(
+    rt: &R,
+    desks: &[SiteDesk<J>],
+    desk: &SiteDesk<J>,
+) {
     let idle = seat_of(rt, desk, OTHER, 1_000);
     let busy = seat_of(rt, desk, THIRD, 99_000);
     let mut waiting = environment(rt, desk);
@@ -330,8 +364,5 @@ fn nobody_goes<R: Wait + Clock + Abort + AllocGlobal>(rt: &R, desks: &[SiteDesk]
 /// Who waits for one that doesn't leave gives up after 2 seconds of the clock; and nobody goes where none is idle.
 #[test]
 fn a_guest_that_does_not_leave(rt: HostRuntime) {
-    let desks = desks_of(&rt, rt.alloc());
-    for desk in &desks {
-        nobody_goes(&rt, &desks, desk);
-    }
+    try_out(&rt, stock_of_school(&rt, rt.alloc()), Trial::NobodyGoes);
 }

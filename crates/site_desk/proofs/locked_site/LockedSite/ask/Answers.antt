@@ -1,8 +1,18 @@
-use Rattle.site_desk.proofs.Common.{rules, Contains, IfErr, ask_refusals, ask-refused}
+use Rattle.site_desk.proofs.Common.{refl, ◌∙◌}
+use Rattle.site_desk.proofs.Keepings.{booked-ask}
 use Rattle.site_desk.proofs.locked_site.LockedSite.ask.Goals as goal
 
-pub returns-in_err-take-clause-refused : goal.returns-in_err-take-clause-refused
-returns-in_err-take-clause-refused g c =
-    let decided = rw c.submit-search.ensures.step at c.take.ensures.step in
-    let known : IfErr c.take.result (Contains ask_refusals) = ask-refused c.args.self.now.booked.hall c.take.new.self.booked.hall _ _ _ _ c.take.result decided.0.one in
-    search rules
+pub invariant_of-self : goal.invariant_of-self
+invariant_of-self g c =
+    let i = c.self.invariant in
+    let r = c.ask.ensures in
+    let was = c.self.inside in (
+      booked-ask _ c.seat.inside.core.seat c.ask.new.seat.seat was.noted c.ask.new.self was.book _ c.ask.result i.0 refl r.asked r.step r.same,
+      i.1,
+      r.come (g.J.SiteNaming.begun was.at) i.2,
+      r.id.0 ∙ i.3,
+      i.4,
+      i.5,
+      i.6,
+      i.7,
+    )

@@ -2,4 +2,5 @@ use Rattle.site_office.proofs.Common.{◌≡◌}
 use Rattle.site_office.proofs.office.SiteOffice.come.Given as goal
 
 abbrev pub invariant-loop : goal.invariant-loop
-invariant-loop g l = (l.self.seat ≡ l.initial.self.seat) × (l.self.who ≡ l.initial.self.who)
+invariant-loop g l =
+    (l.self.seat ≡ l.initial.self.seat) × (l.self.who ≡ l.initial.self.who) × (l.self.desk ≡ l.initial.self.desk) × (l.self.knew ≡ l.initial.self.knew)

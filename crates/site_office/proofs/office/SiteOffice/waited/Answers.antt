@@ -1,8 +1,14 @@
-use Rattle.site_office.proofs.Common.{inr, refl, Wait, asks_of_seat, same-asks, told-to}
-use Rattle.site_office.proofs.SeatLemmas.{seat-shows}
+use Rattle.site_office.proofs.Common.{refl, Wait, Told, reply_of, at_site, wait-turn, office_of}
+use Rattle.site_office.proofs.TurnLemmas.{placed, seat-was, stayed, stays-of}
 use Rattle.site_office.proofs.office.SiteOffice.waited.Goals as goal
 
-pub returns-in-Some : goal.returns-in-Some
-returns-in-Some g c =
-    let shows = seat-shows c.args.self.now.seat c.in-Some.seat c.args.job c.wait.result c.told_answer.result c.in-Some.is c.wait.ensures c.told_answer.ensures in
-    (same-asks (asks_of_seat c.args.self.now.seat) (Wait c.args.job) c.args.job c.told_answer.result, shows.0, shows.1, told-to (Wait c.args.job) c.args.job c.told_answer.result (inr refl))
+pub returns-in-Some-clause-turn : goal.returns-in-Some-clause-turn
+returns-in-Some-clause-turn g c =
+    let told = c.wait.ensures in
+    let at = c.args.self.now.desk.now in
+    let seat = c.args.self.now.seat in
+    let knew = c.args.self.now.knew in
+    let here = c.in-Some.seat in
+    let own = placed at seat here c.in-Some.is c.args.self.now.placed in
+    stayed g.J.SiteNaming.begun at seat knew here c.wait.new.seat c.in-Some.is (Wait c.args.job) (reply_of (Told c.args.job) c.told_answer.result) (stays-of (Told c.args.job) c.told_answer.result (λ x. refl))
+    (wait-turn (g.J.SiteNaming.begun at) (office_of (at_site at seat knew)) here.seat c.wait.new.seat.seat c.args.job c.wait.result c.told_answer.result (seat-was seat here c.in-Some.is) (told.look own) told.shown (told.told own) c.told_answer.ensures)

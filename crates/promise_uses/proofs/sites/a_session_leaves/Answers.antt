@@ -1,0 +1,13 @@
+use Rattle.promise_uses.proofs.Parts.{if-some}
+use Rattle.promise_uses.proofs.sites.a_session_leaves.Goals as goal
+
+pub returns : goal.returns
+returns g c =
+    let e = c.leave.ensures in
+    record {
+      told = if-some c.leave.result (λ trace told. rw (← c.requires.nine) told.1) e.told;
+      closed = if-some c.leave.result (λ trace closed. rw (← c.requires.nine) closed.0) e.closed;
+      granted = if-some c.leave.result (λ trace closed. closed.1.1) e.closed;
+      legal = if-some c.leave.result (λ trace told. told.2.0) e.told;
+      own = if-some c.leave.result (λ trace told. (told.0, rw (← c.requires.nine) told.2.1)) e.told;
+    }

@@ -1,0 +1,8 @@
+use Rattle.std.proofs.Common.{rules}
+use Rattle.site_desk.proofs.Stocks.{stocked}
+use Rattle.server_tests.proofs.tests.trials.try_all.Goals as goal
+
+pub try_at-requires : goal.try_at-requires
+try_at-requires g c =
+    let there = stocked c.args.stocks.items in
+    search rules
