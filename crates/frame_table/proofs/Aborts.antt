@@ -1,19 +1,20 @@
 -- What an abort leaves: at a frame that has no child all, and of the slots, serials and ready frames those up to it.
 use Rattle.frame_table.proofs.Common.{Leaves, gone_among, has_slot_under, map}
 use Rattle.frame_table.proofs.TreeLaws.{found-own}
+use Rattle.std.specs.List.{AllByRecursion}
 use Rattle.frame_table.proofs.Changes.{keeps-cut-at}
 use Rattle.frame_table.proofs.Common.{Each, IsCutAt, IsTree, KeepsTree, children_of, frame_at, goes_under, is_child_of, length-set, recounted}
 use Rattle.frame_table.proofs.Finds.{keeps-rises}
 use Rattle.frame_table.proofs.Places.{length-filter-le}
 use Rattle.frame_table.proofs.TreeChanges.{no-child-found}
-use Rattle.frame_table.proofs.TreeLaws.{IsUnder, children-by-paths, each-found, filter-every, filter-none, found-each, tree-induction, tree-rising, under-through}
+use Rattle.frame_table.proofs.TreeLaws.{children-by-paths, filter-every, filter-none, found-each, tree-induction, tree-rising, under-through}
 use Rattle.std.proofs.Math.Seq.{map-set_same}
 use Rattle.frame_table.proofs.Common.{◌≡◌, ℕ, Bool, true, false, not, List, [], ◌∷◌, ◌++◌, Some, refl, ap, sym, ◌∙◌, arith, zero, suc, ◌+◌, ◌<◌}
 use Rattle.frame_table.proofs.Common.{◌≤◌, nat_lt, length, take, drop, set, slice_index, length-append, filter, ready_in, Slab, get, StoredSlot}
 use Rattle.frame_table.proofs.Common.{ReadyFrame, has_number, filter-append, Slot, Slot as TenantSlot, take-set, false≢true, Frame}
-use Rattle.frame_table.proofs.Common.{aborted, frames_under, values_of, slots_in, AllHere}
+use Rattle.frame_table.proofs.Common.{aborted, all-map, frames_under, values_of, slots_in, AllHere}
 use Rattle.frame_table.proofs.Common.{kept_slots, Rises, serials_of, IsSeenAt}
-use Rattle.std.proofs.Common.{take-append-drop, take_at, drop_at, length-take-le as length-front, length-take}
+use Rattle.std.proofs.Common.{take-append-drop, take_at, drop_at, length-take-le as length-front}
 use Rattle.frame_table.proofs.Forest.{stays_in, above-at}
 use Rattle.frame_table.proofs.Cutting.{head-key, tail-key}
 use Rattle.frame_table.proofs.Changes.{cleared}
@@ -21,49 +22,41 @@ use Rattle.frame_table.proofs.SlotStores.{here-found, slots_in-length}
 use Rattle.std.proofs.lemmas.List.{take-map}
 use Rattle.frame_table.proofs.Readies.{ready_in-append, ready_in-take, few-ready_in}
 
--- each slot stays
-abbrev pub AllStay : {T : Type 0} → (ℕ → Bool) → List (Slot T) → Type 0
-AllStay keep [] = Unit {0}
-AllStay keep (x ∷ xs) = (keep x.serial ≡ true) × AllStay keep xs
-
 -- where all slots pass a test of serials, and what a filter by it leaves
 module _ {T : Type 0} (keep : ℕ → Bool) where
   -- those before a place stay, where each lower serial does
   early-stay : (xs : List (Slot T)) (i n : ℕ) → Rises xs → i < length xs → slice_index (serials_of xs) i ≡ n → ((s : ℕ) → s < n → keep s ≡ true) →
-      AllStay keep (take i xs)
+      AllByRecursion (λ x. keep x.serial ≡ true) (take i xs)
   early-stay [] i n rise lt at low = absurd (omega arith)
   early-stay (x ∷ xs) zero n rise lt at low = tt
   early-stay (x ∷ xs) (suc i) n rise lt at low =
       let above = above-at xs x.serial i rise.0 (omega arith) in
       (low x.serial (omega (arith, above, at)), early-stay xs i n rise.1 (omega arith) at low)
 
-  filter-all : (xs : List (Slot T)) → AllStay keep xs → filter (λ x. keep x.serial) xs ≡ xs
+  filter-all : (xs : List (Slot T)) → AllByRecursion (λ x. keep x.serial ≡ true) xs → filter (λ x. keep x.serial) xs ≡ xs
   filter-all [] s = refl
-  filter-all (x ∷ xs) s = rw s.0 (ap (λ ys. x ∷ ys) (filter-all xs s.1))
+  filter-all (x ∷ xs) s = grind (arith, filter-all xs)
 
-  filter-no : (xs : List (Slot T)) → AllStay keep xs → filter (λ x. not (keep x.serial)) xs ≡ []
+  filter-no : (xs : List (Slot T)) → AllByRecursion (λ x. keep x.serial ≡ true) xs → filter (λ x. not (keep x.serial)) xs ≡ []
   filter-no [] s = refl
-  filter-no (x ∷ xs) s = rw s.0 (filter-no xs s.1)
+  filter-no (x ∷ xs) s = grind (arith, filter-no xs)
 
 -- an abort at a frame n without a child leaves every frame, and no value is under it
 module _ {T : Type 0} (n : ℕ) (frames : List (Frame T)) (t : IsTree frames) (none : children_of frames n ≡ []) where
   none-under : Each (λ f. goes_under n f.path ≡ false) frames
   none-under =
       found-each (λ f. goes_under n f.path ≡ false) frames (tree-rising frames t) (λ s f at. tree-induction
-      (λ f. frame_at frames f.serial ≡ Some f → goes_under n f.path ≡ false) frames t (λ f top own. rw top.1 refl) under s f at (found-own frames s f at))
-    where
-      under : (f : Frame T) (u : IsUnder frames f) → (frame_at frames u.above.serial ≡ Some u.above → goes_under n u.above.path ≡ false) →
-          frame_at frames f.serial ≡ Some f → goes_under n f.path ≡ false
-      under f u above own =
-          let through = under-through frames f n t u in
-          let clear = above (found-own frames u.parent u.above u.there) in
-          let other = no-child-found (λ x. is_child_of n x.path) frames f.serial f (sym (children-by-paths frames n t) ∙ none) own in
-          let child = rw u.named at other in
-          grind (arith, through, clear, child)
+      (λ f. frame_at frames f.serial ≡ Some f → goes_under n f.path ≡ false) frames t (λ f top own. rw top.1 refl)
+      (λ f u above own.
+      let through = under-through frames f n t u in
+      let clear = above (found-own frames u.parent u.above u.there) in
+      let child = no-child-found (λ x. is_child_of n x.path) frames f.serial f (sym (children-by-paths frames n t) ∙ none) own in
+      grind (arith, through, clear, child, u.named))
+      s f at (found-own frames s f at))
 
   pub leaf-aborted : aborted n frames ≡ frames
-  leaf-aborted = filter-every (λ f. not (goes_under n f.path)) frames (found-each (λ f. not (goes_under n f.path) ≡ true) frames (tree-rising frames t)
-      (λ s f at. rw (each-found (λ f. goes_under n f.path ≡ false) frames s f none-under at) refl))
+  leaf-aborted = filter-every (λ f. not (goes_under n f.path)) frames
+      (all-map (λ f. goes_under n f.path ≡ false) (λ f. not (goes_under n f.path) ≡ true) (λ f clear. ap not clear) frames none-under)
 
   pub leaf-none-under : values_of (frames_under n frames) ≡ []
   leaf-none-under = ap values_of (filter-none (λ f. goes_under n f.path) frames none-under)
@@ -130,21 +123,17 @@ module _ {T : Type 0} {xs : List (TenantSlot T)} {frames : List (Frame T)} {i n 
       let ys : List (TenantSlot T) = set xs i (recounted (λ m. 0) slot) in
       let zs : List (TenantSlot T) = kept_slots n ys in
       let lt : i < length ys = omega (arith, length-set xs i (recounted (λ m. 0) slot), seen.within) in
-      let front : length (take i ys) ≡ i = length-front i ys (omega arith) in
+      let front : length (take i xs) ≡ i = length-front i xs (omega (arith, seen.within)) in
       let stay = early-stay (stays_in n ys) ys i n (keeps-rises (cleared k seen)) lt childless-serial (keeps-cut-at (cleared k seen) n).low in
       let stays : TenantSlot T → Bool = λ x. stays_in n ys x.serial in
       let rest : List (TenantSlot T) = filter stays (drop i ys) in
-      let parts : zs ≡ take i ys ++ rest = ap (filter stays) (sym (take-append-drop i ys)) ∙ filter-append stays (take i ys) (drop i ys)
-      ∙ ap (λ ws. ws ++ rest) (filter-all (stays_in n ys) (take i ys) stay) in
+      let parts : zs ≡ take i xs ++ rest = ap (filter stays) (sym (take-append-drop i ys)) ∙ filter-append stays (take i ys) (drop i ys)
+      ∙ ap (λ ws. ws ++ rest) (filter-all (stays_in n ys) (take i ys) stay ∙ take-set xs i (recounted (λ m. 0) slot)) in
       let below : List ReadyFrame = filter (λ frame. nat_lt frame.serial n) ready in
-      let early : below ≡ ready_in (take i ys) =
-      rw (is, ready_in-take xs i n (keeps-rises k) seen.within seen.named) (ap ready_in (sym (take-set xs i (recounted (λ m. 0) slot)))) in
-      let few = few-ready_in (take i ys) in
-      let fewer = cut-length in
-      let same : take i zs ≡ take i xs = rw parts (take_at (take i ys) rest i front ∙ take-set xs i (recounted (λ m. 0) slot)) in
+      let early : below ≡ ready_in (take i xs) = rw is (ready_in-take xs i n (keeps-rises k) seen.within seen.named) in
       record {
-        within = rw parts (omega (arith, length-append (take i ys) rest, front));
-        front = take-map (λ s. s.serial) i zs ∙ (ap serials_of same ∙ sym (take-map (λ s. s.serial) i xs));
-        room = omega (arith, ap length early, few, length-take i ys, fewer, within);
-        ready = rw (early, parts, drop_at (take i ys) rest i front) (sym (ready_in-append (take i ys) rest));
+        within = rw parts (omega (arith, length-append (take i xs) rest, front));
+        front = take-map (λ s. s.serial) i zs ∙ (ap serials_of (rw parts (take_at (take i xs) rest i front)) ∙ sym (take-map (λ s. s.serial) i xs));
+        room = omega (arith, ap length early, few-ready_in (take i xs), front, cut-length, within);
+        ready = rw (early, parts, drop_at (take i xs) rest i front) (sym (ready_in-append (take i xs) rest));
       }

@@ -2,10 +2,10 @@
 pub use Rattle.std.proofs.Common.{Bool, Err, IfSome, IsOk, List, None, Ok, OnErr, Option, Result, Some, [], ap, append-nil, append_assoc, arith, cond, drop}
 pub use Rattle.std.proofs.Common.{eqb, false, get_or, inl, inr, length, length-append, length-set, map, nat_lt, not, refl, rules, set, slice_get, slice_index}
 pub use Rattle.std.proofs.Common.{subst, suc, sym, take, true, vec_capacity, vec_len, zero, ℕ, ◌++◌, ◌+◌, ◌-◌, ◌<◌, ◌||◌, ◌∙◌, ◌∷◌, ◌≡◌, ◌≢◌, ◌≤◌, ◌⊎◌}
-pub use Rattle.std.proofs.lemmas.Bool.{and_parts, cases_Bool, cases_eq, eq-eqb, eqb-true, false≢true, lt-ltb, ltb-false, ltb-true, ne_eqb, not-true}
-pub use Rattle.std.proofs.lemmas.Bool.{not_from_false, not_from_true, or_cases, or_parts, or_right, true≢false}
+pub use Rattle.std.proofs.lemmas.Bool.{cases_Bool, cases_eq, eq-eqb, eqb-true, false≢true, lt-ltb, ltb-false, ltb-true, ne_eqb, not-true}
+pub use Rattle.std.proofs.lemmas.Bool.{not_from_false, not_from_true, or_cases, or_right, true≢false}
 pub use Rattle.std.proofs.lemmas.Grind.{common_steps}
-pub use Rattle.std.proofs.lemmas.List.{at_drop_more, drop-set-add, get_or-set_other, get_or_default, length-drop, length-map, map-append}
+pub use Rattle.std.proofs.lemmas.List.{at_drop_more, drop-set-add, get_or-set_other, length-drop, length-map, map-append}
 pub use Rattle.std.proofs.lemmas.List.{take-set, take_more}
 pub use Rattle.std.proofs.lemmas.List.Edits.{length-remove}
 pub use Rattle.std.proofs.lemmas.List.Elements.{filter-append, filter_more}

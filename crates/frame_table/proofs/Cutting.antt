@@ -1,14 +1,13 @@
 -- A slot store of which some slots went.
 use Rattle.frame_table.proofs.Places.{remove-rising}
 use Rattle.std.proofs.lemmas.List.Filters.{length-filter_both}
-use Rattle.frame_table.proofs.Common.{Leaves, cond, has_slot_under, length-append, length-map}
-use Rattle.std.proofs.Common.{is_some}
+use Rattle.frame_table.proofs.Common.{Leaves, has_slot_under, length-append, length-map}
 use Rattle.frame_table.proofs.Common.{IsCutAt}
 use Rattle.frame_table.proofs.Forest.{IsClosed-from-follows}
 use Rattle.frame_table.proofs.SlotStores.{apart-before}
 use Rattle.frame_table.proofs.Common.{◌≡◌, ◌≢◌, ℕ, zero, suc, ◌+◌, ◌<◌, Bool, true, false, not, eqb, List, [], ◌∷◌, ◌++◌, Option, Some, None, get_or}
-use Rattle.frame_table.proofs.Common.{slice_index, take, length, append-nil, refl, ap, sym, ◌∙◌, arith, subst, StoredSlot, has_number, filter-append}
-use Rattle.frame_table.proofs.Common.{filter, remove, Slot as TenantSlot, Slab, get, slab_len, false≢true, eq-eqb, ne_eqb, or_right, eqb-true}
+use Rattle.frame_table.proofs.Common.{slice_index, take, length, append-nil, refl, ap, sym, ◌∙◌, arith, StoredSlot, has_number, filter-append}
+use Rattle.frame_table.proofs.Common.{filter, length-remove, remove, Slot as TenantSlot, Slab, get, slab_len, false≢true, eq-eqb, ne_eqb, or_right, eqb-true}
 use Rattle.frame_table.proofs.Common.{kept_slots, gone_values, child_slots, AllAbove, Rises, serials_of, with_found, slots_in, AreApartKeys, HasSerial}
 use Rattle.frame_table.proofs.Common.{KnowsParent, IsHere, AllHere, IsSlotStore, AreKeys, IsKeyAt, Updates}
 use Rattle.frame_table.proofs.Forest.{stays_in, IsClosed, serial-read}
@@ -82,13 +81,11 @@ slots-filter old new by_key by_serial all before (k ∷ keys) agree same w h =
 module _ {T : Type 0} {old new : Slab (StoredSlot T)} {by_key by_serial : ℕ → Bool} {all : List ℕ} (s : Stays old new by_key by_serial all) where
   parent-stays : (before : List ℕ) (parent above : Option ℕ) → AreAmong before all → ((p : ℕ) → parent ≡ Some p → by_serial p ≡ true) →
       KnowsParent old before parent above → KnowsParent new (filter by_key before) parent above
-  parent-stays before None None b up k = tt
-  parent-stays before None (Some a) b up k = absurd k
-  parent-stays before (Some p) None b up k = absurd k
   parent-stays before (Some p) (Some a) b up k =
       let y = named-slot p (get old a) k.1 in
       let stays : by_key a ≡ true = s.agree a y.0 (b a k.0) y.1 ∙ (ap by_serial y.2 ∙ up p refl) in
       (has_number-filter by_key before a k.0 stays, rw (s.renew a y.0 (b a k.0) y.1 stays) y.2)
+  parent-stays before parent above b up k = grind arith
 
   here-filter : (before keys : List ℕ) → AreAmong before all → AreAmong keys all → IsClosed by_serial (slots_in old keys) → AllHere old before keys →
       AllHere new (filter by_key before) (filter by_key keys)
@@ -96,8 +93,8 @@ module _ {T : Type 0} {old new : Slab (StoredSlot T)} {by_key by_serial : ℕ �
   here-filter before (k ∷ keys) b w c h =
       let found = here-found old before (get old k) h.0 in
       let x = found.0 in
-      let closed : IsClosed by_serial (x.slot ∷ slots_in old keys) = subst (λ o. IsClosed by_serial (with_found o (slots_in old keys))) found.1 c in
-      let here : IsHere old before (Some x) = subst (λ o. IsHere old before o) found.1 h.0 in
+      let closed = rw found.1 at c in
+      let here = rw found.1 at h.0 in
       let there = w k (head-key k keys) in
       let agree = s.agree k x there found.1 in
       let renew = s.renew k x there found.1 in
@@ -117,17 +114,9 @@ module _ {T : Type 0} {old new : Slab (StoredSlot T)} {by_key by_serial : ℕ �
 module _ {T : Type 0} {under : ℕ} {old new : Slab (StoredSlot T)} {order : List ℕ} (l : Leaves under (slots_in old order) order old new) where
   cut-stays : Stays old new (has_slot_under new) (stays_in under (slots_in old order)) order
   cut-stays = record {
-    agree = λ k x has is. ap is_some (l.left k) ∙ (rw (is, has) (either x (stays_in under (slots_in old order) x.slot.serial)));
-    renew = λ k x has is stays. l.left k ∙ (rw (is, has) (one (stays_in under (slots_in old order) x.slot.serial) x (rw (is, has) at (sym (ap is_some (l.left k)) ∙ stays))));
+    agree = λ k x has is. let left = l.left k in grind (arith, left, is, has);
+    renew = λ k x has is stays. let left = l.left k in grind (arith, left, is, has, stays);
   }
-    where
-      either : (x : StoredSlot T) (stay : Bool) → is_some (cond (not stay) None (Some x)) ≡ stay
-      either x true = refl
-      either x false = refl
-
-      one : (stay : Bool) (x : StoredSlot T) → is_some (cond (not stay) None (Some x)) ≡ true → cond (not stay) None (Some x) ≡ Some x
-      one true x s = refl
-      one false x s = absurd (false≢true s)
 
   pub cut-slots : AllHere old [] order → slots_in new (filter (has_slot_under new) order) ≡ kept_slots under (slots_in old order)
   cut-slots h = stays-slots cut-stays h
@@ -143,21 +132,19 @@ module _ {T : Type 0} {under : ℕ} {old new : Slab (StoredSlot T)} {order : Lis
       let parts = length-filter_both (λ (slot : TenantSlot T). keep slot.serial) (λ (slot : TenantSlot T). not (keep slot.serial)) (λ x. refl) slots in
       let all = slots_in-length old [] order s.here in
       let left = sym (slots_in-length new [] (filter (has_slot_under new) order) here) ∙ ap length (cut-slots s.here) in
-      record {
-        here = here;
-        apart = apart-filter (has_slot_under new) order s.apart;
-        counted = omega (arith, len, ap length written, length-append had (gone_values under slots), gone, parts, all, left, s.counted);
-        within = omega (arith, length-filter-le (has_slot_under new) order, s.within);
-        slab_room = omega (arith, s.slab_room, capacity);
-        order_room = s.order_room;
-      }
+      let apart = apart-filter (has_slot_under new) order s.apart in
+      let less = length-filter-le (has_slot_under new) order in
+      let counted : slab_len new ≡ length (filter (has_slot_under new) order) = omega (arith, len, ap length written, length-append had (gone_values under slots), gone, parts, all, left, s.counted) in
+      grind arith
 
 -- what is there is one slot
 by-one : {T : Type 0} (o : Option (StoredSlot T)) (x y : StoredSlot T) → o ≡ Some x → o ≡ Some y → x.slot.serial ≡ y.slot.serial
 by-one o x y a b = grind arith
 
--- a slot was taken away under its key, which was no slot's parent
-pub record HasTaken {T : Type 0} (old new : Slab (StoredSlot T)) (order : List ℕ) (at key : ℕ) (kept : StoredSlot T) : Type 0 where
+-- a slot was taken away under its key
+pub record HasTaken {T : Type 0} (old new : Slab (StoredSlot T)) (order : List ℕ) (room places at key : ℕ) (kept : StoredSlot T) : Type 0 where
+  pub store : IsSlotStore old order room places
+  pub rise : Rises (slots_in old order)
   pub within : at < length order
   pub read : key ≡ get_or order at key
   pub was : get old key ≡ Some kept
@@ -171,13 +158,12 @@ remove-key (k ∷ keys) zero d a lt = rw (eq-eqb k k refl) (sym (all-stay keys a
     all-stay : (keys : List ℕ) → has_number keys k ≡ false → filter (λ j. not (eqb j k)) keys ≡ keys
     all-stay [] none = refl
     all-stay (j ∷ keys) none = grind (arith, all-stay keys)
-remove-key (k ∷ keys) (suc i) d a lt =
-    let other : k ≢ get_or keys i d = λ e. false≢true (sym a.0 ∙ (ap (has_number keys) e ∙ has_number-at keys i d (omega arith))) in
-    rw (ne_eqb k (get_or keys i d) other) (ap (λ ks. k ∷ ks) (remove-key keys i d a.1 (omega arith)))
+remove-key (k ∷ keys) (suc i) d a lt = let there = has_number-at keys i d (omega arith) in grind (arith, there, eqb-true, remove-key keys i d)
 
-pub has-taken : {T : Type 0} {old new : Slab (StoredSlot T)} {order : List ℕ} {at key : ℕ} {kept : StoredSlot T} → at < length order →
-    key ≡ get_or order at key → get old key ≡ Some kept → Updates old new key None → HasTaken old new order at key kept
-has-taken within read was u = record { within = within; read = read; was = was; others = u.others }
+pub has-taken : {T : Type 0} {old new : Slab (StoredSlot T)} {order : List ℕ} {room places at key : ℕ} {kept : StoredSlot T} → IsSlotStore old order room places →
+    Rises (slots_in old order) → at < length (slots_in old order) → key ≡ get_or order at key → get old key ≡ Some kept → Updates old new key None →
+    HasTaken old new order room places at key kept
+has-taken {old = old} {order = order} store rise within read was u = let long = slots_in-length old [] order store.here in grind arith
 
 module _ {T : Type 0} (slab : Slab (StoredSlot T)) where
   -- a serial above another, by its key
@@ -191,66 +177,62 @@ module _ {T : Type 0} (slab : Slab (StoredSlot T)) where
   same-key before [] k j x y h rise has_k has_j is_k is_j same = absurd (false≢true has_k)
   same-key before (i ∷ keys) k j x y h rise has_k has_j is_k is_j same =
       let found = here-found slab before (get slab i) h.0 in
-      let both : Rises (found.0.slot ∷ slots_in slab keys) = subst (λ o. Rises (with_found o (slots_in slab keys))) found.1 rise in
+      let both = rw found.1 at rise in
       let above = above-key (before ++ i ∷ []) keys found.0.slot.serial h.1 both.0 in
       grind (arith, found.1, both, above j y, above k x, same-key (before ++ i ∷ []) keys k j x y)
 
--- what is left when a leaf is taken away
-module _ {T : Type 0} {old new : Slab (StoredSlot T)} {order : List ℕ} {at key : ℕ} {kept : StoredSlot T} (t : HasTaken old new order at key kept)
-    (h : AllHere old [] order) where
-  pub taken-stays : Rises (slots_in old order) → Stays old new (is_not key) (is_not kept.slot.serial) order
-  taken-stays rise = grind (arith, has_number-at, by-one, eq-eqb, ne_eqb, same-key, false≢true)
+-- what is left when it is taken away, where it was no slot's parent
+module _ {T : Type 0} {old new : Slab (StoredSlot T)} {order : List ℕ} {room places at key : ℕ} {kept : StoredSlot T} (t : HasTaken old new order room places at key kept) where
+  taken-stays : Stays old new (is_not key) (is_not kept.slot.serial) order
+  taken-stays =
+      let here = t.store.here in let rise = t.rise in grind (arith, has_number-at, by-one, eq-eqb, ne_eqb, same-key, false≢true)
 
   within : at < length (slots_in old order)
-  within = rw (slots_in-length old [] order h) t.within
+  within = rw (slots_in-length old [] order t.store.here) t.within
 
   pub taken-read : kept.slot ≡ get_or (slots_in old order) at kept.slot
-  taken-read = sym (slot-read old order at key kept kept.slot h t.within t.read t.was)
+  taken-read = sym (slot-read old order at key kept kept.slot t.store.here t.within t.read t.was)
 
-  named : slice_index (serials_of (slots_in old order)) at ≡ kept.slot.serial
-  named = serial-read (slots_in old order) at kept.slot within taken-read
+  left-keys : remove order at ≡ filter (is_not key) order
+  left-keys = remove-key order at key t.store.apart t.within ∙ ap (λ j. filter (λ k. not (eqb k j)) order) (sym t.read)
 
-  left-keys : AreApartKeys order → remove order at ≡ filter (is_not key) order
-  left-keys a = remove-key order at key a t.within ∙ ap (λ j. filter (λ k. not (eqb k j)) order) (sym t.read)
+  left-slots : slots_in new (remove order at) ≡ filter (λ x. is_not kept.slot.serial x.serial) (slots_in old order)
+  left-slots = ap (slots_in new) left-keys ∙ stays-slots taken-stays t.store.here
 
-  pub taken-slots : AreApartKeys order → Rises (slots_in old order) → slots_in new (remove order at) ≡ remove (slots_in old order) at
-  taken-slots a rise =
-      let s = taken-stays rise in
-      ap (slots_in new) (left-keys a) ∙ (stays-slots s h ∙ sym (remove-rising (λ x. x.serial) (slots_in old order) at kept.slot rise within taken-read))
+  pub taken-slots : slots_in new (remove order at) ≡ remove (slots_in old order) at
+  taken-slots = left-slots ∙ sym (remove-rising (λ x. x.serial) (slots_in old order) at kept.slot t.rise within taken-read)
 
-  pub taken-store : {room places : ℕ} → IsSlotStore old order room places → Rises (slots_in old order) →
-      child_slots (slice_index (serials_of (slots_in old order)) at) (slots_in old order) ≡ [] →
-      length (remove order at) + 1 ≡ length order → slab_len new + 1 ≡ slab_len old → new.capacity ≡ old.capacity → IsSlotStore new (remove order at) room places
-  taken-store s rise leaf long len capacity =
-      let none : child_slots kept.slot.serial (slots_in old order) ≡ [] = ap (λ n. child_slots n (slots_in old order)) (sym named) ∙ leaf in
-      let closed = leaf-closed kept.slot.serial (slots_in old order) none in
-      record {
-        here = rw (left-keys s.apart) (stays-here (taken-stays rise) closed h);
-        apart = rw (left-keys s.apart) (apart-filter (is_not key) order s.apart);
-        counted = omega (arith, len, s.counted, long);
-        within = omega (arith, long, s.within);
-        slab_room = omega (arith, s.slab_room, capacity);
-        order_room = s.order_room;
-      }
+  pub taken-rises : Rises (slots_in new (remove order at))
+  taken-rises = rw left-slots (rises-by-filter (λ x. x.serial) (λ x. is_not kept.slot.serial x.serial) (slots_in old order) t.rise)
+
+  pub taken-store : child_slots (slice_index (serials_of (slots_in old order)) at) (slots_in old order) ≡ [] → slab_len new + 1 ≡ slab_len old →
+      new.capacity ≡ old.capacity → IsSlotStore new (remove order at) room places
+  taken-store leaf len capacity =
+      let named = serial-read (slots_in old order) at kept.slot within taken-read in
+      let closed = leaf-closed kept.slot.serial (slots_in old order) (ap (λ n. child_slots n (slots_in old order)) (sym named) ∙ leaf) in
+      let here : AllHere new [] (remove order at) = rw left-keys (stays-here taken-stays closed t.store.here) in
+      let apart : AreApartKeys (remove order at) = rw left-keys (apart-filter (is_not key) order t.store.apart) in
+      let long = length-remove order at t.within in
+      let store = t.store in
+      grind arith
 
   -- the parent of a slot that was taken away is known as before: its key stands before the slot's
-  pub taken-knows : AreApartKeys order → AreKeys new (remove order at) → KnowsParent new (remove order at) kept.slot.parent kept.above
-  taken-knows a are =
-      let here : IsHere old (take at order) (Some kept) = subst (λ o. IsHere old (take at order) o) t.was (here-read old order at key h t.within t.read) in
+  pub taken-knows : AreKeys new (remove order at) → KnowsParent new (remove order at) kept.slot.parent kept.above
+  taken-knows are =
+      let here : IsHere old (take at order) (Some kept) = rw t.was at (here-read old order at key t.store.here t.within t.read) in
       still kept.slot.parent kept.above here
     where
       own : has_number (take at order) key ≡ false
-      own = ap (has_number (take at order)) t.read ∙ apart-before order at key a t.within
+      own = grind (arith, apart-before)
 
       still : (parent above : Option ℕ) → KnowsParent old (take at order) parent above → KnowsParent new (remove order at) parent above
-      still None None k = tt
-      still None (Some a) k = absurd k
-      still (Some p) None k = absurd k
       still (Some p) (Some a) k =
           let y = named-slot p (get old a) k.1 in
-          let found : get new a ≡ Some y.0 = t.others a (λ e. false≢true (sym own ∙ (ap (has_number (take at order)) (sym e) ∙ k.0))) ∙ y.1 in
+          let others = t.others a in
+          let found : get new a ≡ Some y.0 = grind (arith, others, own, y.1) in
           let place = key-found are found y.2 in
           knows-key new (remove order at) (Some p) p place.0 a refl are place.1
+      still parent above k = grind arith
 
 -- what stands under a parent's key
 pub record IsParentKey {T : Type 0} (slab : Slab (StoredSlot T)) (keys : List ℕ) (parent : Option ℕ) (key : ℕ) : Type 0 where
@@ -276,8 +258,3 @@ module _ {T : Type 0} (slab : Slab (StoredSlot T)) (keys : List ℕ) (parent abo
   -- no key is a root's
   pub no-parent-key : above ≡ None → KnowsParent slab keys parent above → parent ≡ None
   no-parent-key h5 h6 = grind arith
-
--- slots rise without the one at a place
-pub rises-remove : {T : Type 0} (xs : List (TenantSlot T)) (i : ℕ) (x : TenantSlot T) → Rises xs → i < length xs → x ≡ get_or xs i x → Rises (remove xs i)
-rises-remove xs i x rise lt is =
-    rw (remove-rising (λ y. y.serial) xs i x rise lt is) (rises-by-filter (λ y. y.serial) (λ y. not (eqb y.serial x.serial)) xs rise)

@@ -1,16 +1,16 @@
 -- The serials of slots as their index, and the keys of an order: a key that is found stands in the order.
-use Rattle.frame_table.proofs.Forest.{count-at, slot_at-found}
-use Rattle.frame_table.proofs.SlotStores.{contains_read, roomy-len, roomy-store}
+use Rattle.frame_table.proofs.SlotStores.{contains_read}
 use Rattle.frame_table.proofs.Common.{restated, recounted, with_slot, ◌+◌}
 use Rattle.frame_table.proofs.Finds.{has_slot-kept, keeps-rises}
 use Rattle.frame_table.proofs.Forest.{with_slot-none}
-use Rattle.std.proofs.Common.{◌≡◌, ℕ, zero, suc, ◌<◌, true, false, ◌||◌, eqb, List, [], ◌∷◌, ◌++◌, length, take, take-append-drop, drop, set, get_or}
+use Rattle.std.proofs.Common.{◌≡◌, ℕ, zero, suc, ◌<◌, true, false, List, [], ◌∷◌, ◌++◌, length, take, take-append-drop, drop, set, get_or}
 use Rattle.std.proofs.Common.{slice_index, cond, Option, is_some, IfSome, IfNone, refl, ap, sym, ◌∙◌, arith, ◌≤◌, Some, None, count_by, subst, inl, inr}
-use Rattle.frame_table.proofs.Common.{State, remove, has_number, StoredSlot, common_steps, AreAbove, AreRising, Slot, Slot as TenantSlot, get_or-set_other}
-use Rattle.frame_table.proofs.Common.{length-map, map-append, Slab, get, slab_len, ContainsKey, Updates, cases_eq, false≢true, eq-eqb, ne_eqb, AllAbove, Rises}
+use Rattle.frame_table.proofs.Common.{State, remove, has_number, StoredSlot, common_steps, AreRising, Slot, Slot as TenantSlot, get_or-set_other}
+use Rattle.frame_table.proofs.Common.{length-map, map-append, Slab, get, slab_len, ContainsKey, Updates, cases_eq, false≢true, eq-eqb, ne_eqb, Rises}
 use Rattle.frame_table.proofs.Common.{serials_of, has_slot, with_child, slots_in, AllHere, AreApartKeys, KnowsParent, IsSlotStore, AreKeys, IsKeyAt}
 use Rattle.frame_table.proofs.Common.{IsSeenAt, ChangesSlot}
 use Rattle.frame_table.proofs.Forest.{serial-read, has_slot-found}
+use Rattle.frame_table.proofs.Places.{rising-mapped}
 use Rattle.std.proofs.lemmas.List.Sums.{sum_by-set}
 use Rattle.std.proofs.Math.Seq.{map-set_same}
 use Rattle.std.proofs.lemmas.List.{take-map, drop-map}
@@ -18,19 +18,14 @@ use Rattle.frame_table.proofs.SlotStores.{here-contains, AreLike, all-here-like,
 
 pub has_number-serials_of : {T : Type 0} (xs : List (Slot T)) (n : ℕ) → has_number (serials_of xs) n ≡ has_slot xs n
 has_number-serials_of [] n = refl
-has_number-serials_of (x ∷ xs) n = ap (λ b. eqb x.serial n || b) (has_number-serials_of xs n)
+has_number-serials_of (x ∷ xs) n = grind (arith, has_number-serials_of xs n)
 
 pub serials_of-recounted : {T : Type 0} (which : Option ℕ) (change : ℕ → ℕ) (xs : List (Slot T)) → serials_of (with_slot which (recounted change) xs) ≡ serials_of xs
 serials_of-recounted which change [] = refl
 serials_of-recounted which change (x ∷ xs) = grind (arith, serials_of-recounted which change xs)
 
 pub serials_of-rises : {T : Type 0} (xs : List (Slot T)) → Rises xs → AreRising (λ n. n) (serials_of xs)
-serials_of-rises [] r = tt
-serials_of-rises (x ∷ xs) r = (above x.serial xs r.0, serials_of-rises xs r.1)
-  where
-    above : {T : Type 0} (n : ℕ) (xs : List (Slot T)) → AllAbove n xs → AreAbove (λ n. n) n (serials_of xs)
-    above n [] a = tt
-    above n (x ∷ xs) a = (a.0, above n xs a.1)
+serials_of-rises xs r = rising-mapped (λ n. n) (λ s. s.serial) xs r
 
 -- what a search of the serials has found, of the slots
 pub record IsFoundAt {T : Type 0} (xs : List (Slot T)) (at n : ℕ) : Type 0 where
@@ -40,17 +35,17 @@ pub record IsFoundAt {T : Type 0} (xs : List (Slot T)) (at n : ℕ) : Type 0 whe
 -- the index: what a search of it says of the slots, and what each change leaves of it
 module _ {T : Type 0} (xs : List (Slot T)) (serials : List ℕ) (is : serials ≡ serials_of xs) where
   pub found-at : (at n : ℕ) → at < length serials → slice_index serials at ≡ n → IsFoundAt xs at n
-  found-at at n within found = record { within = omega (arith, within, ap length is, length-map xs (λ s. s.serial)); found = rw is at found }
+  found-at at n within found = grind (arith, length-map)
 
   -- the slot at the place of a serial that is known to be there
   pub seen-by : {at n : ℕ} {slot : Slot T} → at < length serials → slice_index serials at ≡ n → slot ≡ get_or xs at slot → IsSeenAt xs n at slot
-  seen-by {at} {n} within found read = let place = found-at at n within found in record { within = place.within; named = place.found; read = read }
+  seen-by within found read = grind (arith, found-at)
 
   pub none-at : (n : ℕ) → has_number serials n ≡ false → has_slot xs n ≡ false
-  none-at n none = sym (has_number-serials_of xs n) ∙ (rw is at none)
+  none-at n none = grind (arith, has_number-serials_of)
 
   pub there-at : (n : ℕ) → has_slot xs n ≡ true → has_number serials n ≡ true
-  there-at n there = rw is (has_number-serials_of xs n ∙ there)
+  there-at n there = grind (arith, has_number-serials_of)
 
   pub index-rises : Rises xs → AreRising (λ n. n) serials
   index-rises rise = rw is (serials_of-rises xs rise)
@@ -88,10 +83,8 @@ all-among slots [] key apart filled counted some = absurd (let one = filled-coun
 all-among {X} slots (k ∷ keys) key apart filled counted some =
     let here : is_some (get_or slots k None) ≡ true = filled k (rw (eq-eqb k k refl) refl) in
     let rest : List (Option X) = set slots k None in
-    let fewer : count_by is_some rest ≡ length keys =
-    (let e = sum_by-set (λ o. cond (is_some o) 1 0) slots k None None (filled-within slots k here) in
-    let one : cond (is_some (get_or slots k None)) (suc zero) zero ≡ suc zero = rw here refl in
-    omega (arith, e, one, counted)) in
+    let e = sum_by-set (λ o. cond (is_some o) 1 0) slots k None None (filled-within slots k here) in
+    let fewer : count_by is_some rest ≡ length keys = omega (arith, rw here at e, counted) in
     let still : (j : ℕ) → has_number keys j ≡ true → is_some (get_or rest j None) ≡ true =
     λ j has. (let there = filled j in let other = get_or-set_other slots k j None None in grind (arith, there, other)) in
     grind (arith, all-among rest keys key apart.1 still fewer, get_or-set_other slots k key None None)
@@ -104,7 +97,7 @@ stands (k ∷ keys) key has =
       | inl same ↦ (zero, omega arith, sym same)
       | inr differs ↦ (let there : has_number keys key ≡ true = rw (ne_eqb k key differs) at has in
           let rest = stands keys key there in
-          (suc rest.0, (let h = rest.1 in omega (arith, h)), rest.2))
+          (suc rest.0, omega (arith, rest.1), rest.2))
     ]
 
 all-filled : {T : Type 0} (slab : Slab (StoredSlot T)) (before keys : List ℕ) → AllHere slab before keys → (k : ℕ) → has_number keys k ≡ true →
@@ -127,15 +120,20 @@ module _ {T : Type 0} {slab : Slab (StoredSlot T)} {keys : List ℕ} {serial key
 -- the same where the serials were searched
 pub key-searched : {T : Type 0} {slab : Slab (StoredSlot T)} {keys serials : List ℕ} {serial at key : ℕ} → serials ≡ serials_of (slots_in slab keys) →
     at < length keys → key ≡ get_or keys at key → slice_index serials at ≡ serial → IsKeyAt slab keys serial at key
-key-searched is within read found = record { within = within; read = read; named = rw is at found }
+key-searched is within read found = grind arith
 
 module _ {T : Type 0} (slab : Slab (StoredSlot T)) (keys : List ℕ) where
   -- as many serials as keys
   pub index-long : (serials : List ℕ) → serials ≡ serials_of (slots_in slab keys) → AreKeys slab keys → length serials ≡ length keys
-  index-long serials is are = ap length is ∙ (length-map (slots_in slab keys) _ ∙ slots_in-length slab [] keys are.here)
+  index-long serials is are = grind (arith, length-map, slots_in-length)
 
   pub are-keys : (room places : ℕ) → IsSlotStore slab keys room places → AreKeys slab keys
-  are-keys room places s = record { here = s.here; apart = s.apart; counted = s.counted }
+  are-keys room places s = grind arith
+
+-- other slots under the same keys
+pub re-keyed : {T : Type 0} {old new : Slab (StoredSlot T)} {keys : List ℕ} {room places : ℕ} → IsSlotStore old keys room places → AreKeys new keys →
+    new.capacity ≡ old.capacity → IsSlotStore new keys room places
+re-keyed s are capacity = grind arith
 
 -- a slot was written under a key, in the place of this one
 module _ {T : Type 0} {old new : Slab (StoredSlot T)} {key : ℕ} {kept : StoredSlot T} {after : TenantSlot T} (found : get old key ≡ Some kept)
@@ -151,11 +149,11 @@ module _ {T : Type 0} {old new : Slab (StoredSlot T)} {key : ℕ} {kept : Stored
     put-like k x is = grind arith
 
     pub put-keys : (keys : List ℕ) → AreKeys old keys → slab_len new ≡ slab_len old → AreKeys new keys
-    put-keys keys are len = record { here = all-here-like old new [] keys put-like are.here; apart = are.apart; counted = len ∙ are.counted }
+    put-keys keys are len = let here = all-here-like old new [] keys put-like are.here in grind arith
 
     pub put-store : (keys : List ℕ) (room places : ℕ) → IsSlotStore old keys room places → slab_len new ≡ slab_len old → new.capacity ≡ old.capacity →
         IsSlotStore new keys room places
-    put-store keys room places s len capacity = let are = put-keys keys (are-keys old keys room places s) len in grind arith
+    put-store keys room places s len capacity = re-keyed s (put-keys keys (are-keys old keys room places s) len) capacity
 
 -- a parent's key
 pub knows-key : {T : Type 0} (slab : Slab (StoredSlot T)) (keys : List ℕ) (parent : Option ℕ) (name at key : ℕ) → parent ≡ Some name → AreKeys slab keys →

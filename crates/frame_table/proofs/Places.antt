@@ -1,73 +1,73 @@
 -- Places in lists: by a number that rises, in those that pass a test, and in a list that begins at a place of another.
 use Rattle.frame_table.proofs.Common.{eq-eqb}
-use Rattle.std.proofs.Common.{◌≡◌, ◌≢◌, ℕ, zero, suc, ◌<◌, ◌≤◌, Bool, true, false, not, eqb, List, [], ◌∷◌, length, get_or, take, refl, ap, sym, subst, ◌∙◌}
-use Rattle.std.proofs.Common.{arith, nat_lt, ◌+◌, ◌++◌, cond, ◌-◌, drop, append_assoc, append-nil, add-suc}
+use Rattle.std.proofs.Common.{◌≡◌, ◌≢◌, ℕ, zero, suc, ◌<◌, ◌≤◌, Bool, false, not, eqb, List, [], ◌∷◌, length, get_or, take, refl, sym}
+use Rattle.std.proofs.Common.{arith, nat_lt, ◌+◌, ◌++◌, cond, ◌-◌, drop, append_assoc, append-nil, add-suc, map}
 use Rattle.frame_table.proofs.Common.{common_steps, all-at, all-map, AreAbove, AreRising, inserted, has_number, AllFromBy, IsPlaceFor, filter, insert, remove}
-use Rattle.frame_table.proofs.Common.{copy_within, drop-set-add, ne_eqb, ltb-true, ltb-false, lt-ltb}
-use Rattle.std.specs.List.Sorted.{IsNonDecreasingBy, IsPartitionPoint}
+use Rattle.frame_table.proofs.Common.{copy_within, drop-set-add, ne_eqb, lt-ltb}
+use Rattle.std.specs.List.Sorted.{IsNonDecreasingBy}
+use Rattle.std.specs.List.{AllByRecursion}
+use Rattle.std.proofs.lemmas.List.Recursion.{or_from_places}
+use Rattle.numbered_list.specs.Places.{count_below}
+use Rattle.numbered_list.proofs.Places.{count_below-cases}
 use Rattle.std.proofs.lemmas.List.Sums.{length-filter, count_by-le-length}
 use Rattle.std.proofs.lemmas.List.{drop-take, drop-drop, drop_all, drop_at, drop-append-le, length-take-le, length-drop}
+
+-- what holds of each element of a list
+module _ {X : Type 0} (P : X → Type 0) where
+  pub all-mapped : {Y : Type 0} (f : Y → X) (ys : List Y) → AllByRecursion (λ y. P (f y)) ys → AllByRecursion P (map f ys)
+  all-mapped f [] all = all
+  all-mapped f (y ∷ ys) all = (all.0, all-mapped f ys all.1)
+
+  pub all-unmapped : {Y : Type 0} (f : Y → X) (ys : List Y) → AllByRecursion P (map f ys) → AllByRecursion (λ y. P (f y)) ys
+  all-unmapped f [] all = all
+  all-unmapped f (y ∷ ys) all = (all.0, all-unmapped f ys all.1)
+
+  pub all-filter : (keep : X → Bool) (xs : List X) → AllByRecursion P xs → AllByRecursion P (filter keep xs)
+  all-filter keep [] all = all
+  all-filter keep (x ∷ xs) all = grind (arith, all-filter keep xs)
+
+-- a map leaves what rises by the number of what it gives
+pub rising-mapped : {X Y : Type 0} (number : X → ℕ) (f : Y → X) (ys : List Y) → AreRising (λ y. number (f y)) ys → AreRising number (map f ys)
+rising-mapped number f [] rise = tt
+rising-mapped number f (y ∷ ys) rise = (all-mapped (λ x. number (f y) < number x) f ys rise.0, rising-mapped number f ys rise.1)
 
 -- what rises does not fall
 module _ {X : Type 0} (number : X → ℕ) where
   pub rises-by-not-falls : (xs : List X) → AreRising number xs → IsNonDecreasingBy number xs
-  rises-by-not-falls [] rise i j d le lt = absurd (omega arith)
-  rises-by-not-falls (x ∷ xs) rise zero zero d le lt = omega arith
-  rises-by-not-falls (x ∷ xs) rise zero (suc j) d le lt = let h : number x < number (get_or xs j d) = all-at (λ z. number x < number z) xs j d rise.0 (omega arith) in omega (arith, h)
-  rises-by-not-falls (x ∷ xs) rise (suc i) zero d le lt = absurd (omega arith)
   rises-by-not-falls (x ∷ xs) rise (suc i) (suc j) d le lt = rises-by-not-falls xs rise.1 i j d (omega arith) (omega arith)
-
-  -- the place that a search has found
-  pub place-from-point : (xs : List X) (n at : ℕ) → at ≤ length xs →
-      IsPartitionPoint (λ x. nat_lt (number x) n ≡ true) (λ x. nat_lt (number x) n ≡ false) xs at → IsPlaceFor number xs n at
-  place-from-point xs n zero le p = all xs (λ k d lt. p.1 k d (omega arith) lt)
-    where
-      all : (xs : List X) → ((k : ℕ) (d : X) → k < length xs → nat_lt (number (get_or xs k d)) n ≡ false) → AllFromBy number n xs
-      all [] h = tt
-      all (x ∷ xs) h = (ltb-false (number x) n (h 0 x (omega arith)), all xs (λ k d lt. h (suc k) d (omega arith)))
-  place-from-point [] n (suc at) le p = absurd (omega arith)
-  place-from-point (x ∷ xs) n (suc at) le p =
-      (ltb-true (number x) n (p.0 0 x (omega arith) (omega arith)), place-from-point xs n at (omega arith) (λ k d ge lt. p.0 (suc k) d (omega arith) (omega arith), λ k d ge lt. p.1 (suc k) d (omega arith) (omega arith)))
+  rises-by-not-falls (x ∷ xs) rise zero (suc j) d le lt = grind (arith, all-at)
+  rises-by-not-falls xs rise i j d le lt = grind arith
 
   -- what is above a number is not below it
   from-above : (n m : ℕ) (xs : List X) → n ≤ m → AreAbove number m xs → AllFromBy number n xs
   from-above n m [] le above = tt
   from-above n m (x ∷ xs) le above = (omega (arith, le, above.0), from-above n m xs le above.1)
 
-  -- an element stands at the place of its number
-  pub place-of-element : (xs : List X) (n at : ℕ) (x : X) → AreRising number xs → at < length xs → x ≡ get_or xs at x → number x ≡ n → IsPlaceFor number xs n at
-  place-of-element [] n at x rise lt is same = absurd (omega arith)
-  place-of-element (y ∷ ys) n zero x rise lt is same = grind (arith, from-above)
-  place-of-element (y ∷ ys) n (suc at) x rise lt is same = grind (arith, place-of-element ys n at x, all-at)
+  -- the place that a search has found is that of the number
+  count-place : (xs : List X) (n : ℕ) → AreRising number xs → IsPlaceFor number xs n (count_below number n xs)
+  count-place [] n rise = tt
+  count-place (x ∷ xs) n rise =
+      count_below-cases number n x xs (IsPlaceFor number (x ∷ xs) n) (λ below. (below, count-place xs n rise.1)) (λ above. (above, from-above n (number x) xs above rise.0))
 
-  -- the place among none, before all and behind all
-  pub place_in-none : (xs : List X) (n : ℕ) → length xs ≡ 0 → IsPlaceFor number xs n 0
-  place_in-none [] n e = tt
-  place_in-none (x ∷ xs) n e = absurd (omega arith)
+  pub place-by-count : (xs : List X) (n at : ℕ) → AreRising number xs → at ≡ count_below number n xs → IsPlaceFor number xs n at
+  place-by-count xs n at rise is = rw is (count-place xs n rise)
 
-  pub place-before : (xs : List X) (n : ℕ) (x : X) → AreRising number xs → 0 < length xs → x ≡ get_or xs 0 x → n ≤ number x → IsPlaceFor number xs n 0
-  place-before [] n x rise some is le = absurd (omega arith)
-  place-before (y ∷ ys) n x rise some is le = grind (arith, from-above)
+  -- before all where the first is not below, and behind an element that is below
+  pub place-before : (xs : List X) (n : ℕ) (d : X) → AreRising number xs → n ≤ number (get_or xs 0 d) → IsPlaceFor number xs n 0
+  place-before [] n d rise le = tt
+  place-before (x ∷ xs) n d rise le = grind (arith, from-above)
 
-  pub place-behind : (xs : List X) (n at count : ℕ) (x : X) → AreRising number xs → count ≡ length xs → suc at ≡ length xs → x ≡ get_or xs at x → number x < n →
-      IsPlaceFor number xs n count
-  place-behind xs n at count x rise all e is lt = let P : ℕ → Type 0 = λ k. IsPlaceFor number xs n k in subst P (e ∙ sym all) (behind xs at rise e is lt)
-    where
-      behind : (xs : List X) (at : ℕ) → AreRising number xs → suc at ≡ length xs → x ≡ get_or xs at x → number x < n → IsPlaceFor number xs n (suc at)
-      behind [] at rise e is lt = absurd (omega arith)
-      behind (y ∷ []) zero rise e is lt = let here : number x ≡ number y = ap number is in (omega (arith, here), tt)
-      behind (y ∷ z ∷ zs) zero rise e is lt = absurd (omega arith)
-      behind (y ∷ ys) (suc at) rise e is lt =
-          let above : number y < number (get_or ys at x) = all-at (λ z. number y < number z) ys at x rise.0 (omega arith) in
-          let here : number x ≡ number (get_or ys at x) = ap number is in
-          (omega (arith, above, here), behind ys at rise.1 (omega arith) is lt)
+  pub counts-below : (xs : List X) (n at : ℕ) (d : X) → AreRising number xs → at < length xs → number (get_or xs at d) < n → at < count_below number n xs
+  counts-below [] n at d rise lt less = absurd (omega arith)
+  counts-below (x ∷ xs) n zero d rise lt less = grind (arith, lt-ltb)
+  counts-below (x ∷ xs) n (suc at) d rise lt less = grind (arith, counts-below xs n at d, all-at, lt-ltb)
 
   -- an element put at its place
   pub inserted-place : (new : X) (xs : List X) (at : ℕ) → IsPlaceFor number xs (number new) at → insert xs at new ≡ inserted number new xs
   inserted-place new [] zero p = refl
   inserted-place new (x ∷ xs) zero p = grind arith
   inserted-place new [] (suc at) p = absurd p
-  inserted-place new (x ∷ xs) (suc at) p = rw (lt-ltb (number x) (number new) p.0) (ap (λ ys. x ∷ ys) (inserted-place new xs at p.1))
+  inserted-place new (x ∷ xs) (suc at) p = grind (arith, inserted-place new xs at, lt-ltb)
 
   -- those below a number are those before its place
   none-below : (n : ℕ) (xs : List X) → AllFromBy number n xs → filter (λ x. nat_lt (number x) n) xs ≡ []
@@ -78,7 +78,7 @@ module _ {X : Type 0} (number : X → ℕ) where
   filter-below-place [] n zero p = refl
   filter-below-place (x ∷ xs) n zero p = sym (none-below n (x ∷ xs) p)
   filter-below-place [] n (suc at) p = absurd p
-  filter-below-place (x ∷ xs) n (suc at) p = rw (lt-ltb (number x) n p.0) (ap (λ ys. x ∷ ys) (filter-below-place xs n at p.1))
+  filter-below-place (x ∷ xs) n (suc at) p = grind (arith, filter-below-place xs n at, lt-ltb)
 
   pub filter-below-above : (n : ℕ) (xs : List X) → AreAbove number n xs → filter (λ x. nat_lt (number x) n) xs ≡ []
   filter-below-above n xs above = none-below n xs (from-above n n xs (omega arith) above)
@@ -86,16 +86,14 @@ module _ {X : Type 0} (number : X → ℕ) where
   -- nothing is left out where all are above
   pub filter-not-above : (n : ℕ) (xs : List X) → AreAbove number n xs → filter (λ x. not (eqb (number x) n)) xs ≡ xs
   filter-not-above n [] above = refl
-  filter-not-above n (x ∷ xs) above = rw (ne_eqb (number x) n (λ e. omega (arith, above.0, e))) (ap (λ ys. x ∷ ys) (filter-not-above n xs above.1))
+  filter-not-above n (x ∷ xs) above = grind (arith, filter-not-above n xs, ne_eqb)
 
   -- the element that stands at a place goes
   pub remove-rising : (xs : List X) (i : ℕ) (x : X) → AreRising number xs → i < length xs → x ≡ get_or xs i x →
       remove xs i ≡ filter (λ y. not (eqb (number y) (number x))) xs
   remove-rising [] i x rise lt is = absurd (omega arith)
   remove-rising (y ∷ ys) zero x rise lt is = let rest = filter-not-above (number y) ys rise.0 in grind (arith, rest, eq-eqb)
-  remove-rising (y ∷ ys) (suc i) x rise lt is =
-      let above : number y < number (get_or ys i x) = all-at (λ z. number y < number z) ys i x rise.0 (omega arith) in
-      rw (ne_eqb (number y) (number x) (λ e. omega (arith, above, ap number is, e))) (ap (λ zs. y ∷ zs) (remove-rising ys i x rise.1 (omega arith) is))
+  remove-rising (y ∷ ys) (suc i) x rise lt is = grind (arith, remove-rising ys i x, all-at, ne_eqb)
 
   -- nothing is left out where another stands at the place, or nothing
   pub filter-not-absent : (xs : List X) (n at : ℕ) → AreRising number xs → IsPlaceFor number xs n at →
@@ -111,24 +109,15 @@ alike xs i x y h1 h2 h3 = grind (arith, common_steps)
 
 -- what rises does so in part
 module _ {X : Type 0} (number : X → ℕ) (keep : X → Bool) where
-  pub above-by-filter : (n : ℕ) (xs : List X) → AreAbove number n xs → AreAbove number n (filter keep xs)
-  above-by-filter n [] a = tt
-  above-by-filter n (x ∷ xs) a = grind (arith, above-by-filter n xs)
-
   pub rises-by-filter : (xs : List X) → AreRising number xs → AreRising number (filter keep xs)
   rises-by-filter [] r = tt
-  rises-by-filter (x ∷ xs) r = grind (arith, rises-by-filter xs, above-by-filter)
+  rises-by-filter (x ∷ xs) r = grind (arith, rises-by-filter xs, all-filter (λ y. number x < number y) keep xs)
 
 -- a number between those below a place and those from it on is not there
 pub absent-between : (xs : List ℕ) (n i : ℕ) → ((k : ℕ) → k < i → get_or xs k 0 < n) → ((k : ℕ) → i ≤ k → k < length xs → n < get_or xs k 0) →
     has_number xs n ≡ false
-absent-between [] n i below above = refl
-absent-between (x ∷ xs) n zero below above =
-    let first = above 0 (omega arith) (omega arith) in
-    rw (ne_eqb x n (λ e. omega (arith, first, e))) (absent-between xs n zero (λ k lt. absurd (omega (arith, lt))) (λ k ge lt. above (suc k) (omega arith) (omega arith)))
-absent-between (x ∷ xs) n (suc i) below above =
-    let first = below 0 (omega arith) in
-    rw (ne_eqb x n (λ e. omega (arith, first, e))) (absent-between xs n i (λ k lt. below (suc k) (omega arith)) (λ k ge lt. above (suc k) (omega arith) (omega arith)))
+absent-between xs n i below above =
+    or_from_places (λ ks. has_number ks n) (λ k. eqb k n) refl (λ k ks. refl) xs 0 (λ k lt. ne_eqb (get_or xs k 0) n (λ e. grind (arith, below k, above k)))
 
 -- lengths of lists in part and with one more
 module _ {X : Type 0} (p : X → Bool) (xs : List X) where

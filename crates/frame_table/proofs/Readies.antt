@@ -4,9 +4,9 @@ use Rattle.frame_table.proofs.Finds.{few-counts, kept-length}
 use Rattle.frame_table.proofs.Keys.{found-at}
 use Rattle.frame_table.proofs.Common.{Frame, KeepsTree, restated, recounted, with_slot, ◌+◌}
 use Rattle.frame_table.proofs.Finds.{keeps-rises, keeps-view}
-use Rattle.frame_table.proofs.Common.{◌≡◌, ℕ, zero, suc, ◌-◌, ◌<◌, ◌≤◌, nat_lt, List, [], ◌∷◌, ◌++◌, Option, Some, None, length, take, length-inserted, set}
-use Rattle.frame_table.proofs.Common.{slice_index, refl, ap, sym, ◌∙◌, arith, slice_get, filter, remove, lt-ltb, ltb-true, FrameId, State, Ready, Slot}
-use Rattle.frame_table.proofs.Common.{ReadyFrame, is_ready, serials_of, AllAbove, Rises, with_child, AreAbove, AreRising}
+use Rattle.frame_table.proofs.Common.{◌≡◌, ℕ, zero, suc, ◌-◌, ◌<◌, ◌≤◌, nat_lt, List, [], ◌∷◌, ◌++◌, Option, length, take, length-inserted, set}
+use Rattle.frame_table.proofs.Common.{slice_index, refl, arith, slice_get, filter, remove, lt-ltb, ltb-true, State, Ready, Slot}
+use Rattle.frame_table.proofs.Common.{ReadyFrame, frames_from, serials_of, AllAbove, Rises, with_child, AreAbove, AreRising}
 use Rattle.frame_table.proofs.Common.{AreTenantFrames, with_ready, ready_in, without_ready, put_ready, last_ready, IsSeenAt}
 use Rattle.frame_table.specs.Windows.{PlacedList}
 use Rattle.frame_table.proofs.Forest.{above-at, seen-next}
@@ -38,12 +38,9 @@ ready_in-rises [] r = tt
 ready_in-rises (x ∷ xs) r = grind (arith, ready_in-rises xs, ready_in-above)
 
 -- those of more slots
-with_ready-append : (serial : ℕ) (state : State) (xs ys : List ReadyFrame) → with_ready serial state (xs ++ ys) ≡ with_ready serial state xs ++ ys
-with_ready-append serial state xs ys = grind arith
-
 pub ready_in-append : {T : Type 0} (xs ys : List (Slot T)) → ready_in (xs ++ ys) ≡ ready_in xs ++ ready_in ys
 ready_in-append [] ys = refl
-ready_in-append (x ∷ xs) ys = ap (with_ready x.serial x.state) (ready_in-append xs ys) ∙ with_ready-append x.serial x.state (ready_in xs) (ready_in ys)
+ready_in-append (x ∷ xs) ys = grind (arith, ready_in-append xs ys)
 
 -- ready frames rise without one of them too
 pub without_ready-rises : (serial : ℕ) (was : State) (frames : List ReadyFrame) → AreRising (λ frame. frame.serial) frames →
@@ -80,7 +77,7 @@ ready_in-state (x ∷ xs) (suc i) n slot state rise seen =
 pub ready_in-remove : {T : Type 0} (xs : List (Slot T)) (i n : ℕ) (slot : Slot T) → Rises xs → IsSeenAt xs n i slot →
     without_ready n slot.state (ready_in xs) ≡ ready_in (remove xs i)
 ready_in-remove [] i n slot rise seen = absurd (omega (arith, seen.within))
-ready_in-remove (x ∷ xs) zero n slot rise seen = rw (seen.read, ← seen.named) (leave-here x.serial x.state (ready_in xs) (ready_in-above x.serial xs rise.0))
+ready_in-remove (x ∷ xs) zero n slot rise seen = grind (arith, ready_in-above, leave-here)
 ready_in-remove (x ∷ xs) (suc i) n slot rise seen =
     let next = seen-next seen in grind (arith, ready_in-remove xs i n slot rise.1 next, above-at xs x.serial i, leave-other)
 
@@ -100,17 +97,10 @@ added-ready xs parent slot home frames e state = let same = ready_in-recounted p
 
 -- a tenant, from slots that keep a tree, their serials and the ready frames among them
 module _ {T : Type 0} {slots : List (Slot T)} {places : ℕ} {serials : PlacedList ℕ} {ready : PlacedList ReadyFrame} where
-  pub is-tenant : {frames : List (Frame T)} → KeepsTree slots frames → serials.list ≡ serials_of slots → ready.list ≡ ready_in slots → length slots ≤ places →
-      places ≤ 4096 → places ≤ serials.places → places ≤ ready.places → AreTenantFrames slots places serials ready
-  is-tenant k i e within few same_serials same = record {
-    sound = rw (keeps-view k) k;
-    index = i;
-    ready_frames = e;
-    within = within;
-    few = few;
-    serial_places = same_serials;
-    ready_places = same;
-  }
+  pub is-tenant : {news : List (Slot T)} {index : List ℕ} {frames : List ReadyFrame} {tree : List (Frame T)} → AreTenantFrames slots places serials ready →
+      KeepsTree news tree → index ≡ serials_of news → frames ≡ ready_in news → length news ≤ places →
+      AreTenantFrames news places (record serials { list = index }) (record ready { list = frames })
+  is-tenant {news} t k i e within = let sound : KeepsTree news (frames_from [] news) = rw (keeps-view k) k in grind arith
 
   pub tenant-rises : AreTenantFrames slots places serials ready → AreRising (λ frame. frame.serial) ready.list
   tenant-rises t = rw t.ready_frames (ready_in-rises slots (keeps-rises t.sound))

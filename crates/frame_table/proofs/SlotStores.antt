@@ -3,11 +3,12 @@ use Rattle.frame_table.proofs.Common.{Leaves, cond, gone_among, left_under}
 use Rattle.frame_table.proofs.Common.{IsCutAt, stays_under}
 use Rattle.std.proofs.Common.{◌≡◌, ◌≢◌, ℕ, zero, suc, ◌+◌, ◌<◌, ◌≤◌, true, false, ◌||◌, eqb, List, [], ◌∷◌, ◌++◌, Option, Some, None, length, take}
 use Rattle.std.proofs.Common.{get_or, set, refl, ap, sym, ◌∙◌, arith, append_assoc, append-nil, subst, not, length-append}
-use Rattle.frame_table.proofs.Common.{none-some, StoredSlot, has_number, filter_more, Slot as TenantSlot, take_more, map-append}
+use Rattle.frame_table.proofs.Common.{StoredSlot, has_number, filter_more, Slot as TenantSlot, take_more, map-append}
 use Rattle.frame_table.proofs.Common.{Slab, get, slab_len, ContainsKey, Updates, false≢true, eq-eqb, or_right}
 use Rattle.frame_table.specs.SlotStores.{slots_in, AreApartKeys, HasSerial, KnowsParent, IsHere, AllHere, IsSlotStore, StandsUnder, is_taken_by}
 use Rattle.frame_table.specs.SlotStores.{is_taken_in}
 use Rattle.frame_table.proofs.Forest.{stays_in, serial-read, follows-at}
+use Rattle.std.proofs.lemmas.List.Recursion.{or_at}
 
 -- what is here is a slot
 module _ {T : Type 0} (slab : Slab (StoredSlot T)) (before : List ℕ) where
@@ -39,9 +40,8 @@ module _ {T : Type 0} (slab : Slab (StoredSlot T)) (keys : List ℕ) (i key : �
 
 -- a key that stands somewhere is there
 pub has_number-at : (keys : List ℕ) (i d : ℕ) → i < length keys → has_number keys (get_or keys i d) ≡ true
-has_number-at [] i d lt = absurd (omega arith)
-has_number-at (k ∷ keys) zero d lt = rw (eq-eqb k k refl) refl
-has_number-at (k ∷ keys) (suc i) d lt = or_right (eqb k (get_or keys i d)) (has_number keys (get_or keys i d)) (has_number-at keys i d (omega arith))
+has_number-at keys i d lt =
+    or_at (λ ks. has_number ks (get_or keys i d)) (λ k. eqb k (get_or keys i d)) refl (λ k ks. refl) keys i d lt (eq-eqb (get_or keys i d) (get_or keys i d) refl)
 
 pub has_number-append : (keys more : List ℕ) (key : ℕ) → has_number (keys ++ more) key ≡ (has_number keys key || has_number more key)
 has_number-append [] more key = refl
@@ -72,7 +72,7 @@ module _ {T : Type 0} (slab : Slab (StoredSlot T)) where
 
   pub slot-read : (keys : List ℕ) (i key : ℕ) (kept : StoredSlot T) (x : TenantSlot T) → AllHere slab [] keys → i < length keys → key ≡ get_or keys i key →
       get slab key ≡ Some kept → get_or (slots_in slab keys) i x ≡ kept.slot
-  slot-read keys i key kept x h lt is found = slots_in-at [] keys i key kept x h lt (ap (get slab) (sym is) ∙ found)
+  slot-read keys i key kept x h lt is found = grind (arith, slots_in-at [] keys i key)
 
   -- a vacant key is not there
   pub vacant-absent : (before keys : List ℕ) (key : ℕ) → AllHere slab before keys → get slab key ≡ None → has_number keys key ≡ false
@@ -114,8 +114,7 @@ AreLike old new = (k : ℕ) (x : _) → get old k ≡ Some x → IsLike x (get n
 
 serial-like : {T : Type 0} (p : ℕ) (o n : Option (StoredSlot T)) → ((x : StoredSlot T) → o ≡ Some x → IsLike x n) → HasSerial p o → HasSerial p n
 serial-like p None n like h = absurd h
-serial-like p (Some x) None like h = absurd (like x refl)
-serial-like p (Some x) (Some y) like h = (like x refl).0 ∙ h
+serial-like p (Some x) n like h = grind (arith, like x)
 
 -- what is known of a slab's slots is so of another's that are like them
 module _ {T : Type 0} (old new : Slab (StoredSlot T)) where
@@ -125,14 +124,11 @@ module _ {T : Type 0} (old new : Slab (StoredSlot T)) where
   here-like : (keys : List ℕ) (o n : Option (StoredSlot T)) → AreLike old new → ((x : StoredSlot T) → o ≡ Some x → IsLike x n) → IsHere old keys o →
       IsHere new keys n
   here-like keys None n all like h = absurd h
-  here-like keys (Some x) None all like h = absurd (like x refl)
-  here-like keys (Some x) (Some y) all like h =
-      let a = like x refl in
-      rw (a.1, a.2) (knows-like keys x.slot.parent x.above all h)
+  here-like keys (Some x) n all like h = grind (arith, knows-like, like x)
 
   pub all-here-like : (before keys : List ℕ) → AreLike old new → AllHere old before keys → AllHere new before keys
   all-here-like before [] like h = tt
-  all-here-like before (k ∷ keys) like h = (here-like before (get old k) (get new k) like (like k) h.0, all-here-like (before ++ k ∷ []) keys like h.1)
+  all-here-like before (k ∷ keys) like h = (here-like before _ _ like (like k) h.0, all-here-like (before ++ k ∷ []) keys like h.1)
 
   -- the same slots
   pub slots_in-same : (keys : List ℕ) → ((k : ℕ) → has_number keys k ≡ true → get new k ≡ get old k) → slots_in new keys ≡ slots_in old keys
@@ -147,14 +143,15 @@ module _ {T : Type 0} (old new : Slab (StoredSlot T)) where
       let rest = slots_in-same keys (λ j has. u.others j (λ e. false≢true (sym a.0 ∙ (ap (has_number keys) (sym e) ∙ has)))) in
       grind (arith, rest, here-found)
   slots_in-put before (k ∷ keys) (suc i) d after h a lt u =
-      let other : k ≢ get_or keys i d = λ e. false≢true (sym a.0 ∙ (ap (has_number keys) e ∙ has_number-at keys i d (omega arith))) in
-      grind (arith, other, slots_in-put (before ++ k ∷ []) keys i d after, here-found)
+      let there = has_number-at keys i d (omega arith) in
+      let other = u.others k in
+      grind (arith, there, other, slots_in-put (before ++ k ∷ []) keys i d after, here-found)
 
 -- a slot store on which a slot was pushed
 module _ {T : Type 0} {old new : Slab (StoredSlot T)} {key : ℕ} {slot : TenantSlot T} {above : Option ℕ} (keys : List ℕ) (vacant : get old key ≡ None)
     (u : Updates old new key (Some (record { slot = slot; above = above }))) where
   pushed-like : AreLike old new
-  pushed-like k x is = rw (u.others k (λ e. none-some x (sym vacant ∙ (ap (get old) (sym e) ∙ is))) ∙ is) (refl, refl, refl)
+  pushed-like k x is = let others = u.others k in grind (arith, others)
 
   pub push-store : (room places : ℕ) → IsSlotStore old keys room places → length keys < places → KnowsParent old keys slot.parent above →
       slab_len new ≡ slab_len old + 1 → new.capacity ≡ old.capacity → IsSlotStore new (keys ++ key ∷ []) room places
@@ -176,6 +173,10 @@ module _ {T : Type 0} (old new : Slab (StoredSlot T)) (same : new ≡ record old
       places' ≤ room' → IsSlotStore new keys room' places'
   roomy-store keys room room' places places' s more wide long = grind (arith, roomy-here)
 
+  -- with no more places
+  pub roomy-same : (keys : List ℕ) {room more places : ℕ} → IsSlotStore old keys room places → room ≤ more → old.capacity ≤ new.capacity → IsSlotStore new keys more places
+  roomy-same keys s wide long = grind (arith, roomy-here)
+
   pub roomy-len : slab_len new ≡ slab_len old
   roomy-len = ap (λ (k : Slab (StoredSlot T)). slab_len k) same
 
@@ -185,10 +186,8 @@ module _ {T : Type 0} (old new : Slab (StoredSlot T)) (same : new ≡ record old
 taken-by : {T : Type 0} (under : ℕ) (slots : List (TenantSlot T)) (before : List ℕ) (old now : Slab (StoredSlot T)) (serial : ℕ) (parent above : Option ℕ) →
     stays_in under slots serial ≡ stays_under (stays_in under slots) under parent → Leaves under slots before old now → KnowsParent old before parent above →
     is_taken_by now under parent above ≡ not (stays_in under slots serial)
-taken-by under slots before old now serial None None f l k = rw f refl
-taken-by under slots before old now serial None (Some above) f l k = absurd k
-taken-by under slots before old now serial (Some p) None f l k = absurd k
 taken-by under slots before old now serial (Some p) (Some above) f l k = let left = l.left above in grind (arith, left, f, k)
+taken-by under slots before old now serial parent above f l k = grind arith
 
 -- after the first keys: the slots of those that the abort takes are gone, and their values were written down
 pub record HasLeft {T : Type 0} (under : ℕ) (old now : Slab (StoredSlot T)) (order : List ℕ) (had values : List T) (at : ℕ) : Type 0 where
@@ -207,9 +206,7 @@ module _ {T : Type 0} {under : ℕ} {old now : Slab (StoredSlot T)} {order : Lis
 
   -- the slot is as it was
   pub as-before : get now key ≡ Some read-slot.0
-  as-before =
-      let absent : has_number (take at order) key ≡ false = ap (has_number (take at order)) is ∙ apart-before order at key apart lt in
-      h.left.left key ∙ (rw (read-slot.1, absent) refl)
+  as-before = let left = h.left.left key in grind (arith, left, read-slot, apart-before)
 
   slot-at : read-slot.0.slot ≡ get_or (slots_in old order) at read-slot.0.slot
   slot-at = sym (slot-read old order at key read-slot.0 read-slot.0.slot here lt is read-slot.1)
@@ -222,7 +219,7 @@ module _ {T : Type 0} {under : ℕ} {old now : Slab (StoredSlot T)} {order : Lis
   takes = grind (arith, read-slot, here-read, follows-at, within, slot-at, as-before, taken-by)
 
   has-more : (k : ℕ) → has_number (take (at + 1) order) k ≡ (has_number (take at order) k || (eqb key k || false))
-  has-more k = ap (λ ks. has_number ks k) (take_more order at key lt ∙ ap (λ j. take at order ++ j ∷ []) (sym is)) ∙ has_number-append (take at order) (key ∷ []) k
+  has-more k = let more = take_more order at key lt in grind (arith, more, is, has_number-append)
 
   left-more : (new : Slab (StoredSlot T)) → get new key ≡ left_under under (slots_in old order) (key ∷ []) key (get old key) → ((k : ℕ) → k ≢ key → get new k ≡ get now k) →
       Leaves under (slots_in old order) (take (at + 1) order) old new
@@ -236,15 +233,7 @@ module _ {T : Type 0} {under : ℕ} {old now : Slab (StoredSlot T)} {order : Lis
 
   -- a slot that stays
   pub left-stays : is_taken_in now under (get now key) ≡ false → HasLeft under old now order had values (at + 1)
-  left-stays not_taken =
-      let stays = sym takes ∙ not_taken in
-      record {
-        left = left-more now (as-before ∙ (rw (read-slot.1, eq-eqb key key refl, stays) refl)) (λ k differs. refl);
-        written = sym (append-nil values) ∙ written-more [] (rw stays refl);
-        counted = h.counted;
-        room = omega (arith, h.room);
-        capacity = h.capacity;
-      }
+  left-stays not_taken = grind (arith, takes, read-slot, as-before, left-more now, eq-eqb, written-more [], append-nil)
 
   -- a slot that goes
   pub left-goes : {new : Slab (StoredSlot T)} {gone : StoredSlot T} → is_taken_in now under (get now key) ≡ true → get now key ≡ Some gone → Updates now new key None →

@@ -1,9 +1,9 @@
 -- What each change leaves of a tree: an abort, a leaf removed, a frame added, other states and values.
-use Rattle.frame_table.proofs.Common.{◌≡◌, ◌≢◌, ℕ, ◌<◌, inl, inr, Bool, true, false, not, eqb, List, [], ◌∷◌, ◌++◌, Some, None, refl, ap, sym, ◌∙◌, arith}
-use Rattle.frame_table.proofs.Common.{append_assoc, filter, false≢true, true≢false, eq-eqb, eqb-true, or_parts, not_from_true, not_from_false, not-true, Frame}
+use Rattle.frame_table.proofs.Common.{◌≡◌, ◌≢◌, ℕ, ◌<◌, inl, inr, Bool, true, false, not, List, [], ◌∷◌, ◌++◌, Some, None, refl, sym, ◌∙◌, arith}
+use Rattle.frame_table.proofs.Common.{append_assoc, filter, true≢false, eq-eqb, eqb-true, not_from_true, not_from_false, Frame}
 use Rattle.frame_table.proofs.Common.{frame_at, AllBelow, goes_under, children_of, aborted, frames_without, IsNextFrame, IsTree, IsTreeAfter, is_child_of}
 use Rattle.frame_table.proofs.Common.{AllAboveSerial, AreSerialsRising, Each, if_kept}
-use Rattle.frame_table.proofs.Places.{above-by-filter, rises-by-filter}
+use Rattle.frame_table.proofs.Places.{all-filter, rises-by-filter}
 use Rattle.frame_table.proofs.TreeLaws.{found-there, found-serial, found-path, missing, frame_at-left, frame_at-right, tree-rising, above-missing, each-found}
 use Rattle.frame_table.proofs.TreeLaws.{found-each, IsUnder, IsPlaced, placed, under-through, not-under-itself, children-by-paths}
 
@@ -40,17 +40,16 @@ module _ {T : Type 0} (keep : Frame T → Bool) where
   rising-filter xs rising = rises-by-filter (λ frame. frame.serial) keep xs rising
 
   pub AllBelow-filter : (s : ℕ) (xs : List (Frame T)) → AllBelow s xs → AllBelow s (filter keep xs)
-  AllBelow-filter s [] below = tt
-  AllBelow-filter s (x ∷ xs) below = grind (arith, AllBelow-filter s xs)
+  AllBelow-filter s xs below = all-filter (λ x. x.serial < s) keep xs below
 
   pub frame_at-filter : (xs : List (Frame T)) (s : ℕ) → AreSerialsRising xs → frame_at (filter keep xs) s ≡ if_kept keep (frame_at xs s)
   frame_at-filter [] s rising = refl
-  frame_at-filter (x ∷ xs) s rising = grind (arith, frame_at-filter xs s, missing, above-missing, above-by-filter)
+  frame_at-filter (x ∷ xs) s rising = grind (arith, frame_at-filter xs s, missing, above-missing, all-filter (λ y. x.serial < y.serial) keep xs)
 
   -- a frame that stays is found as before, and what is found was there and stays
   pub frame_at-stays : (xs : List (Frame T)) (s : ℕ) (f : Frame T) → AreSerialsRising xs → frame_at xs s ≡ Some f → keep f ≡ true →
       frame_at (filter keep xs) s ≡ Some f
-  frame_at-stays xs s f rising at is = frame_at-filter xs s rising ∙ ap (λ o. if_kept keep o) at ∙ (rw is refl)
+  frame_at-stays xs s f rising at is = grind (arith, frame_at-filter)
 
   pub filter-found : (xs : List (Frame T)) (s : ℕ) (f : Frame T) → AreSerialsRising xs → frame_at (filter keep xs) s ≡ Some f →
       (frame_at xs s ≡ Some f) × (keep f ≡ true)
@@ -71,9 +70,7 @@ tree-filter keep xs t closed = grind (arith, tree-rising, rising-filter, tree-af
 module _ {T : Type 0} (p : ℕ) (xs : List (Frame T)) where
   pub tree-aborted : IsTree xs → IsTree (aborted p xs)
   tree-aborted t =
-      tree-filter (λ x. not (goes_under p x.path)) xs t (λ s f at stays u.
-      let through = sym (under-through xs f p t u) ∙ not-true (goes_under p f.path) stays in
-      not_from_false (goes_under p u.above.path) (or_parts (eqb u.parent p) (goes_under p u.above.path) through).1)
+      tree-filter (λ x. not (goes_under p x.path)) xs t (λ s f at stays u. let through = under-through xs f p t u in grind (arith, through, stays))
 
   pub frame_at-aborted : (s : ℕ) → IsTree xs → frame_at (aborted p xs) s ≡ if_kept (λ x. not (goes_under p x.path)) (frame_at xs s)
   frame_at-aborted s t = frame_at-filter (λ x. not (goes_under p x.path)) xs s (tree-rising xs t)
@@ -86,15 +83,15 @@ module _ {T : Type 0} (xs : List (Frame T)) (p : ℕ) where
   pub child-under-parent : (s : ℕ) (x : Frame T) → IsTree xs → frame_at xs s ≡ Some x → is_child_of p x.path ≡ true → goes_under p x.path ≡ true
   child-under-parent s x t at child =
       elim (placed xs s x t at) [
-        | inl top ↦ absurd (false≢true (rw top.0 at child))
-        | inr u ↦ (let same : eqb u.parent p ≡ true = rw u.named at child in under-through xs x p t u ∙ (rw same refl))
+        | inl top ↦ grind arith
+        | inr u ↦ (let through = under-through xs x p t u in grind (arith, through, u.named))
       ]
 
   pub child-further-under : (q s : ℕ) (f x : Frame T) → IsTree xs → frame_at xs q ≡ Some f → goes_under p f.path ≡ true → frame_at xs s ≡ Some x →
       is_child_of q x.path ≡ true → goes_under p x.path ≡ true
   child-further-under q s f x t at_q goes at child =
       elim (placed xs s x t at) [
-        | inl top ↦ absurd (false≢true (rw top.0 at child))
+        | inl top ↦ grind arith
         | inr u ↦ (let through = under-through xs x p t u in grind (arith, through, u.named, u.there, eqb-true))
       ]
 

@@ -1,11 +1,11 @@
 -- A tree, frame by frame: each frame stands under its parent, and what follows for look-ups, paths and children.
-use Rattle.frame_table.proofs.Common.{subst}
+use Rattle.frame_table.proofs.Common.{append-nil}
 use Rattle.frame_table.proofs.Common.{◌≡◌, ◌≢◌, ℕ, zero, suc, ◌<◌, ◌≤◌, ◌⊎◌, inl, inr, Bool, true, false, ◌||◌, eqb, List, [], ◌∷◌, ◌++◌, Option, Some, None}
 use Rattle.frame_table.proofs.Common.{refl, ap, sym, ◌∙◌, arith, append_assoc, filter, cases_Bool, cases_eq, false≢true, true≢false, eq-eqb, ne_eqb, eqb-true}
 use Rattle.frame_table.proofs.Common.{or_cases, Frame, frame_at, has_frame, has_parent, path_in, AllBelow, parent_of, path_under, goes_under, is_one_more}
-use Rattle.frame_table.proofs.Common.{children_of, IsNextFrame, IsTree, IsTreeAfter, is_that, is_child_of, AllAboveSerial, AreSerialsRising, Each, and_parts}
-use Rattle.frame_table.proofs.Forest.{AllBelow-left, AllBelow-right, has_frame-above, EndsIn, EndsIn-append, goes_under-append}
-use Rattle.std.proofs.lemmas.Bool.{and_right}
+use Rattle.frame_table.proofs.Common.{children_of, IsNextFrame, IsTree, IsTreeAfter, is_child_of, AllAboveSerial, AreSerialsRising, Each}
+use Rattle.numbered_list.proofs.Edits.{rising-push}
+use Rattle.frame_table.proofs.Forest.{has_frame-above, EndsIn, EndsIn-append, goes_under-append}
 
 -- a frame that is found, or is not there
 module _ {T : Type 0} where
@@ -31,7 +31,7 @@ module _ {T : Type 0} where
   found-serial (x ∷ xs) serial frame at = grind (arith, found-serial xs serial frame)
 
   pub found-own : (frames : List (Frame T)) (serial : ℕ) (frame : Frame T) → frame_at frames serial ≡ Some frame → frame_at frames frame.serial ≡ Some frame
-  found-own frames serial frame at = subst (λ (s : ℕ). frame_at frames s ≡ Some frame) (sym (found-serial frames serial frame at)) at
+  found-own frames serial frame at = grind (arith, found-serial)
 
   pub frame_at-left : (xs ys : List (Frame T)) (serial : ℕ) → has_frame xs serial ≡ true → frame_at (xs ++ ys) serial ≡ frame_at xs serial
   frame_at-left [] ys serial there = absurd (false≢true there)
@@ -47,7 +47,7 @@ module _ {T : Type 0} where
   frame_at-other-push (x ∷ xs) y serial other = grind (arith, frame_at-other-push xs y serial other)
 
   pub frame_at-push : (xs : List (Frame T)) (y : Frame T) → AllBelow y.serial xs → frame_at (xs ++ y ∷ []) y.serial ≡ Some y
-  frame_at-push xs y below = frame_at-right xs (y ∷ []) y.serial (has_frame-above xs y.serial below) ∙ (rw (eq-eqb y.serial y.serial refl) refl)
+  frame_at-push xs y below = grind (arith, frame_at-right, has_frame-above, eq-eqb)
 
   -- a serial below a bound on all
   pub below-found : (xs : List (Frame T)) (bound serial : ℕ) → AllBelow bound xs → has_frame xs serial ≡ true → serial < bound
@@ -55,19 +55,12 @@ module _ {T : Type 0} where
   below-found (x ∷ xs) bound serial below there = grind (arith, below-found xs bound serial)
 
   -- the frames of a tree rise
-  above-linked : (before frames : List (Frame T)) (serial : ℕ) → ((bound : ℕ) → AllBelow bound before → serial < bound) → IsTreeAfter before frames →
-      AllAboveSerial serial frames
-  above-linked before [] serial low t = tt
-  above-linked before (x ∷ xs) serial low t =
-      (low x.serial t.0.above, above-linked (before ++ x ∷ []) xs serial (λ bound below. low bound (AllBelow-left bound before _ below)) t.1)
-
-  rising-after : (before frames : List (Frame T)) → IsTreeAfter before frames → AreSerialsRising frames
-  rising-after before [] t = tt
-  rising-after before (x ∷ xs) t =
-      (above-linked (before ++ x ∷ []) xs x.serial (λ bound below. (AllBelow-right bound before (x ∷ []) below).0) t.1, rising-after (before ++ x ∷ []) xs t.1)
+  rising-with : (before frames : List (Frame T)) → AreSerialsRising before → IsTreeAfter before frames → AreSerialsRising (before ++ frames)
+  rising-with before [] rise t = rw append-nil rise
+  rising-with before (x ∷ xs) rise t = rw append_assoc at (rising-with (before ++ x ∷ []) xs (rising-push (λ f. f.serial) x before t.0.above rise) t.1)
 
   pub tree-rising : (frames : List (Frame T)) → IsTree frames → AreSerialsRising frames
-  tree-rising frames t = rising-after [] frames t
+  tree-rising frames t = rising-with [] frames tt t
 
   -- what rises above a serial hasn't got it
   pub above-missing : (xs : List (Frame T)) (low serial : ℕ) → serial ≤ low → AllAboveSerial low xs → has_frame xs serial ≡ false
@@ -85,8 +78,7 @@ module _ {T : Type 0} (P : Frame T → Type 0) where
   found-each [] rising all = tt
   found-each (x ∷ xs) rising all = (
     all x.serial x (rw (eq-eqb x.serial x.serial refl) refl),
-    found-each xs rising.1 (λ serial frame at. all serial frame
-        (rw (ne_eqb x.serial serial (λ e. true≢false (sym (found-there xs serial frame at) ∙ above-missing xs x.serial serial (omega (arith, e)) rising.0))) at)),
+    found-each xs rising.1 (λ serial frame at. all serial frame (let there = found-there xs serial frame at in grind (arith, there, at, eqb-true, above-missing))),
   )
 
 -- the last serial of a path is one alone
@@ -104,8 +96,8 @@ one_more-is : (above path : List ℕ) (serial : ℕ) → is_one_more above (path
 one_more-is [] [] serial e = refl
 one_more-is [] (y ∷ []) serial e = absurd (false≢true e)
 one_more-is [] (y ∷ z ∷ path) serial e = absurd (false≢true e)
-one_more-is (x ∷ []) [] serial e = absurd (false≢true (and_parts (eqb x serial) false e).1)
-one_more-is (x ∷ y ∷ above) [] serial e = absurd (false≢true (and_parts (eqb x serial) false e).1)
+one_more-is (x ∷ []) [] serial e = grind arith
+one_more-is (x ∷ y ∷ above) [] serial e = grind arith
 one_more-is (x ∷ above) (y ∷ path) serial e = grind (arith, one_more-is above path serial)
 
 -- a frame in its place among others: a root, whose path is its serial alone, or one step further than its parent, which is there and has a lower serial
@@ -149,12 +141,9 @@ module _ {T : Type 0} (frames : List (Frame T)) where
   pub placed : (serial : ℕ) (frame : Frame T) → IsTree frames → frame_at frames serial ≡ Some frame → IsPlaced frames frame
   placed serial frame t at = each-found (IsPlaced frames) frames serial frame (placed-after [] frames t) at
 
-  pub placed-ends : (frame : Frame T) → IsPlaced frames frame → EndsIn frame.path frame.serial
-  placed-ends frame h3 = grind (arith, EndsIn-append)
-
   pub found-ends : (serial : ℕ) (frame : Frame T) → IsTree frames → frame_at frames serial ≡ Some frame → EndsIn frame.path serial
   found-ends serial frame t at =
-      rw (found-serial frames serial frame at) at (placed-ends frame (placed serial frame t at))
+      let place = placed serial frame t at in let own = found-serial frames serial frame at in grind (arith, place, own, EndsIn-append)
 
 -- a fact that each frame of a tree has where its parent has it
 module _ {T : Type 0} (P : Frame T → Type 0) (frames : List (Frame T)) (t : IsTree frames) (top : ((frame : Frame T) → IsTop frame → P frame))
@@ -184,7 +173,7 @@ module _ {T : Type 0} (frames : List (Frame T)) (serial : ℕ) (frame : Frame T)
   pub goes-through : GoesThrough frames frame
   goes-through =
       tree-induction (GoesThrough frames) frames t
-      (λ frame top p goes. absurd (false≢true (rw top.1 at goes)))
+      (λ frame top p goes. grind arith)
       (λ frame u above p goes. elim (or_cases (eqb u.parent p) (goes_under p u.above.path) (sym (under-through frames frame p t u) ∙ goes)) [
         | inl same ↦ grind (arith, eqb-true, found-there)
         | inr through ↦ grind (arith, found-serial)
@@ -198,20 +187,16 @@ module _ {T : Type 0} (frames : List (Frame T)) (serial : ℕ) (frame : Frame T)
 -- the children of a frame are those whose path has its serial as the last but one
 child-top : {T : Type 0} (above : List ℕ) (s : ℕ) (x : Frame T) → EndsIn above s → IsTop x → is_one_more above x.path ≡ is_child_of s x.path
 child-top [] s x ends top = absurd ends
-child-top (a ∷ []) s x ends top = rw (top.0, top.1) (and_right (eqb a x.serial) false refl)
-child-top (a ∷ b ∷ above) s x ends top = rw (top.0, top.1) (and_right (eqb a x.serial) false refl)
+child-top (a ∷ []) s x ends top = grind arith
+child-top (a ∷ b ∷ above) s x ends top = grind arith
 
 child-under : {T : Type 0} (frames : List (Frame T)) (s : ℕ) (f x : Frame T) → IsTree frames → frame_at frames s ≡ Some f → (u : IsUnder frames x) →
     is_one_more f.path x.path ≡ is_child_of s x.path
 child-under {T} frames s f x t at u =
     elim (cases_eq u.parent s) [
       | inl same ↦ grind (arith, one_more-same, eq-eqb)
-      | inr other ↦ elim (cases_Bool (is_one_more f.path x.path)) [
-        | inl one ↦ (let e = one_more-is f.path u.above.path x.serial (rw u.path at one) in
-            let ends : EndsIn u.above.path s = rw e at (found-ends frames s f t at) in
-            absurd (other (EndsIn-unique u.above.path u.parent s (found-ends frames u.parent u.above t u.there) ends)))
-        | inr none ↦ none ∙ sym (ap (is_that s) u.named ∙ ne_eqb u.parent s other)
-      ]
+      | inr other ↦ (let is = one_more-is f.path u.above.path x.serial in let ends = found-ends frames s f t at in let own = found-ends frames u.parent u.above t u.there in
+          grind (arith, is, ends, own, u.path, u.named, EndsIn-unique, ne_eqb))
     ]
 
 -- filters by tests that agree on each frame, and by one that none passes
@@ -222,11 +207,11 @@ module _ {T : Type 0} (p : Frame T → Bool) where
 
   pub filter-none : (frames : List (Frame T)) → Each (λ x. p x ≡ false) frames → filter p frames ≡ []
   filter-none [] each = refl
-  filter-none (x ∷ xs) each = rw each.0 (filter-none xs each.1)
+  filter-none (x ∷ xs) each = grind (arith, filter-none xs)
 
   pub filter-every : (frames : List (Frame T)) → Each (λ x. p x ≡ true) frames → filter p frames ≡ frames
   filter-every [] each = refl
-  filter-every (x ∷ xs) each = rw each.0 (ap (λ ys. x ∷ ys) (filter-every xs each.1))
+  filter-every (x ∷ xs) each = grind (arith, filter-every xs)
 
 -- the children of a frame are those whose paths say so
 module _ {T : Type 0} (frames : List (Frame T)) (s : ℕ) where
@@ -255,7 +240,7 @@ module _ {T : Type 0} (frames : List (Frame T)) (s p : ℕ) (frame : Frame T) (t
   under-path = grind (arith, named-under, found-path, found-serial)
 
   pub under-there : has_frame frames p ≡ true
-  under-there = let u = named-under in rw (← u.1) (found-there frames u.0.parent u.0.above u.0.there)
+  under-there = grind (arith, named-under, found-there)
 
   pub under-below : p < s
   under-below = grind (arith, named-under, found-serial)

@@ -1,13 +1,16 @@
 -- A tree with one frame more, with another state in a frame, and with other values: what is found, the children, and that it is a tree.
 use Rattle.frame_table.proofs.TreeLaws.{found-own}
 use Rattle.frame_table.proofs.Common.{State, filter, filter-append, is_child_of, map_value, map_values, AreAlike, ◌≡◌, ◌≢◌, ℕ, Bool, true, not, List, [], ◌∷◌}
-use Rattle.frame_table.proofs.Common.{◌++◌, Option, Some, None, refl, ap, sym, ◌∙◌, arith, append_assoc, append-nil, map, Frame, frame_at, has_frame, has_parent}
-use Rattle.frame_table.proofs.Common.{path_in, AllBelow, parent_of, path_under, goes_under, is_one_more, children_of, frames_under, aborted, frames_without}
+use Rattle.frame_table.proofs.Common.{◌++◌, Option, Some, None, refl, sym, ◌∙◌, arith, append_assoc, append-nil, map, Frame, frame_at, has_frame, has_parent}
+use Rattle.frame_table.proofs.Common.{path_in, AllBelow, parent_of, path_under, goes_under, children_of, frames_under, aborted, frames_without}
 use Rattle.frame_table.proofs.Common.{with_state, values_of, IsNextFrame, IsTree, IsTreeAfter, new_frame}
 use Rattle.std.specs.Prelude.{option_map}
-use Rattle.frame_table.specs.Frames.{root_of, children_under}
+use Rattle.std.proofs.lemmas.Simd.{map-map}
+use Rattle.frame_table.proofs.Common.{eqb, map-append}
+use Rattle.frame_table.proofs.Finds.{filter-map}
+use Rattle.frame_table.specs.Frames.{root_of}
 use Rattle.frame_table.proofs.Forest.{parent_of-append, root_of-append}
-use Rattle.frame_table.proofs.TreeLaws.{there-found, found-serial, found-path, IsUnder, found-ends, children-by-paths, frame_at-push, frame_at-other-push}
+use Rattle.frame_table.proofs.TreeLaws.{there-found, found-path, found-ends, children-by-paths, frame_at-push, frame_at-other-push}
 use Rattle.frame_table.proofs.TreeLaws.{tree-induction}
 
 -- one frame more
@@ -47,13 +50,9 @@ pub root-there : {T : Type 0} (xs : List (Frame T)) (s : ℕ) (f : Frame T) → 
     path_in xs (root_of f.path) ≡ root_of f.path ∷ []
 root-there {T} xs s f t is =
     let P : Frame T → Type 0 = λ x. frame_at xs x.serial ≡ Some x → path_in xs (root_of x.path) ≡ root_of x.path ∷ [] in
-    tree-induction P xs t (λ x top own. rw top.1 (found-path xs x.serial x own ∙ top.1)) (λ x u above own. under x u above) s f is (found-own xs s f is)
-  where
-    under : (x : Frame T) (u : IsUnder xs x) → (frame_at xs u.above.serial ≡ Some u.above → path_in xs (root_of u.above.path) ≡ root_of u.above.path ∷ []) →
-        path_in xs (root_of x.path) ≡ root_of x.path ∷ []
-    under x u above =
-        let same : root_of x.path ≡ root_of u.above.path = ap root_of u.path ∙ root_of-append u.above.path x.serial u.parent (found-ends xs u.parent u.above t u.there) in
-        rw same (above (found-own xs u.parent u.above u.there))
+    tree-induction P xs t (λ x top own. rw top.1 (found-path xs x.serial x own ∙ top.1))
+    (λ x u above own. let top = above (found-own xs u.parent u.above u.there) in rw (u.path, root_of-append u.above.path x.serial u.parent (found-ends xs u.parent u.above t u.there)) top)
+    s f is (found-own xs s f is)
 
 -- a frame that is no root is under the root of its path
 pub under-root : (path : List ℕ) (p : ℕ) → parent_of path ≡ Some p → goes_under (root_of path) path ≡ true
@@ -62,25 +61,21 @@ under-root path p h3 = grind arith
 -- frames of the same serials and paths
 module _ {T U : Type 0} where
   has_frame-alike : (xs : List (Frame T)) (ys : List (Frame U)) (s : ℕ) → AreAlike xs ys → has_frame ys s ≡ has_frame xs s
-  has_frame-alike [] ys s alike = grind arith
-  has_frame-alike (x ∷ xs) [] s alike = absurd alike
-  has_frame-alike (x ∷ xs) (y ∷ ys) s alike = rw (alike.0, has_frame-alike xs ys s alike.2) refl
+  has_frame-alike (x ∷ xs) (y ∷ ys) s alike = grind (arith, has_frame-alike xs ys s)
+  has_frame-alike xs ys s alike = grind arith
 
   pub path_in-alike : (xs : List (Frame T)) (ys : List (Frame U)) (s : ℕ) → AreAlike xs ys → path_in ys s ≡ path_in xs s
-  path_in-alike [] ys s alike = grind arith
-  path_in-alike (x ∷ xs) [] s alike = absurd alike
-  path_in-alike (x ∷ xs) (y ∷ ys) s alike = rw (alike.0, alike.1, path_in-alike xs ys s alike.2) refl
+  path_in-alike (x ∷ xs) (y ∷ ys) s alike = grind (arith, path_in-alike xs ys s)
+  path_in-alike xs ys s alike = grind arith
 
   pub AllBelow-alike : (xs : List (Frame T)) (ys : List (Frame U)) (bound : ℕ) → AreAlike xs ys → AllBelow bound xs → AllBelow bound ys
-  AllBelow-alike [] ys bound alike below = grind arith
-  AllBelow-alike (x ∷ xs) [] bound alike below = absurd alike
-  AllBelow-alike (x ∷ xs) (y ∷ ys) bound alike below = (rw alike.0 below.0, AllBelow-alike xs ys bound alike.2 below.1)
+  AllBelow-alike (x ∷ xs) (y ∷ ys) bound alike below = grind (arith, AllBelow-alike xs ys bound)
+  AllBelow-alike xs ys bound alike below = grind arith
 
   alike-append : (xs : List (Frame T)) (ys : List (Frame U)) (x : Frame T) (y : Frame U) → AreAlike xs ys → y.serial ≡ x.serial → y.path ≡ x.path →
       AreAlike (xs ++ x ∷ []) (ys ++ y ∷ [])
-  alike-append [] ys x y alike s p = grind arith
-  alike-append (z ∷ xs) [] x y alike s p = absurd alike
-  alike-append (z ∷ xs) (w ∷ ys) x y alike s p = (alike.0, alike.1, alike-append xs ys x y alike.2 s p)
+  alike-append (z ∷ xs) (w ∷ ys) x y alike s p = grind (arith, alike-append xs ys x y)
+  alike-append xs ys x y alike s p = grind arith
 
   path_under-alike : (xs : List (Frame T)) (ys : List (Frame U)) (parent : Option ℕ) (s : ℕ) → AreAlike xs ys → path_under ys parent s ≡ path_under xs parent s
   path_under-alike xs ys parent s h5 = grind (arith, path_in-alike)
@@ -125,8 +120,7 @@ module _ {T : Type 0} (n : ℕ) (state : State) where
   values_of-with_state (x ∷ xs) = grind (arith, values_of-with_state xs)
 
   pub children_of-with_state : (xs : List (Frame T)) (s : ℕ) → IsTree xs → children_of (with_state n state xs) s ≡ with_state n state (children_of xs s)
-  children_of-with_state xs s t =
-      children-by-paths (with_state n state xs) s (tree-with_state xs t) ∙ paths-with_state (is_child_of s) xs ∙ sym (ap (with_state n state) (children-by-paths xs s t))
+  children_of-with_state xs s t = grind (arith, children-by-paths, tree-with_state, paths-with_state (is_child_of s))
 
 -- other values: everything is as before, with the values changed
 module _ {T U : Type 0} (change : T → U) where
@@ -155,31 +149,21 @@ module _ {T U : Type 0} (change : T → U) where
   frame_at-map_values (x ∷ xs) s = grind (arith, frame_at-map_values xs s)
 
 pub append-map_values : {T U : Type 0} (change : T → U) (xs ys : List (Frame T)) → map_values change (xs ++ ys) ≡ map_values change xs ++ map_values change ys
-append-map_values change [] ys = refl
-append-map_values {T} {U} change (x ∷ xs) ys = ap (λ (zs : List (Frame U)). map_value change x ∷ zs) (append-map_values change xs ys)
+append-map_values change xs ys = map-append (map_value change) xs ys
 
 -- a change of all values, before or after a change of the tree, comes to the same
 module _ {T U : Type 0} (change : T → U) where
-  paths-map_values : (p : List ℕ → Bool) (xs : List (Frame T)) → filter (λ x. p x.path) (map_values change xs) ≡ map_values change (filter (λ x. p x.path) xs)
-  paths-map_values p [] = refl
-  paths-map_values p (x ∷ xs) = grind (arith, paths-map_values p xs)
-
   pub aborted-map_values : (s : ℕ) (xs : List (Frame T)) → aborted s (map_values change xs) ≡ map_values change (aborted s xs)
-  aborted-map_values s xs = paths-map_values (λ path. not (goes_under s path)) xs
+  aborted-map_values s xs = filter-map (λ x. not (goes_under s x.path)) (map_value change) xs
 
   pub frames_under-map_values : (s : ℕ) (xs : List (Frame T)) → frames_under s (map_values change xs) ≡ map_values change (frames_under s xs)
-  frames_under-map_values s xs = paths-map_values (λ path. goes_under s path) xs
+  frames_under-map_values s xs = filter-map (λ x. goes_under s x.path) (map_value change) xs
 
   pub frames_without-map_values : (s : ℕ) (xs : List (Frame T)) → frames_without s (map_values change xs) ≡ map_values change (frames_without s xs)
-  frames_without-map_values s [] = refl
-  frames_without-map_values s (x ∷ xs) = grind (arith, frames_without-map_values s xs)
+  frames_without-map_values s xs = filter-map (λ x. not (eqb x.serial s)) (map_value change) xs
 
   pub children_of-map_values : (xs : List (Frame T)) (s : ℕ) → children_of (map_values change xs) s ≡ map_values change (children_of xs s)
-  children_of-map_values xs s = ap (λ o. children_under o (map_values change xs)) (frame_at-map_values change xs s) ∙ by (frame_at xs s)
-    where
-      by : (o : Option (Frame T)) → children_under (option_map (map_value change) o) (map_values change xs) ≡ map_values change (children_under o xs)
-      by None = refl
-      by (Some f) = paths-map_values (is_one_more f.path) xs
+  children_of-map_values xs s = let found = frame_at-map_values change xs s in grind (arith, found, filter-map)
 
   pub with_state-map_values : (n : ℕ) (state : State) (xs : List (Frame T)) →
       with_state n state (map_values change xs) ≡ map_values change (with_state n state xs)
@@ -191,8 +175,7 @@ module _ {T U : Type 0} (change : T → U) where
   new_frame-map_values xs serial parent home value = grind (arith, path_under-alike, map_values-alike)
 
 pub values_of-map_values : {T U : Type 0} (change : T → U) (xs : List (Frame T)) → values_of (map_values change xs) ≡ map change (values_of xs)
-values_of-map_values change [] = refl
-values_of-map_values {T} {U} change (x ∷ xs) = ap (λ (vs : List U). change x.value ∷ vs) (values_of-map_values change xs)
+values_of-map_values change xs = map-map (λ x. x.value) (map_value change) xs ∙ sym (map-map change (λ x. x.value) xs)
 
 -- what a frame more, another state and other values leave
 pub ruleset root_laws = (root-there, under-root)

@@ -1,38 +1,38 @@
 -- The names that the proofs take of the library, of the crates below and of this crate's definitions, from one place.
-pub use Rattle.std.proofs.Common.{Bool, Err, List, None, Ok, Option, Result, Some, [], ap, append-nil, append_assoc, arith, eqb, false, inl, inr, leb, length}
+pub use Rattle.std.proofs.Common.{Bool, Err, List, None, Ok, Option, Result, Some, [], ap, append-nil, append_assoc, arith, eqb, false, inl, inr, length}
 pub use Rattle.std.proofs.Common.{length-append, ltb, not, refl, replicate, subst, suc, sym, true, ℕ, ◌&&◌, ◌*◌, ◌++◌, ◌+◌, ◌-◌, ◌<◌, ◌||◌, ◌↔◌, ◌∙◌, ◌∷◌, ◌≡◌}
 pub use Rattle.std.proofs.Common.{◌≢◌, ◌≤◌, ◌⊎◌}
-pub use Rattle.std.proofs.lemmas.Bool.{and_from, and_parts, cases_Bool, cases_eq, eq-eqb, eqb-false, eqb-true, false≢true, le-ltb, leb-false, leb-true}
-pub use Rattle.std.proofs.lemmas.Bool.{ltb-false, ne_eqb, not-false, not-true, not_from_false, or_cases, or_left, or_parts, or_right}
+pub use Rattle.std.proofs.lemmas.Bool.{and_parts, cases_Bool, cases_eq, eq-eqb, eqb-false, eqb-true, false≢true, le-ltb, leb-false, leb-true}
+pub use Rattle.std.proofs.lemmas.Bool.{ltb-false, ne_eqb, not-false, not-true, not_from_false, or_cases, or_parts}
 pub use Rattle.std.proofs.lemmas.List.{length-replicate, length-set, map-append, reverse-append}
 pub use Rattle.std.proofs.lemmas.List.Elements.{filter-append}
 pub use Rattle.std.proofs.lemmas.List.Sums.{sum_by-append, sum_by-cons}
 pub use Rattle.std.specs.List.{filter}
 pub use Rattle.std.specs.Prelude.{if◌then◌else◌, is_ok, ◌==◌}
-pub use Rattle.frame_table.proofs.Forest.{AllBelow-append, EndsIn, has_frame-above, path_in-left, path_in-right}
-pub use Rattle.frame_table.proofs.TreeChanges.{AllBelow-filter, aborted-itself, aborted-leaf, filter-found, frame_at-filter, frame_at-stays, frame_at-without}
+pub use Rattle.frame_table.proofs.Forest.{EndsIn, has_frame-above, path_in-left, path_in-right}
+pub use Rattle.frame_table.proofs.TreeChanges.{aborted-itself, aborted-leaf, filter-found, frame_at-filter, frame_at-stays, frame_at-without}
 pub use Rattle.frame_table.proofs.TreeChanges.{frame_at-other-without, rising-filter, tree-aborted, tree-without, tree-without_job}
 pub use Rattle.frame_table.proofs.TreeLaws.{IsTop, IsUnder, above-missing, below-found, children-by-paths, each-found, found-each, found-ends, found-path}
 pub use Rattle.frame_table.proofs.TreeLaws.{found-serial, found-there, frame_at-left, frame_at-push, frame_at-other-push, missing, named-under, placed}
-pub use Rattle.frame_table.proofs.TreeLaws.{there-found, top-path, tree-rising, under-below, under-there, under-through}
-pub use Rattle.frame_table.proofs.TreeValues.{AllBelow-alike, children_of-push, children_of-with_state, frame_at-with_state, frame_at-other-with_state}
+pub use Rattle.frame_table.proofs.TreeLaws.{there-found, top-path, tree-rising, under-below, under-there}
+pub use Rattle.frame_table.proofs.TreeValues.{AllBelow-alike, children_of-push, children_of-with_state, frame_at-other-with_state}
 pub use Rattle.frame_table.proofs.TreeValues.{new-frame-next, parent_of-path_under, path_in-alike, root-there, tree-alike, tree-new_frame, tree-push}
 pub use Rattle.frame_table.proofs.TreeValues.{tree-with_state, values_of-with_state, with_state-alike}
-pub use Rattle.frame_table.specs.Frames.{AllBelow, Frame, IsNextFrame, IsReadyAt, IsTree, aborted, children_of, children_under, first_of_two, frame_at}
-pub use Rattle.frame_table.specs.Frames.{frames_without, goes_under, has_frame, is_ready, new_frame, newest_ready_of, parent_of, path_in, ready_name, root_of}
+pub use Rattle.frame_table.specs.Frames.{AllBelow, Frame, IsNextFrame, IsTree, aborted, children_of, frame_at}
+pub use Rattle.frame_table.specs.Frames.{frames_without, goes_under, has_frame, is_ready, new_frame, newest_ready_of, parent_of, path_in, root_of}
 pub use Rattle.frame_table.specs.Frames.{values_of, with_state}
-pub use Rattle.frame_table.specs.TreeLaws.{AllAboveSerial, AreAlike, AreSerialsRising, Each, if_kept, is_child_of, is_that}
+pub use Rattle.frame_table.specs.TreeLaws.{AreAlike, AreSerialsRising, Each, is_child_of, is_that}
 pub use Rattle.frame_table.specs.declared.names.FrameId.{FrameId}
 pub use Rattle.frame_table.specs.declared.names.State.{State}
 pub use Rattle.frame_table.specs.declared.names.State.TheVariants.{Computing, Ready, Returned, Running}
-pub use Rattle.sched_rules.proofs.Isolation.{above, found, more-there, shared-after-taken, step-taken, step_result-step, there}
+pub use Rattle.sched_rules.proofs.Isolation.{above, found, more-there, shared-after-taken, step-taken, there}
 pub use Rattle.sched_rules.proofs.Tenants.{known-number, tenant_in-with_outcome, tenant_in-other-with_outcome}
 pub use Rattle.sched_rules.specs.Cores.{CoreState, accounts_in, admit_tests, charged_in, is_beyond, is_full, meets_busy, newest_after, reservations_in}
-pub use Rattle.sched_rules.specs.Cores.{reserved_by, shared_after, shared_by_nobody, shared_with, step_among, step_result, tenant_in, unless_beyond}
+pub use Rattle.sched_rules.specs.Cores.{reserved_by, shared_after, shared_by_nobody, shared_with, step_result, tenant_in, unless_beyond}
 pub use Rattle.sched_rules.specs.Cores.{unless_busy, with_outcome, with_tenant, without_tenant}
 pub use Rattle.sched_rules.specs.Functions.{Functions}
 pub use Rattle.sched_rules.specs.Headline.{AreAnswersTo, AreNumbersGiven, IsAnswerTo, after_answer, after_answers, is_admission, taken_steps}
-pub use Rattle.sched_rules.specs.Laws.{AcceptKeeps, ActFits, AllFit, Computes, EachFits, EveryFrameFits, Fitting, HasReturned, InletKeeps, Mark, Neither}
+pub use Rattle.sched_rules.specs.Laws.{AcceptKeeps, AllFit, Computes, EachFits, EveryFrameFits, Fitting, HasReturned, InletKeeps, Mark, Neither}
 pub use Rattle.sched_rules.specs.Laws.{NewChildFits, NextKeeps, ParentFits, Rooting, children_after, children_left, grown, has_one, mark_after, mark_of_state}
 pub use Rattle.sched_rules.specs.Lone.{IsSpendable, Outcome, act_by_sight, act_tests, advance_tests, advanced, answer_tests, answered, applies, at_frame}
 pub use Rattle.sched_rules.specs.Lone.{counted, does_wait, ended, finish_tests, finished, holding, in_state, inlet_tests, inlet_under, is_bad_act, is_bad_inlet}
@@ -52,13 +52,13 @@ pub use Rattle.sched_rules.specs.declared.act.InletAct.{InletAct}
 pub use Rattle.sched_rules.specs.declared.job.Job.{Job}
 pub use Rattle.sched_rules.specs.declared.job.Job.TheVariants.{Cancelled, Done, Live, Spent}
 pub use Rattle.sched_rules.specs.declared.refusal.Refusal.{Refusal}
-pub use Rattle.sched_rules.specs.declared.refusal.Refusal.TheVariants.{BadAct, Busy, Lower, NoNodes, NoSegments, NoSteps, NoTenant, NotReturned, NotRunning}
+pub use Rattle.sched_rules.specs.declared.refusal.Refusal.TheVariants.{BadAct, Busy, Lower, NoSteps, NoTenant, NotReturned, NotRunning}
 pub use Rattle.sched_rules.specs.declared.refusal.Refusal.TheVariants.{NotSpent, OldTenant}
 pub use Rattle.sched_rules.specs.declared.step.DidOf.{DidOf}
-pub use Rattle.sched_rules.specs.declared.step.DidOf.TheVariants.{Admitted, Left, Submitted}
+pub use Rattle.sched_rules.specs.declared.step.DidOf.TheVariants.{Admitted, Submitted}
 pub use Rattle.sched_rules.specs.declared.step.StepOf.{StepOf}
 pub use Rattle.sched_rules.specs.declared.step.StepOf.TheVariants.{Admit, AdmitMore, Advance, Answer, Cancel, Finish, Inlet, Leave, Spend, Steal, Submit, Take}
-pub use Rattle.tenant_quota.specs.Accounts.{IsWithinReserve, reserved_nodes, reserved_segments}
+pub use Rattle.tenant_quota.specs.Accounts.{IsWithinReserve}
 pub use Rattle.tenant_quota.specs.Quota.{IsWithinLimits, Quota}
 pub use Rattle.tenant_quota.specs.declared.account.Account.{Account}
 pub use Rattle.sched_laws.specs.Ended.{HasEnded, KeepsEnded}

@@ -1,6 +1,7 @@
 -- What the shape of a tenant gives.
-use Rattle.sched_laws.proofs.Common.{◌≡◌, ℕ, suc, ◌+◌, ◌-◌, ◌≤◌, inl, inr, true, List, [], ◌∷◌, Some, length, ap, ◌∙◌, arith, Bool, false, eqb, Option, None, Result, Ok, Err, ◌++◌, cases_Bool, ne_eqb, sum_by-cons, charge, IsWithinLimits, Quota, IsWithinReserve, Computing, Returned, frame_at, path_in, root_of, children_of, root-there, Job, Live, Cancelled as CancelledJob, Tree, Tenant, account_in, charged_for, is_root, job_at, is_live_at, number_from, job_under, with_ended, mark_of_state, IsShaped, live_count, AreRootsLive, AreLiveRootsThere, HaveWords, AreShaped, Refusal, NoTenant, DidOf, StepOf, Admit, AdmitMore, Functions, Outcome, lone, lone_step, tenant_of, CoreState, tenant_in, with_tenant, without_tenant, with_outcome, meets_busy, unless_busy, unless_beyond, is_beyond, reserved_by, reservations_in, step_among, step_result, shared_after, after_answer, after_answers, HasEnded, KeepsEnded}
-use Rattle.sched_laws.proofs.Shaped.{returned-childless, LeftShaped, unless-passed, step-shaped, admitted-shaped, came, by-kinds}
+use Rattle.sched_laws.proofs.Common.{◌≡◌, ℕ, suc, ◌+◌, ◌-◌, ◌≤◌, inl, inr, true, List, [], ◌∷◌, Some, length, ap, ◌∙◌, arith, Bool, false, Option, None, Result, Ok, ◌++◌, cases_Bool, ne_eqb, sum_by-cons, charge, IsWithinLimits, Quota, IsWithinReserve, Computing, Returned, frame_at, path_in, root_of, children_of, root-there, Job, Live, Cancelled as CancelledJob, Tree, Tenant, account_in, charged_for, is_root, job_at, is_live_at, number_from, job_under, with_ended, mark_of_state, IsShaped, live_count, AreLiveRootsThere, HaveWords, AreShaped, Refusal, DidOf, Admitted, StepOf, Admit, AdmitMore, admit_tests, admitted_with, lone_step, there, more-there, refl, ◌≢◌, Functions, Outcome, lone, lone_step, tenant_of, CoreState, tenant_in, with_tenant, without_tenant, with_outcome, meets_busy, unless_busy, unless_beyond, is_beyond, reserved_by, reservations_in, step_result, shared_after, after_answer, after_answers, HasEnded, KeepsEnded}
+use Rattle.sched_laws.proofs.Parts.{shape-at}
+use Rattle.sched_laws.proofs.Shaped.{AllPass, returned-childless, LeftShaped, unless-passed, step-shaped, admitted-shaped, came, by-kinds}
 use Rattle.sched_laws.proofs.Holds.{F}
 
 -- a frame that has returned or computes has no child
@@ -24,40 +25,26 @@ live-root tenant number root shape is = job-there tenant.frames tenant.jobs numb
 is-live : (root : ℕ) (job : Job) → is_live_at root job ≡ true → job ≡ Live root
 is-live root job h3 = grind arith
 
-number-above : (first root : ℕ) (jobs : List Job) → 1 ≤ live_count root jobs → first ≤ number_from first root jobs
-number-above first root [] some = absurd (omega (arith, some))
-number-above first root (job ∷ jobs) some = grind (arith, number-above (first + 1) root jobs)
-
-number-shift : (first root : ℕ) (jobs : List Job) → 1 ≤ live_count root jobs → number_from (first + 1) root jobs ≡ number_from first root jobs + 1
-number-shift first root [] some = absurd (omega (arith, some))
-number-shift first root (job ∷ jobs) some = grind (arith, number-shift (first + 1) root jobs)
-
-job-found : (root : ℕ) (jobs : List Job) → 1 ≤ live_count root jobs → job_at jobs (number_from 1 root jobs) ≡ Some (Live root)
-job-found root [] some = absurd (omega (arith, some))
-job-found root (job ∷ jobs) some = elim (cases_Bool (is_live_at root job)) [
-  | inl is ↦ rw is (ap Some (is-live root job is))
-  | inr not_so ↦ rw not_so (later (rw not_so at some) (job-found root jobs (rw not_so at some)))
+job-from : (first root : ℕ) (jobs : List Job) → 1 ≤ live_count root jobs →
+    (first ≤ number_from first root jobs) × (job_at jobs (number_from first root jobs + 1 - first) ≡ Some (Live root))
+job-from first root [] some = absurd (omega (arith, some))
+job-from first root (job ∷ jobs) some = elim (cases_Bool (is_live_at root job)) [
+  | inl is ↦ (let one : first + 1 - first ≡ 1 = omega arith in rw is (omega arith, (rw one (ap Some (is-live root job is)))))
+  | inr other ↦ (
+      let rest = job-from (first + 1) root jobs (rw other at some) in
+      let n = number_from (first + 1) root jobs in
+      let low : first + 1 ≤ n = rest.0 in
+      let later : n + 1 - first - 1 ≡ n + 1 - (first + 1) = omega arith in
+      rw other (omega arith, (rw (ne_eqb (n + 1 - first) 1 (λ e. omega (arith, e, low))) (ap (job_at jobs) later ∙ rest.1))))
 ]
-  where
-    minus : (n : ℕ) → n + 1 - 1 ≡ n
-    minus n = omega arith
-
-    later : 1 ≤ live_count root jobs → job_at jobs (number_from 1 root jobs) ≡ Some (Live root) →
-        job_at (job ∷ jobs) (number_from (1 + 1) root jobs) ≡ Some (Live root)
-    later rest found =
-        let above = number-above 1 root jobs rest in
-        let n = number_from 1 root jobs in
-        ap (job_at (job ∷ jobs)) (number-shift 1 root jobs rest) ∙ (rw (ne_eqb (n + 1) 1 (λ e. omega (arith, e, above))) (ap (job_at jobs) (minus n) ∙ found))
-
-pub root-counted : (jobs : List Job) (xs : Tree) (s : ℕ) (f : F) → AreRootsLive jobs xs → frame_at xs s ≡ Some f → is_root f.path ≡ true →
-    live_count s jobs ≡ 1
-root-counted jobs [] s f roots at root = absurd cc
-root-counted jobs (x ∷ xs) s f roots at root = grind (arith, root-counted jobs xs s f)
 
 -- the job of a root frame lives
 module _ (tenant : Tenant) (s : ℕ) (f : F) (shape : IsShaped tenant) (at : frame_at tenant.frames s ≡ Some f) where
   pub root-live : is_root f.path ≡ true → job_at tenant.jobs (job_under s tenant.jobs) ≡ Some (Live s)
-  root-live root = (let one = root-counted tenant.jobs tenant.frames s f shape.roots at root in job-found s tenant.jobs (omega (arith, one)))
+  root-live root =
+      let one = (shape-at shape s f at).root root in
+      let same : job_under s tenant.jobs + 1 - 1 ≡ job_under s tenant.jobs = omega arith in
+      rw same at (job-from 1 s tenant.jobs (omega (arith, one))).1
 
   -- the root above any frame
   pub root-above : path_in tenant.frames (root_of f.path) ≡ root_of f.path ∷ []
@@ -81,7 +68,7 @@ frames-charged (x ∷ xs) words =
     more a b c d p q r = omega arith
 
 pub few-frames : (tenant : Tenant) → IsShaped tenant → length tenant.frames ≤ tenant.reserve.segments
-few-frames tenant shape = (let some = frames-charged tenant.frames shape.words in let within = shape.charged in omega (arith, some, within))
+few-frames tenant shape = grind (arith, frames-charged)
 
 -- all that the shape gives
 pub ruleset given_by_shape = (returned-leaf, computing-leaf, live-root, root-live, root-above, within-reserve, few-frames)
@@ -107,14 +94,11 @@ outcome-shaped : (n : ℕ) (t : Option Tenant) (es : Entries) → LeftShaped t �
 outcome-shaped n t es s all = grind (arith, without-shaped, with-shaped)
 
 -- a tenant that has the core to itself
-refused : {I : Type 0} (refusal : Refusal) (outcome : Outcome I) → ◌≡◌ {A = Result (Outcome I) Refusal} (Err refusal) (Ok outcome) → LeftShaped outcome.0
-refused refusal outcome e = absurd cc
-
 pub lone-shaped : {I A : Type 0} (functions : Functions I A) (own : Option Tenant) (step : StepOf A) (outcome : Outcome I) →
     lone functions own step ≡ Ok outcome → LeftShaped own → LeftShaped outcome.0
 lone-shaped functions (Some tenant) step outcome is s = step-shaped functions tenant step outcome is s
 lone-shaped {I} functions None (Admit number quota) outcome is s = grind (arith, came, admitted-shaped)
-lone-shaped functions None _ outcome is s = refused NoTenant outcome is
+lone-shaped functions None _ outcome is s = grind arith
 
 -- a step among several tenants
 module _ {I : Type 0} (alone : Result (Outcome I) Refusal) (outcome : Outcome I) where
@@ -125,29 +109,47 @@ module _ {I : Type 0} (alone : Result (Outcome I) Refusal) (outcome : Outcome I)
   pub not-beyond : (beyond : Bool) → unless_beyond beyond alone ≡ Ok outcome → (beyond ≡ false) × (alone ≡ Ok outcome)
   not-beyond beyond is = grind arith
 
--- what was taken of an admission of more
-pub more-taken : {I A : Type 0} (functions : Functions I A) (before : CoreState) (number : ℕ) (quota : Quota) (outcome : Outcome I) →
-    step_result {A = A} functions before (AdmitMore number quota) ≡ Ok outcome →
-    (is_beyond (reservations_in before) (reserved_by (tenant_in before.tenants number)) quota ≡ false)
-    × (lone {A = A} functions (tenant_in before.tenants number) (AdmitMore number quota) ≡ Ok outcome)
-more-taken {A = A} functions before number quota outcome is =
-    let own = tenant_in before.tenants number in
-    not-beyond (lone {A = A} functions own (AdmitMore number quota)) outcome (is_beyond (reservations_in before) (reserved_by own) quota) is
+-- where an admission of more is taken, the totals allow it
+abbrev IsAllowed : {A : Type 0} → CoreState → StepOf A → Tenant → Type 0
+IsAllowed before step tenant = (number : ℕ) (quota : Quota) → step ≡ AdmitMore number quota → is_beyond (reservations_in before) tenant.reserve quota ≡ false
 
-pub own-shaped : (n : ℕ) (es : Entries) → AreShaped es → LeftShaped (tenant_in es n)
-own-shaped n es all = grind (arith, shaped-in)
+-- P holds of what a step among several tenants leaves: of a new tenant, and of what one that is there comes to alone
+pub record HoldsOfTaken {I A : Type 0} (functions : Functions I A) (before : CoreState) (step : StepOf A) (P : Option Tenant → Type 0) : Type 0 where
+  pub at_admit : (number : ℕ) (quota : Quota) → step ≡ Admit number quota → AllPass (admit_tests before number quota) → P (Some (admitted_with quota))
+  pub at_step : (tenant : Tenant) (outcome : Outcome I) → tenant_in before.tenants (tenant_of step) ≡ Some tenant →
+      lone_step functions tenant step ≡ Ok outcome → IsAllowed before step tenant → P outcome.0
 
--- a step that is taken leaves its tenant shaped
-module _ {I A : Type 0} (functions : Functions I A) (before : CoreState) (outcome : Outcome I) (all : AreShaped before.tenants) where
-  among-shaped : (step : StepOf A) → step_among functions before step ≡ Ok outcome → LeftShaped outcome.0
-  among-shaped step is =
-      lone-shaped functions (tenant_in before.tenants (tenant_of step)) step outcome
-      (not-busy _ outcome (meets_busy step before.tenants) is) (own-shaped (tenant_of step) before.tenants all)
+-- so it holds of what a taken step leaves
+module _ {I A : Type 0} (functions : Functions I A) (before : CoreState) where
+  among : (step : StepOf A) (outcome : Outcome I) (P : Option Tenant → Type 0) (own : Option Tenant) → tenant_in before.tenants (tenant_of step) ≡ own →
+      own ≢ None → lone functions own step ≡ Ok outcome → ((tenant : Tenant) → own ≡ Some tenant → IsAllowed before step tenant) →
+      HoldsOfTaken functions before step P → P outcome.0
+  among step outcome P None at is_there is allowed each = absurd (is_there refl)
+  among step outcome P (Some tenant) at is_there is allowed each = each.at_step tenant outcome at is (allowed tenant refl)
 
-  pub step_result-shaped : (step : StepOf A) → step_result functions before step ≡ Ok outcome → LeftShaped outcome.0
-  step_result-shaped (Admit number quota) is = grind (arith, unless-passed, came, admitted-shaped)
-  step_result-shaped (AdmitMore number quota) is = grind (arith, lone-shaped, more-taken, own-shaped)
-  step_result-shaped step is = among-shaped step is
+  allowed-more : (own : Option Tenant) (number : ℕ) (quota : Quota) → is_beyond (reservations_in before) (reserved_by own) quota ≡ false →
+      (tenant : Tenant) → own ≡ Some tenant → IsAllowed {A = A} before (AdmitMore number quota) tenant
+  allowed-more own number quota enough tenant at n q same = grind arith
+
+  pub by-taken : (step : StepOf A) (outcome : Outcome I) (P : Option Tenant → Type 0) → step_result functions before step ≡ Ok outcome →
+      HoldsOfTaken functions before step P → P outcome.0
+  by-taken (Admit number quota) outcome P is each =
+      let p = unless-passed (admit_tests before number quota) (Some (admitted_with quota), Admitted) outcome is in
+      came P (Some (admitted_with quota), Admitted) outcome p.1 (each.at_admit number quota refl p.0)
+  by-taken (AdmitMore number quota) outcome P is each =
+      let own = tenant_in before.tenants number in
+      let taken = not-beyond (lone {A = A} functions own (AdmitMore number quota)) outcome (is_beyond (reservations_in before) (reserved_by own) quota) is in
+      among (AdmitMore number quota) outcome P own refl (more-there {A = A} functions own number quota outcome taken.1) taken.1
+      (allowed-more own number quota taken.0) each
+  by-taken step outcome P is each =
+      let alone = not-busy (lone functions (tenant_in before.tenants (tenant_of step)) step) outcome (meets_busy step before.tenants) is in
+      among step outcome P _ refl (there functions _ step outcome refl alone) alone (λ tenant at n q same. absurd cc) each
+
+  step_result-shaped : (step : StepOf A) (outcome : Outcome I) → AreShaped before.tenants → step_result functions before step ≡ Ok outcome → LeftShaped outcome.0
+  step_result-shaped step outcome all is = by-taken step outcome LeftShaped is (record {
+    at_admit = λ number quota admits passed. admitted-shaped quota;
+    at_step = λ tenant o at taken allowed. step-shaped functions tenant step o taken (shaped-in (tenant_of step) before.tenants tenant all at);
+  })
 
 -- all tenants stay shaped, whatever a step is answered, and over a list of answers
 module _ {I A : Type 0} (functions : Functions I A) where
@@ -179,10 +181,7 @@ module _ (root : ℕ) (job : Job) (has : HasEnded job) where
 
   at-ended : (end : Job) (jobs : List Job) (number : ℕ) → job_at jobs number ≡ Some job → job_at (with_ended root end jobs) number ≡ Some job
   at-ended end [] number at = absurd cc
-  at-ended end (x ∷ xs) number at = elim (cases_Bool (eqb number 1)) [
-    | inl first ↦ grind (arith, not-live)
-    | inr later ↦ rw later (at-ended end xs (number - 1) (rw later at at))
-  ]
+  at-ended end (x ∷ xs) number at = grind (arith, at-ended end xs, cases_Bool, not-live)
 
 pub step-ended : {I A : Type 0} (functions : Functions I A) (tenant : Tenant) (step : StepOf A) (outcome : Outcome I) →
     lone_step functions tenant step ≡ Ok outcome → KeepsEnded tenant.jobs outcome.0

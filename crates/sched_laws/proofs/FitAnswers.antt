@@ -1,32 +1,20 @@
 -- Every answer leaves a core fitting, and so does every list of them; lists of steps in parts, and how many jobs there are.
-use Rattle.sched_laws.proofs.Common.{◌≡◌, ◌≢◌, ℕ, ◌<◌, ◌≤◌, inl, inr, true, false, eqb, List, [], ◌∷◌, ◌++◌, Option, Some, None, Result, Ok, Err, refl, ap, sym, ◌∙◌, arith, append_assoc, append-nil, suc, ◌+◌, length, is_ok, ◌==◌, cases_Bool, cases_eq, eq-eqb, ne_eqb, Quota, root_of, Refusal, Continuation, StepOf, Admit, AdmitMore, Submit, DidOf, Admitted, Submitted, Functions, Tenant, admitted_with, Tree, Fitting, Rooting, ParentFits, NewChildFits, Outcome, lone, lone_step, tenant_of, only, state_after, alone_from, answers_from, CoreState, shared_by_nobody, tenant_in, with_outcome, meets_busy, step_result, newest_after, shared_with, is_admission, IsAnswerTo, AreAnswersTo, after_answer, after_answers, taken_steps, AreNumbersGiven, tenant_in-with_outcome, tenant_in-other-with_outcome, known-number, step-taken, there, more-there, above, step_result-step, shared-after-taken, found, IsShaped, AreShaped, TenantFits, CoreFits, submits, origins_of, RootFits, RootsFit, origins_after, StaysFitting, JobsFit, filter-append, Job, Spent as SpentJob, Cancelled as CancelledJob}
-use Rattle.sched_laws.proofs.Shaped.{unless-passed, came, by-effects}
-use Rattle.sched_laws.proofs.Consequences.{root-above, live-root, shaped-in, not-busy, more-taken, shaped_answer}
+use Rattle.sched_laws.proofs.Common.{◌≡◌, ◌≢◌, ℕ, ◌<◌, ◌≤◌, inl, inr, true, List, [], ◌∷◌, ◌++◌, Option, Some, Result, Ok, Err, refl, ap, sym, ◌∙◌, arith, append_assoc, append-nil, suc, ◌+◌, length, is_ok, ◌==◌, cases_Bool, cases_eq, eq-eqb, ne_eqb, Quota, Refusal, Continuation, StepOf, Admit, Submit, DidOf, Submitted, Functions, Tenant, admitted_with, Tree, Fitting, Rooting, ParentFits, NewChildFits, Outcome, lone, lone_step, tenant_of, only, state_after, alone_from, answers_from, CoreState, shared_by_nobody, tenant_in, with_outcome, step_result, newest_after, shared_with, IsAnswerTo, AreAnswersTo, after_answer, after_answers, taken_steps, AreNumbersGiven, tenant_in-with_outcome, tenant_in-other-with_outcome, known-number, step-taken, above, shared-after-taken, found, IsShaped, AreShaped, TenantFits, CoreFits, submits, origins_of, RootFits, RootsFit, origins_after, StaysFitting, JobsFit, filter-append, Job}
+use Rattle.sched_laws.proofs.Shaped.{unless-passed, came}
+use Rattle.sched_laws.proofs.Consequences.{shaped-in, by-taken, shaped_answer}
 use Rattle.sched_laws.proofs.Holds.{Lists}
 use Rattle.sched_laws.proofs.Fits.{IsLawful, LeftFits}
-use Rattle.sched_laws.proofs.FitSteps.{ended-fits, submit-fits, taken-fits, advanced-fits, answered-fits, inlet-fits, finished-fits}
-
--- the number of an admission that was taken is above all
-module _ {I A : Type 0} (functions : Functions I A) (before : CoreState) (outcome : Outcome I) where
-  admitted-above : (number : ℕ) (quota : Quota) → step_result {A = A} functions before (Admit number quota) ≡ Ok outcome →
-      (before.newest < number) × ((Some (admitted_with quota), Admitted) ≡ outcome)
-  admitted-above number quota is = grind (arith, unless-passed, above)
-
-  -- a taken step that is no admission is taken alone
-  pub taken-alone : (step : StepOf A) → is_admission step ≡ false → step_result functions before step ≡ Ok outcome →
-      lone functions (tenant_in before.tenants (tenant_of step)) step ≡ Ok outcome
-  taken-alone step no_admission is = not-busy _ outcome (meets_busy step before.tenants) (sym (step_result-step functions before step no_admission) ∙ is)
-
-  -- so is an admission of more, of a tenant that is there
-  pub taken-more-there : (number : ℕ) (quota : Quota) → step_result {A = A} functions before (AdmitMore number quota) ≡ Ok outcome →
-      tenant_in before.tenants number ≢ None
-  taken-more-there number quota is = more-there {A = A} functions _ number quota outcome (more-taken {A = A} functions before number quota outcome is).1
+use Rattle.sched_laws.proofs.FitSteps.{submit-fits, own-fits}
 
 module _ {I A : Type 0} (functions : Functions I A) (before : CoreState) (step : StepOf A) where
   -- the greatest number after a taken step: the step's tenant has one that is no greater, and it is no less than before
   numbers-after : (outcome : Outcome I) → AreNumbersGiven before → step_result functions before step ≡ Ok outcome →
       (tenant_of step ≤ newest_after before.newest step) × (before.newest ≤ newest_after before.newest step)
-  numbers-after outcome known is = grind (arith, admitted-above, known-number, taken-more-there, there, taken-alone)
+  numbers-after outcome known is =
+      by-taken functions before step outcome (λ o. (tenant_of step ≤ newest_after before.newest step) × (before.newest ≤ newest_after before.newest step)) is (record {
+        at_admit = λ number quota admits passed. grind (arith, above);
+        at_step = λ tenant o at taken allowed. grind (arith, known-number);
+      })
 
   -- whatever a step is answered
   pub known-answer : (answer : Result (DidOf I) Refusal) → AreNumbersGiven before → IsAnswerTo functions before step answer →
@@ -45,71 +33,35 @@ same-core fits rooted a b shared same core = record {
 -- the origins after a list of steps, by its first
 origins-on : {I A : Type 0} (origins : ℕ → Lists) (step : StepOf A) (did : DidOf I) (rest : List (StepOf A)) (number : ℕ) →
     origins_after origins step (Ok did) number ++ origins_of (only number rest) ≡ origins number ++ origins_of (only number (step ∷ rest))
-origins-on origins step did rest number = elim (cases_Bool (eqb (tenant_of step) number)) [
-  | inl same ↦ rw same (append_assoc (origins number) (submits step) (origins_of (only number rest)))
-  | inr other ↦ rw other refl
-]
+origins-on origins step did rest number = grind (arith, cases_Bool, append_assoc)
 
 -- from nobody
 pub nobody-fits : (fits : Fitting) (rooted : Rooting) (totals : Quota) → CoreFits fits rooted (λ number. []) (shared_by_nobody totals)
 nobody-fits fits rooted totals = record { tenants = λ number tenant at. absurd cc; unused = λ number low. refl }
-
--- every step of a tenant but Submit
-module _ {I A : Type 0} {functions : Functions I A} {fits : Fitting} {rooted : Rooting} {origins : Lists} {tenant : Tenant}
-    (lawful : IsLawful functions fits rooted) (shape : IsShaped tenant) (fitting : TenantFits fits rooted origins tenant)
-    (step : StepOf A) (outcome : Outcome I) where
-  own-fits : submits step ≡ [] → lone_step functions tenant step ≡ Ok outcome → LeftFits fits rooted origins outcome.0
-  own-fits none is = by-effects functions tenant step outcome (LeftFits fits rooted origins) is (record {
-    at_raise = λ number quota _ enough. record { frames = fitting.frames; jobs = fitting.jobs };
-    at_submit = λ number words size submit passed. (let no : words ∷ [] ≡ [] = sym (ap submits submit) ∙ none in absurd cc);
-    at_take = λ worker serial f at ready some. taken-fits lawful shape fitting worker serial f at ready;
-    at_advance = λ worker name f at passed. advanced-fits lawful shape fitting worker name f at passed;
-    at_answer = λ worker serial f answer at passed. answered-fits lawful shape fitting worker serial f answer at passed;
-    at_inlet = λ worker name f parent at named passed. inlet-fits lawful shape fitting worker name f parent at named passed;
-    at_finish = λ worker serial f at passed. finished-fits lawful shape fitting worker serial f at passed;
-    at_spend = λ serial f at. ended-fits shape fitting (root_of f.path) SpentJob (root-above tenant serial f shape at) (λ origin was. tt);
-    at_cancel = λ number root at. ended-fits shape fitting root CancelledJob (live-root tenant number root shape at) (λ origin was. tt);
-    at_leave = λ number leaves. tt;
-  })
-
-  others-fit : submits step ≡ [] → lone_step functions tenant step ≡ Ok outcome → LeftFits fits rooted (origins ++ submits step) outcome.0
-  others-fit none is = rw (none, append-nil origins) (own-fits none is)
 
 -- every step of a tenant
 module _ {I A : Type 0} (functions : Functions I A) (fits : Fitting) (rooted : Rooting) (origins : Lists) (tenant : Tenant) where
   pub step-fits : (step : StepOf A) (outcome : Outcome I) → IsLawful functions fits rooted → IsShaped tenant → TenantFits fits rooted origins tenant →
       RootFits fits rooted step → lone_step functions tenant step ≡ Ok outcome → LeftFits fits rooted (origins ++ submits step) outcome.0
   step-fits (Submit number words size) outcome lawful shape fitting root is = grind (arith, unless-passed, came, submit-fits)
-  step-fits step outcome lawful shape fitting root is = others-fit lawful shape fitting step outcome refl is
+  step-fits step outcome lawful shape fitting root is = rw (append-nil origins) (own-fits lawful shape fitting step outcome refl is)
 
 -- a step among several tenants that fit
 module _ {I A : Type 0} {functions : Functions I A} {fits : Fitting} {rooted : Rooting} {origins : ℕ → Lists} {before : CoreState}
     (lawful : IsLawful functions fits rooted) (shaped : AreShaped before.tenants) (core : CoreFits fits rooted origins before) (outcome : Outcome I) where
-  -- a step of a tenant that is there
-  among-fits : (step : StepOf A) → RootFits fits rooted step → tenant_in before.tenants (tenant_of step) ≢ None →
-      lone functions (tenant_in before.tenants (tenant_of step)) step ≡ Ok outcome → LeftFits fits rooted (origins (tenant_of step) ++ submits step) outcome.0
-  among-fits step root there is = by (tenant_in before.tenants (tenant_of step)) refl
-    where
-      by : (own : Option Tenant) → tenant_in before.tenants (tenant_of step) ≡ own → LeftFits fits rooted (origins (tenant_of step) ++ submits step) outcome.0
-      by None e = absurd (there e)
-      by (Some tenant) e =
-          let shape = shaped-in (tenant_of step) before.tenants tenant shaped e in
-          step-fits functions fits rooted _ tenant step outcome lawful shape (core.tenants (tenant_of step) tenant e) root (rw e at is)
-
-  admit-left : (number : ℕ) (quota : Quota) → step_result {A = A} functions before (Admit number quota) ≡ Ok outcome →
-      LeftFits fits rooted (origins number ++ []) outcome.0
-  admit-left number quota is = grind (arith, admitted-above, came)
-
   -- a taken step: what its tenant comes to
   taken-left : (step : StepOf A) → RootFits fits rooted step → step_result functions before step ≡ Ok outcome →
       LeftFits fits rooted (origins (tenant_of step) ++ submits step) outcome.0
-  taken-left (Admit number quota) root is = admit-left number quota is
-  taken-left (AdmitMore number quota) root is =
-      let alone = (more-taken {A = A} functions before number quota outcome is).1 in
-      among-fits (AdmitMore number quota) tt (taken-more-there {A = A} functions before outcome number quota is) alone
-  taken-left step root is =
-      let alone = taken-alone functions before outcome step refl is in
-      among-fits step root (there functions _ step outcome refl alone) alone
+  taken-left step root is = by-taken functions before step outcome (LeftFits fits rooted (origins (tenant_of step) ++ submits step)) is (record {
+    at_admit = λ number quota admits passed. new-left number quota admits (above number before.newest passed.0);
+    at_step = λ tenant o at taken allowed.
+        let shape = shaped-in (tenant_of step) before.tenants tenant shaped at in
+        step-fits functions fits rooted _ tenant step o lawful shape (core.tenants (tenant_of step) tenant at) root taken;
+  })
+    where
+      new-left : (number : ℕ) (quota : Quota) → step ≡ Admit number quota → before.newest < number →
+          LeftFits fits rooted (origins (tenant_of step) ++ submits step) (Some (admitted_with quota))
+      new-left number quota admits low = let none = core.unused number low in grind (arith, none)
 
   -- a core after a taken step
   core-after : (step : StepOf A) (did : DidOf I) → AreNumbersGiven before → RootFits fits rooted step → step_result functions before step ≡ Ok outcome →
@@ -189,26 +141,22 @@ only-append {A} number steps more = filter-append (λ (step : StepOf A). tenant_
 pub ruleset in_parts = (alone_from-append, answers_from-append, only-append)
 
 -- every procedure keeps that every frame fits, where that says nothing
-AlwaysFits : Fitting
+abbrev AlwaysFits : Fitting
 AlwaysFits own children mark = Unit {0}
 
-AlwaysRooted : Rooting
+abbrev AlwaysRooted : Rooting
 AlwaysRooted origin own = Unit {0}
 
 parent-always : (origin : List ℕ) (above older : Lists) (own : List ℕ) (younger : Lists) → ParentFits AlwaysFits AlwaysRooted origin above older own younger
-unfolding AlwaysFits AlwaysRooted
 parent-always origin above older own younger = grind arith
 
 child-always : (after : Continuation) → NewChildFits AlwaysFits after
-unfolding AlwaysFits
 child-always after = grind arith
 
 always-lawful : {I A : Type 0} (functions : Functions I A) → IsLawful functions AlwaysFits AlwaysRooted
-unfolding AlwaysFits
 always-lawful functions = grind (arith, parent-always, child-always)
 
 root-always : {A : Type 0} (step : StepOf A) → RootFits AlwaysFits AlwaysRooted step
-unfolding AlwaysFits AlwaysRooted
 root-always step = grind arith
 
 roots-always : {A : Type 0} (steps : List (StepOf A)) → RootsFit AlwaysFits AlwaysRooted steps

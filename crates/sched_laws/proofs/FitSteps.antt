@@ -1,9 +1,10 @@
 -- Each kind of step leaves a tenant fitting: a job that begins or ends, Take, Advance, Answer, Inlet and Finish.
-use Rattle.sched_laws.proofs.Common.{◌≡◌, ℕ, Bool, true, false, List, [], ◌∷◌, ◌++◌, Some, ap, sym, ◌∙◌, arith, ◌≢◌, ◌+◌, ◌<◌, not, Option, None, length, refl, inl, inr, ◌||◌, ◌&&◌, State, Running, Ready, FrameId, frame_at, children_of, path_in, parent_of, goes_under, aborted, frames_without, IsTree, new_frame, is_ready, found-serial, there-found, found-path, frame_at-left, frame_at-push, tree-rising, IsUnder, top-path, under-there, named-under, Act, Continuation, InletAct, Functions, Tree, Tenant, sight, with_frame_words, stored, is_outside, has_child, frame_words, words_in, is_root, without_job, kept_words, Fitting, Rooting, Neither, Computes, mark_of_state, grown, children_after, mark_after, ParentFits, NewChildFits, HasReturned, AllFit, children_left, act_by_sight, counted, holding, then_done, advanced, answered, opened, ended, staying, taken_by, is_computed_by, is_returned, advance_tests, answer_tests, inlet_tests, does_wait, taken_in, finish_tests, finished, IsShaped, TenantFits, JobFits, false≢true, eq-eqb, eqb-true, cases_Bool, not-false, or_parts, padded, is_that, is_child_of, frame_at-stays, frame_at-other-without, tree-aborted, tree-without, tree-without_job, tree-new_frame, new-frame-next, path_in-alike, Job, Live, Done, is_run_by}
+use Rattle.sched_laws.proofs.Common.{Ok, StepOf, Outcome, lone_step, submits, root_of, Spent as SpentJob, Cancelled as CancelledJob, ◌≡◌, ℕ, Bool, true, false, List, [], ◌∷◌, ◌++◌, Some, ap, sym, ◌∙◌, arith, ◌≢◌, ◌+◌, ◌<◌, not, Option, None, refl, ◌||◌, ◌&&◌, State, Running, Ready, FrameId, frame_at, children_of, path_in, parent_of, goes_under, aborted, frames_without, IsTree, new_frame, found-serial, there-found, found-path, frame_at-left, frame_at-push, tree-rising, IsUnder, top-path, under-there, named-under, Act, Continuation, InletAct, Functions, Tree, Tenant, sight, with_frame_words, stored, is_outside, has_child, frame_words, words_in, is_root, without_job, kept_words, Fitting, Rooting, Neither, Computes, mark_of_state, grown, children_after, mark_after, ParentFits, NewChildFits, HasReturned, AllFit, children_left, act_by_sight, counted, holding, then_done, advanced, opened, ended, staying, is_computed_by, is_returned, advance_tests, inlet_tests, does_wait, taken_in, IsShaped, TenantFits, JobFits, false≢true, eq-eqb, eqb-true, not-false, or_parts, padded, is_that, is_child_of, frame_at-stays, frame_at-other-without, tree-aborted, tree-without, tree-without_job, tree-new_frame, new-frame-next, path_in-alike, Job, Live, Done, is_run_by}
 use Rattle.sched_laws.proofs.Parts.{has_child-with_frame_words, path-there}
 use Rattle.sched_laws.proofs.Holds.{Lists, F, kids, fits-holds, with_frame_words-alike, tree-with_frame_words, paths-with_frame_words, children_of-with_frame_words, frame_at-other-with_frame_words, holds-fits, among-kids, BeforeWithout, holds-without, BeforeAbort, holds-aborted, holds-push, holds-without_job, frame_at-with_frame_words, found-same, found-own}
 use Rattle.sched_laws.proofs.Fits.{IsLawful, IsKeptAbove, with_frame_words-twice, all-fit, has-one, LeftFits, fits-spawned, words-found, jobs-append, jobs-ended, root-top, parent-neither, fits-same-mark, FitsAt, HaveSameRoots, fits-changed, fits-marked, jobs-left, kept-of, state-fits, words-fits}
-use Rattle.sched_laws.proofs.Shaped.{AllPass, run-free, returned-marked, returned-childless, staying-parent, inlet-stored-shaped}
+use Rattle.sched_laws.proofs.Consequences.{root-above, live-root}
+use Rattle.sched_laws.proofs.Shaped.{AllPass, by-effects, either, run-free, returned-marked, returned-childless, staying-parent, inlet-stored-shaped}
 
 -- what an act leaves, of the frame itself and of a new child
 abbrev pub OwnFits : Fitting → List ℕ → Lists → Continuation → Type 0
@@ -20,9 +21,6 @@ module _ {fits : Fitting} {rooted : Rooting} {origins : Lists} {tenant : Tenant}
       grind (arith, words-fits, with_frame_words-twice, fits-spawned, state-fits, kids, has-one, has_child-with_frame_words)
 
 -- the marks of states that were tested
-ready-free : (state : State) → is_ready state ≡ true → mark_of_state state ≡ Neither
-ready-free state is = grind (arith, false≢true)
-
 pub computes-marked : (worker : ℕ) (state : State) → is_computed_by worker state ≡ true → mark_of_state state ≡ Computes
 computes-marked worker state is = grind (arith, false≢true)
 
@@ -44,7 +42,7 @@ module _ (p : ℕ) (tree : Tree) (root : ℕ) (t : IsTree tree) where
 root-path : (path : List ℕ) → is_root path ≡ true → parent_of path ≡ None
 root-path [] is = absurd (false≢true is)
 root-path (x ∷ []) is = refl
-root-path (x ∷ y ∷ path) is = absurd (let long = eqb-true (length (x ∷ y ∷ path)) 1 is in omega (arith, long))
+root-path (x ∷ y ∷ path) is = grind (arith, eqb-true)
 
 -- a job that ends with all its frames, and one that is submitted
 module _ {fits : Fitting} {rooted : Rooting} {origins : Lists} {tenant : Tenant} (shape : IsShaped tenant)
@@ -170,12 +168,6 @@ module _ {fits : Fitting} {rooted : Rooting} {origins : Lists} {tenant : Tenant}
 -- a step of a lawful procedure leaves a tenant fitting
 module _ {I A : Type 0} {functions : Functions I A} {fits : Fitting} {rooted : Rooting} {origins : Lists} {tenant : Tenant}
     (lawful : IsLawful functions fits rooted) (shape : IsShaped tenant) (fitting : TenantFits fits rooted origins tenant) where
-  -- Take and Steal
-  pub taken-fits : (worker s : ℕ) (f : F) → frame_at tenant.frames s ≡ Some f → not (is_ready f.state) ≡ false →
-      LeftFits fits rooted origins (taken_by {I = I} tenant worker f).0
-  taken-fits worker s f at ready =
-      fits-same-mark shape fitting f.serial f (Running worker) (found-own tenant.frames s f at) (ready-free f.state (not-false (is_ready f.state) ready))
-
   -- Advance
   pub advanced-fits : (worker : ℕ) (name : FrameId) (f : F) → frame_at tenant.frames name.serial ≡ Some f →
       AllPass (advance_tests tenant worker f (act_by_sight functions tenant f)) →
@@ -203,20 +195,6 @@ module _ {I A : Type 0} {functions : Functions I A} {fits : Fitting} {rooted : R
           let got = lawful.next origin f.value above older younger _ fit parent all (rw (has-one tenant.frames f.serial, ← e) passed.1.1.0) in
           rw e ((got.0, got.2), got.1)
 
-  -- Answer
-  pub answered-fits : (worker s : ℕ) (f : F) (answer : A) → frame_at tenant.frames s ≡ Some f → AllPass (answer_tests functions tenant worker f answer) →
-      LeftFits fits rooted origins (answered functions tenant worker f answer).0
-  answered-fits worker s f answer at passed =
-      let words = stored (functions.accept f.value answer) f.value in
-      let at_own = found-own tenant.frames s f at in
-      let marked = computes-marked worker f.state (not-false (is_computed_by worker f.state) passed.0) in
-      let leaf = returned-childless tenant f.serial f shape at_own (λ e. let both : Neither ≡ Computes = sym e ∙ marked in absurd cc) in
-      let fit : fits f.value [] Computes = rw leaf at (fits-marked shape fitting f.serial f at_own marked) in
-      let same = not-false (functions.same (functions.asked answer) (functions.input f.value)) passed.1.0 in
-      let both = kept-of shape fitting (fits words [] Neither) f.serial f words at_own
-      (λ origin above older younger seen parent. lawful.accept origin f.value above older younger answer fit parent same passed.1.1.1.0) in
-      state-fits shape fitting f words at_own both.1 (Running worker) (rw leaf both.0)
-
   -- Inlet
   pub inlet-fits : (worker : ℕ) (name : FrameId) (f : F) (parent : ℕ) → frame_at tenant.frames name.serial ≡ Some f → parent_of f.path ≡ Some parent →
       AllPass (inlet_tests tenant worker f parent (functions.inlet (words_in tenant.frames parent) f.value)) →
@@ -240,22 +218,41 @@ module _ {I A : Type 0} {functions : Functions I A} {fits : Fitting} {rooted : R
       let after = counted (holding parent words (record tenant { frames = frames })) in
       let left = taken-in-fits shape fitting n parent f g.0 at g.1 u.0 u.1 leaf free (stored act.stores g.0.value) act.abort got.1 got.0 in
       let fit : TenantFits fits rooted origins after = rw at_g left in
-      elim (cases_Bool (does_wait (frame_at frames parent) && (act.abort || act.wake || not (has_child frames parent)))) [
-        | inl woken ↦ rw woken (fits-same-mark (inlet-stored-shaped tenant worker n f parent act at named passed shape) fit parent
-            (record g.0 { value = words }) (Ready worker) (frame_at-with_frame_words parent words frames g.0 at_g) free)
-        | inr sleeps ↦ rw sleeps fit
-      ]
+      either (LeftFits fits rooted origins) (does_wait (frame_at frames parent) && (act.abort || act.wake || not (has_child frames parent))) _ _
+      (fits-same-mark (inlet-stored-shaped tenant worker n f parent act at named passed shape) fit parent
+      (record g.0 { value = words }) (Ready worker) (frame_at-with_frame_words parent words frames g.0 at_g) free) fit
 
-  -- Finish
-  pub finished-fits : (worker s : ℕ) (f : F) → frame_at tenant.frames s ≡ Some f → AllPass (finish_tests tenant worker f) →
-      LeftFits fits rooted origins (finished {I = I} tenant f).0
-  finished-fits worker s f at passed =
-      let tree = tenant.frames in
-      let both = or_parts (not (is_returned f.state)) (not (is_root f.path)) passed.0 in
-      let returned = not-false (is_returned f.state) both.0 in
-      let at_own = found-own tree s f at in
-      let leaf = returned-childless tenant f.serial f shape at_own (returned-marked f.state returned) in
-      let path = found-path tree f.serial f at_own ∙ top-path tree f.serial f shape.tree at_own (root-path f.path (not-false (is_root f.path) both.1)) in
-      let whole : fits f.value [] HasReturned = rw leaf at (fits-marked shape fitting f.serial f at_own (has-returned f.state returned)) in
-      ended-fits shape fitting f.serial (Done (kept_words f.value)) path
-      (λ origin was. (f.value, refl, whole, (rw (words-found tree f.serial f at_own) at was)))
+  -- every step but Submit
+  pub own-fits : (step : StepOf A) (outcome : Outcome I) → submits step ≡ [] → lone_step functions tenant step ≡ Ok outcome →
+      LeftFits fits rooted origins outcome.0
+  own-fits step outcome none is = by-effects functions tenant step outcome (LeftFits fits rooted origins) is (record {
+    at_raise = λ number quota _ enough. record { frames = fitting.frames; jobs = fitting.jobs };
+    at_submit = λ number words size submit passed. (let no : words ∷ [] ≡ [] = sym (ap submits submit) ∙ none in absurd cc);
+    at_take = λ worker serial f at ready some.
+        fits-same-mark shape fitting f.serial f (Running worker) (found-own tenant.frames serial f at) grind (arith, ready);
+    at_advance = λ worker name f at passed. advanced-fits worker name f at passed;
+    at_answer = λ worker s f answer at passed.
+        let words = stored (functions.accept f.value answer) f.value in
+        let at_own = found-own tenant.frames s f at in
+        let marked = computes-marked worker f.state (not-false (is_computed_by worker f.state) passed.0) in
+        let leaf = returned-childless tenant f.serial f shape at_own (λ e. let both : Neither ≡ Computes = sym e ∙ marked in absurd cc) in
+        let fit : fits f.value [] Computes = rw leaf at (fits-marked shape fitting f.serial f at_own marked) in
+        let same = not-false (functions.same (functions.asked answer) (functions.input f.value)) passed.1.0 in
+        let both = kept-of shape fitting (fits words [] Neither) f.serial f words at_own
+        (λ origin above older younger seen parent. lawful.accept origin f.value above older younger answer fit parent same passed.1.1.1.0) in
+        state-fits shape fitting f words at_own both.1 (Running worker) (rw leaf both.0);
+    at_inlet = λ worker name f parent at named passed. inlet-fits worker name f parent at named passed;
+    at_finish = λ worker s f at passed.
+        let tree = tenant.frames in
+        let both = or_parts (not (is_returned f.state)) (not (is_root f.path)) passed.0 in
+        let returned = not-false (is_returned f.state) both.0 in
+        let at_own = found-own tree s f at in
+        let leaf = returned-childless tenant f.serial f shape at_own (returned-marked f.state returned) in
+        let path = found-path tree f.serial f at_own ∙ top-path tree f.serial f shape.tree at_own (root-path f.path (not-false (is_root f.path) both.1)) in
+        let whole : fits f.value [] HasReturned = rw leaf at (fits-marked shape fitting f.serial f at_own (has-returned f.state returned)) in
+        ended-fits shape fitting f.serial (Done (kept_words f.value)) path
+        (λ origin was. (f.value, refl, whole, (rw (words-found tree f.serial f at_own) at was)));
+    at_spend = λ serial f at. ended-fits shape fitting (root_of f.path) SpentJob (root-above tenant serial f shape at) (λ origin was. tt);
+    at_cancel = λ number root at. ended-fits shape fitting root CancelledJob (live-root tenant number root shape at) (λ origin was. tt);
+    at_leave = λ number leaves. tt;
+  })

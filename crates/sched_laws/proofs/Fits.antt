@@ -1,7 +1,6 @@
 -- What stands above a frame, and a law of a procedure applied there; and what is left after the stores of an act.
 use Rattle.sched_laws.proofs.Common.{◌≡◌, ◌≢◌, ℕ, ◌≤◌, inl, inr, true, List, [], ◌∷◌, ◌++◌, Option, Some, None, refl, ap, sym, ◌∙◌, arith, suc, ◌+◌, ltb, length, map-append, reverse-append, false≢true, eq-eqb, eqb-true, eqb-false, frame_at, path_in, parent_of, children_of, IsTree, with_state, values_of, new_frame, is_that, is_child_of, Each, found-serial, tree-rising, IsUnder, IsTop, placed, children-by-paths, found-there, found-path, frame_at-left, found-each, frame_at-stays, rising-filter, filter-found, Job, Functions, Tree, Tenant, frame_words, words_in, sight, has_child, is_root, with_frame_words, with_ended, is_live_at, Fitting, Rooting, Mark, Neither, mark_of_state, ParentFits, NextKeeps, InletKeeps, AcceptKeeps, EveryFrameFits, AllFit, has_one, IsShaped, AreMarkedChildless, AreLiveRootsThere, live_count, JobFits, JobsFit, TenantFits, filter, padded, State, tree-new_frame, new-frame-next, parent_of-path_under, AllBelow-alike, path_in-alike, tree-with_state, counted, in_state, holding, opened}
-use Rattle.sched_laws.proofs.Parts.{childless-at, no-child, path-there}
-use Rattle.sched_laws.proofs.Consequences.{root-counted}
+use Rattle.sched_laws.proofs.Parts.{childless-at, no-child, path-there, shape-at}
 use Rattle.sched_laws.proofs.Holds.{Lists, F, Fact, kids, Holds, fits-holds, found-same, among-kids, holds-with_frame_words, with_frame_words-alike, tree-with_frame_words, frame_at-with_frame_words, frame_at-other-with_frame_words, holds-fits, BeforeState, holds-with_state, BeforePush, holds-push}
 
 -- the laws of a procedure
@@ -30,11 +29,11 @@ module _ (tree : Tree) (s : ℕ) (f : F) where
 
   -- a frame with a child neither computes nor has returned
   pub parent-neither : IsTree tree → AreMarkedChildless tree tree → frame_at tree s ≡ Some f → (u : IsUnder tree f) → mark_of_state u.above.state ≡ Neither
-  parent-neither t all at u = elim (childless-at tree u.parent u.above all u.there) [
+  parent-neither t all at u = elim (childless-at tree tree u.parent u.above all u.there) [
     | inl neither ↦ neither
     | inr none ↦ (let child : is_child_of u.parent f.path ≡ true = ap (is_that u.parent) u.named ∙ eq-eqb u.parent u.parent refl in
         let kept = frame_at-stays (λ x. is_child_of u.parent x.path) tree s f (tree-rising tree t) at child in
-        let empty = no-child tree u.parent (ap (has_child tree) (sym (found-serial tree u.parent u.above u.there)) ∙ none) in
+        let empty = no-child tree u.parent none in
         let both : ◌≡◌ {A = Option F} None (Some f) = ap (λ (ys : Tree). frame_at ys s) (sym empty ∙ children-by-paths tree u.parent t) ∙ kept in absurd cc)
   ]
 
@@ -132,7 +131,7 @@ module _ (fits : Fitting) (rooted : Rooting) where
         | inl top ↦ top.1
         | inr u ↦ (let both : ◌≡◌ {A = Option ℕ} None (Some u.parent) = sym none ∙ u.named in absurd cc)
       ] in
-      let one = root-counted tenant.jobs tenant.frames s f shape.roots at (ap is_root path) in
+      let one = (shape-at shape s f at).root (ap is_root path) in
       let o = origin-of tenant.frames origins tenant.jobs s (omega (arith, one)) fitting.jobs in
       (o.0, rw (words-found tenant.frames s f at) at o.1)
 

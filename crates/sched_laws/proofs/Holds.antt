@@ -124,10 +124,7 @@ BeforeState Q n state s w k m = (s ≡ n → Q s w k (mark_of_state state)) × (
 pub found-with_state : (n : ℕ) (state : State) (xs : Tree) (f : F) → frame_at (with_state n state xs) n ≡ Some f →
     (g : F) × (frame_at xs n ≡ Some g) × (record g { state = state } ≡ f)
 found-with_state n state [] f at = absurd cc
-found-with_state n state (x ∷ xs) f at = elim (cases_Bool (eqb x.serial n)) [
-  | inl same ↦ (x, rw same refl, (let both : ◌≡◌ {A = Option F} (Some (record x { state = state })) (Some f) = rw (same, same) at at in cc))
-  | inr other ↦ rw other (found-with_state n state xs f (rw (other, other) at at))
-]
+found-with_state n state (x ∷ xs) f at = grind (arith, found-with_state n state xs f, cases_Bool)
 
 -- where that holds of each frame, Q does after frame n has this state
 module _ (Q : Fact) (n : ℕ) (state : State) (tree : Tree) (t : IsTree tree) where

@@ -1,26 +1,12 @@
 -- Each part of a tenant's shape, under each change of the tree and of the jobs.
 use Rattle.frame_table.proofs.Tenants.{state-length}
-use Rattle.sched_laws.proofs.Common.{◌≡◌, ◌≢◌, ℕ, suc, ◌+◌, ◌≤◌, ◌⊎◌, inl, inr, Bool, true, false, eqb, ltb, List, [], ◌∷◌, ◌++◌, Option, Some, None, length, refl, ap, sym, ◌∙◌, arith, length-append, ◌*◌, ◌<◌, not, filter, filter-append, cases_Bool, cases_eq, false≢true, eq-eqb, ne_eqb, eqb-false, ltb-false, not_from_false, State, frame_at, has_frame, path_in, AllBelow, parent_of, with_state, children_of, values_of, IsNextFrame, IsTree, goes_under, aborted, frames_without, new_frame, is_child_of, Each, AreAlike, there-found, found-serial, found-path, frame_at-push, frame_at-other-push, tree-rising, each-found, found-each, children-by-paths, found-there, found-ends, filter-found, frame_at-stays, AllBelow-filter, tree-aborted, tree-without, tree-without_job, tree-push, children_of-push, tree-with_state, frame_at-other-with_state, children_of-with_state, tree-new_frame, new-frame-next, parent_of-path_under, AllBelow-alike, path_in-alike, with_state-alike, values_of-with_state, Job, Live, Tree, has_child, is_live_at, with_frame_words, with_ended, Tenant, charged_for, is_root, Neither, mark_of_state, AreMarkedChildless, live_count, AreRootsLive, IsRootThere, AreLiveRootsThere, HaveWords, IsShaped, charge, padded, EndsIn, AllBelow-append, has_frame-above, path_in-left, path_in-right, counted, in_state, holding, opened, ended, frame_at-other-without}
-use Rattle.sched_laws.proofs.Holds.{found-same, children_of-with_frame_words, length-with_frame_words, with_frame_words-alike, tree-with_frame_words, charged-one, charged-with_frame_words, charged-append, charged-filter, charged-values, F, found-with_state}
+use Rattle.sched_laws.proofs.Common.{◌≡◌, ◌≢◌, ℕ, suc, ◌+◌, ◌≤◌, ◌⊎◌, inl, inr, Bool, true, false, eqb, ltb, List, [], ◌∷◌, ◌++◌, Option, Some, None, length, refl, ap, sym, subst, ◌∙◌, arith, length-append, ◌*◌, ◌<◌, not, filter, filter-append, cases_Bool, cases_eq, false≢true, eq-eqb, ne_eqb, eqb-false, eqb-true, ltb-false, not_from_false, State, frame_at, has_frame, path_in, AllBelow, parent_of, with_state, children_of, IsNextFrame, IsTree, goes_under, aborted, frames_without, new_frame, is_child_of, Each, AreAlike, there-found, found-serial, found-path, frame_at-push, frame_at-other-push, tree-rising, each-found, found-each, children-by-paths, found-there, found-ends, filter-found, frame_at-stays, tree-aborted, tree-without, tree-without_job, tree-push, children_of-push, frame_at-other-with_state, children_of-with_state, new-frame-next, parent_of-path_under, path_in-alike, tree-alike, with_state-alike, values_of-with_state, Job, Live, Tree, has_child, is_live_at, with_frame_words, with_ended, Tenant, charged_for, is_root, Neither, mark_of_state, AreMarkedChildless, live_count, AreRootsLive, IsRootThere, AreLiveRootsThere, HaveWords, IsShaped, charge, padded, EndsIn, has_frame-above, path_in-left, path_in-right, counted, in_state, holding, opened, ended, frame_at-other-without}
+use Rattle.frame_table.specs.Frames.{has_parent, path_under}
+use Rattle.sched_laws.proofs.Holds.{found-own, found-same, frame_at-with_frame_words, frame_at-other-with_frame_words, children_of-with_frame_words, length-with_frame_words, with_frame_words-alike, charged-one, charged-with_frame_words, charged-append, charged-filter, charged-values, F, found-with_state}
 use Rattle.cactus_stack.proofs.LawFacts.{length-padded}
 
--- a frame that computes or has returned has no child in this tree
-abbrev pub IsMarkedChildless : Tree → F → Type 0
-IsMarkedChildless tree frame = (mark_of_state frame.state ≡ Neither) ⊎ (has_child tree frame.serial ≡ false)
-
-pub childless-each : (tree frames : Tree) → AreMarkedChildless tree frames → Each (IsMarkedChildless tree) frames
-childless-each tree [] all = tt
-childless-each tree (x ∷ xs) all = (all.0, childless-each tree xs all.1)
-
-pub each-childless : (tree frames : Tree) → Each (IsMarkedChildless tree) frames → AreMarkedChildless tree frames
-each-childless tree [] each = tt
-each-childless tree (x ∷ xs) each = (each.0, each-childless tree xs each.1)
-
--- what frame s has of children: none, where it computes or has returned
+-- what a frame has of children
 module _ (tree : Tree) (s : ℕ) where
-  pub childless-at : (f : F) → AreMarkedChildless tree tree → frame_at tree s ≡ Some f → IsMarkedChildless tree f
-  childless-at f all at = each-found (IsMarkedChildless tree) tree s f (childless-each tree tree all) at
-
   -- no child, as a fact of lists
   pub no-child : has_child tree s ≡ false → children_of tree s ≡ []
   no-child none = empty (children_of tree s) none
@@ -29,105 +15,74 @@ module _ (tree : Tree) (s : ℕ) where
       empty [] e = refl
       empty (x ∷ xs) e = absurd (omega (arith, ltb-false 0 (length (x ∷ xs)) e))
 
-  pub none-has_child : children_of tree s ≡ [] → has_child tree s ≡ false
+  none-has_child : children_of tree s ≡ [] → has_child tree s ≡ false
   none-has_child none = rw none refl
 
   -- as many children: the same answer
   has_child-length : (other : Tree) → length (children_of other s) ≡ length (children_of tree s) → has_child other s ≡ has_child tree s
   has_child-length other e = ap (λ (n : ℕ). ltb 0 n) e
 
--- another state changes nobody's children; marked frames stay childless, where that state isn't marked or its frame has no child
-module _ (n : ℕ) (state : State) (tree : Tree) (t : IsTree tree) where
-  pub has_child-with_state : (s : ℕ) → has_child (with_state n state tree) s ≡ has_child tree s
-  has_child-with_state s = grind (arith, has_child-length, children_of-with_state, state-length)
+-- another state, and other words in a frame, change nobody's children
+module _ (n : ℕ) (tree : Tree) where
+  has_child-with_state : (state : State) (s : ℕ) → IsTree tree → has_child (with_state n state tree) s ≡ has_child tree s
+  has_child-with_state state s t = grind (arith, has_child-length, children_of-with_state, state-length)
 
-  pub childless-with_state : (mark_of_state state ≡ Neither) ⊎ (has_child tree n ≡ false) → AreMarkedChildless tree tree →
-      AreMarkedChildless (with_state n state tree) (with_state n state tree)
-  childless-with_state ok all = grind (arith, each-childless, found-each, tree-rising, tree-with_state, has_child-with_state, cases_eq, found-with_state, found-serial, childless-at, frame_at-other-with_state)
+pub has_child-with_frame_words : (n : ℕ) (words : List ℕ) (tree : Tree) (s : ℕ) → IsTree tree → has_child (with_frame_words n words tree) s ≡ has_child tree s
+has_child-with_frame_words n words tree s t = grind (arith, has_child-length, children_of-with_frame_words, length-with_frame_words)
 
-pub childless-from : (new : Tree) → IsTree new → ((s : ℕ) (f : F) → frame_at new s ≡ Some f → IsMarkedChildless new f) → AreMarkedChildless new new
-childless-from new t at = each-childless new new (found-each (IsMarkedChildless new) new (tree-rising new t) at)
-
--- other words in a frame
-module _ (n : ℕ) (words : List ℕ) (tree : Tree) where
-  pub has_child-with_frame_words : (s : ℕ) → IsTree tree → has_child (with_frame_words n words tree) s ≡ has_child tree s
-  has_child-with_frame_words s t = grind (arith, has_child-length, children_of-with_frame_words, length-with_frame_words)
-
-  words-kept : (frames : Tree) → IsTree tree → AreMarkedChildless tree frames →
-      AreMarkedChildless (with_frame_words n words tree) (with_frame_words n words frames)
-  words-kept [] t all = tt
-  words-kept (x ∷ xs) t all = grind (arith, words-kept xs t, words-kept xs t all.1, has_child-with_frame_words)
-
-  pub childless-with_frame_words : IsTree tree → AreMarkedChildless tree tree →
-      AreMarkedChildless (with_frame_words n words tree) (with_frame_words n words tree)
-  childless-with_frame_words t all = words-kept tree t all
-
--- one frame more, under a frame that neither computes nor has returned, or under none
-pub childless-push : (tree : Tree) (y : F) → IsTree tree → IsNextFrame tree y → mark_of_state y.state ≡ Neither →
-    ((p : ℕ) (f : F) → parent_of y.path ≡ Some p → frame_at tree p ≡ Some f → mark_of_state f.state ≡ Neither) →
-    AreMarkedChildless tree tree → AreMarkedChildless (tree ++ y ∷ []) (tree ++ y ∷ [])
-childless-push tree y t next new free all = childless-from (tree ++ y ∷ []) (tree-push tree y t next) at
-  where
-    stays : (f : F) → is_child_of f.serial y.path ≡ false → IsMarkedChildless tree f → IsMarkedChildless (tree ++ y ∷ []) f
-    stays f other (inl neither) = inl neither
-    stays f other (inr none) = inr (none-has_child _ f.serial (children_of-push tree y f.serial t next ∙ (rw (no-child tree f.serial none, other) refl)))
-
-    old : (s : ℕ) (f : F) → frame_at tree s ≡ Some f → IsMarkedChildless (tree ++ y ∷ []) f
-    old s f is = by (parent_of y.path) refl
-      where
-        by : (parent : Option ℕ) → parent_of y.path ≡ parent → IsMarkedChildless (tree ++ y ∷ []) f
-        by None named = stays f (rw named refl) (childless-at tree s f all is)
-        by (Some p) named = elim (cases_eq p f.serial) [
-          | inl same ↦ inl (free p f named (ap (frame_at tree) (same ∙ found-serial tree s f is) ∙ is))
-          | inr other ↦ stays f (rw named (ne_eqb p f.serial other)) (childless-at tree s f all is)
-        ]
-
-    at : (s : ℕ) (f : F) → frame_at (tree ++ y ∷ []) s ≡ Some f → IsMarkedChildless (tree ++ y ∷ []) f
-    at s f is = elim (cases_eq y.serial s) [
-      | inl same ↦ grind (arith, frame_at-push)
-      | inr other ↦ old s f (sym (frame_at-other-push tree y s other) ∙ is)
-    ]
-
--- fewer frames
+-- among fewer frames no frame has a child more
 none-filter : (p q : F → Bool) (xs : Tree) → filter q xs ≡ [] → filter q (filter p xs) ≡ []
 none-filter p q [] none = refl
 none-filter p q (x ∷ xs) none = grind (arith, none-filter p q xs)
 
--- among the frames that are left, no frame has a child more, and marked ones stay childless
-module _ (keep : F → Bool) (tree : Tree) (t : IsTree tree) (left : IsTree (filter keep tree)) where
-  pub no-child-filter : (s : ℕ) → has_child tree s ≡ false → has_child (filter keep tree) s ≡ false
-  no-child-filter s none = grind (arith, none-has_child, children-by-paths, none-filter, no-child)
+no-child-filter : (keep : F → Bool) (tree : Tree) (s : ℕ) → IsTree tree → IsTree (filter keep tree) → has_child tree s ≡ false → has_child (filter keep tree) s ≡ false
+no-child-filter keep tree s t left none = grind (arith, none-has_child, children-by-paths, none-filter, no-child)
 
-  pub childless-filter : AreMarkedChildless tree tree → AreMarkedChildless (filter keep tree) (filter keep tree)
-  childless-filter all = grind (arith, childless-from, childless-at, filter-found, tree-rising, no-child-filter)
+-- a frame that computes or has returned has no child in this tree
+pub childless-at : (tree frames : Tree) (s : ℕ) (f : F) → AreMarkedChildless tree frames → frame_at frames s ≡ Some f →
+    (mark_of_state f.state ≡ Neither) ⊎ (has_child tree s ≡ false)
+childless-at tree [] s f all at = absurd cc
+childless-at tree (x ∷ xs) s f all at = grind (arith, childless-at tree xs s f, eqb-true)
 
--- the root frames, where serials and paths stay
-module _ (jobs : List Job) where
-  pub roots-alike : (xs ys : Tree) → AreAlike xs ys → AreRootsLive jobs xs → AreRootsLive jobs ys
-  roots-alike (x ∷ xs) (y ∷ ys) alike roots = grind (arith, roots-alike xs ys)
-  roots-alike xs ys alike roots = grind arith
+-- Each part of the shape that speaks of frames, for one frame: its serial was given, it has no child where it computes or has returned, it is
+-- the root of one live job where it is a root, and it has 1 to 128 words.
+pub record ShapeOf (bound : ℕ) (jobs : List Job) (tree : Tree) (s : ℕ) (f : F) : Type 0 where
+  pub given : s < bound
+  pub childless : (mark_of_state f.state ≡ Neither) ⊎ (has_child tree s ≡ false)
+  pub root : is_root f.path ≡ true → live_count s jobs ≡ 1
+  pub words : (1 ≤ length f.value) × (length f.value ≤ 128)
 
-  pub roots-append : (xs ys : Tree) → AreRootsLive jobs xs → AreRootsLive jobs ys → AreRootsLive jobs (xs ++ ys)
-  roots-append [] ys p q = q
-  roots-append (x ∷ xs) ys p q = (p.0, roots-append xs ys p.1 q)
+-- and of each of these frames
+abbrev AreShapedIn : ℕ → List Job → Tree → Tree → Type 0
+AreShapedIn bound jobs tree frames = AllBelow bound frames × AreMarkedChildless tree frames × AreRootsLive jobs frames × HaveWords frames
 
-  pub roots-filter : (keep : F → Bool) (xs : Tree) → AreRootsLive jobs xs → AreRootsLive jobs (filter keep xs)
-  roots-filter keep [] roots = tt
-  roots-filter keep (x ∷ xs) roots = grind (arith, roots-filter keep xs)
+-- what is found has these parts of the shape, and frames have them where what is found does
+module _ (bound : ℕ) (jobs : List Job) (tree : Tree) where
+  parts-each : (frames : Tree) → AreShapedIn bound jobs tree frames → Each (λ f. ShapeOf bound jobs tree f.serial f) frames
+  parts-each [] p = tt
+  parts-each (x ∷ xs) p = (record { given = p.0.0; childless = p.1.0; root = p.2.0; words = p.3.0 }, parts-each xs (p.0.1, p.1.1, p.2.1, p.3.1))
 
-  -- a job more, under a root above all
-  pub live_count-append : (root : ℕ) (more : List Job) → live_count root (jobs ++ more) ≡ live_count root jobs + live_count root more
-  live_count-append root more = grind (arith, filter-append, length-append)
+  each-parts : (frames : Tree) → Each (λ f. ShapeOf bound jobs tree f.serial f) frames → AreShapedIn bound jobs tree frames
+  each-parts [] each = (tt, tt, tt, tt)
+  each-parts (x ∷ xs) each =
+      let own = each.0 in let rest = each-parts xs each.1 in ((own.given, rest.0), (own.childless, rest.1), (own.root, rest.2), (own.words, rest.3))
 
-pub one-live : (root : ℕ) → live_count root (Live root ∷ []) ≡ 1
+pub shape-at : {tenant : Tenant} (s : IsShaped tenant) (n : ℕ) (f : F) → frame_at tenant.frames n ≡ Some f →
+    ShapeOf (tenant.serials + 1) tenant.jobs tenant.frames n f
+shape-at {tenant} s n f at =
+    let P : F → Type 0 = λ x. ShapeOf (tenant.serials + 1) tenant.jobs tenant.frames x.serial x in
+    let each = parts-each (tenant.serials + 1) tenant.jobs tenant.frames tenant.frames (s.given, s.childless, s.roots, s.words) in
+    subst (λ (m : ℕ). ShapeOf (tenant.serials + 1) tenant.jobs tenant.frames m f) (found-serial tenant.frames n f at) (each-found P tenant.frames n f each at)
+
+-- how many jobs live under a root
+live_count-append : (jobs : List Job) (root : ℕ) (more : List Job) → live_count root (jobs ++ more) ≡ live_count root jobs + live_count root more
+live_count-append jobs root more = grind (arith, filter-append, length-append)
+
+one-live : (root : ℕ) → live_count root (Live root ∷ []) ≡ 1
 one-live root = rw (eq-eqb root root refl) refl
 
 none-live : (s root : ℕ) → s ≢ root → live_count s (Live root ∷ []) ≡ 0
 none-live s root other = rw (ne_eqb root s (λ e. other (sym e))) refl
-
-pub roots-more : (root : ℕ) (jobs : List Job) (xs : Tree) → AllBelow root xs → AreRootsLive jobs xs → AreRootsLive (jobs ++ Live root ∷ []) xs
-roots-more root jobs [] below roots = tt
-roots-more root jobs (x ∷ xs) below roots = grind (arith, roots-more root jobs xs, none-live, live_count-append)
 
 -- a path that is there
 pub path-there : (tree : Tree) (root : ℕ) → path_in tree root ≡ root ∷ [] → has_frame tree root ≡ true
@@ -156,10 +111,6 @@ module _ (root : ℕ) (job : Job) (end : IsEnd job) where
   pub live_count-with_ended : (s : ℕ) (jobs : List Job) → s ≢ root → live_count s (with_ended root job jobs) ≡ live_count s jobs
   live_count-with_ended s [] other = refl
   live_count-with_ended s (x ∷ xs) other = grind (arith, live_count-with_ended s xs other, live-one)
-
-  pub roots-with_ended : (jobs : List Job) (xs : Tree) → has_frame xs root ≡ false → AreRootsLive jobs xs → AreRootsLive (with_ended root job jobs) xs
-  roots-with_ended jobs [] gone roots = tt
-  roots-with_ended jobs (x ∷ xs) gone roots = grind (arith, roots-with_ended jobs xs, live_count-with_ended)
 
 -- the roots of the live jobs, by their paths
 abbrev pub KeepsRoots : Tree → Tree → Type 0
@@ -199,30 +150,6 @@ roots-stay keep tree s t stays is =
     let path = sym (found-path tree s f.0 f.1) ∙ is in
     found-path (filter keep tree) s f.0 (frame_at-stays keep tree s f.0 (tree-rising tree t) f.1 (stays s f.0 f.1 path)) ∙ path
 
--- the numbers of words
-pub words-values : (xs ys : Tree) → values_of ys ≡ values_of xs → HaveWords xs → HaveWords ys
-words-values [] [] e all = tt
-words-values [] (y ∷ ys) e all = absurd cc
-words-values (x ∷ xs) [] e all = absurd cc
-words-values (x ∷ xs) (y ∷ ys) e all = grind (arith, words-values xs ys)
-
-pub words-append : (xs ys : Tree) → HaveWords xs → HaveWords ys → HaveWords (xs ++ ys)
-words-append [] ys p q = q
-words-append (x ∷ xs) ys p q = (p.0, words-append xs ys p.1 q)
-
-pub words-filter : (keep : F → Bool) (xs : Tree) → HaveWords xs → HaveWords (filter keep xs)
-words-filter keep [] all = tt
-words-filter keep (x ∷ xs) all = grind (arith, words-filter keep xs)
-
-pub words-with_frame_words : (n : ℕ) (words : List ℕ) (xs : Tree) → (1 ≤ length words) × (length words ≤ 128) → HaveWords xs →
-    HaveWords (with_frame_words n words xs)
-words-with_frame_words n words [] fit all = tt
-words-with_frame_words n words (x ∷ xs) fit all = grind (arith, words-with_frame_words n words xs fit)
-
-pub words-at : (xs : Tree) (s : ℕ) (f : F) → HaveWords xs → frame_at xs s ≡ Some f → (1 ≤ length f.value) × (length f.value ≤ 128)
-words-at [] s f all at = absurd cc
-words-at (x ∷ xs) s f all at = grind (arith, words-at xs s f)
-
 -- What a step does to a tenant, move by move: each move keeps the shape.
 
 -- one more step is counted, where one was left
@@ -230,65 +157,104 @@ module _ {tenant : Tenant} (s : IsShaped tenant) where
   pub shaped-counted : tenant.steps < 16 * tenant.reserve.nodes → IsShaped (counted tenant)
   shaped-counted left = grind arith
 
+  -- other serials, jobs and frames, where each frame has its parts of the shape
+  shaped-by : (serials : ℕ) (jobs : List Job) (frames : Tree) → IsTree frames →
+      ((n : ℕ) (f : F) → frame_at frames n ≡ Some f → ShapeOf (serials + 1) jobs frames n f) → AreLiveRootsThere frames jobs → length jobs ≤ 256 →
+      charged_for frames ≤ tenant.reserve.segments → serials ≤ tenant.reserve.nodes →
+      IsShaped (record tenant { serials = serials; jobs = jobs; frames = frames })
+  shaped-by serials jobs frames t at live few charged opened =
+      let P : F → Type 0 = λ x. ShapeOf (serials + 1) jobs frames x.serial x in
+      let parts = each-parts (serials + 1) jobs frames frames (found-each P frames (tree-rising frames t) (λ n f is. at f.serial f (found-own frames n f is))) in
+      record {
+        tree = t;
+        given = parts.0;
+        childless = parts.1;
+        roots = parts.2;
+        live = live;
+        few_jobs = few;
+        words = parts.3;
+        charged = charged;
+        opened = opened;
+        ticks = s.ticks;
+      }
+
+  -- frames of the same serials and paths
+  shaped-alike : (new : Tree) → AreAlike tenant.frames new → charged_for new ≤ tenant.reserve.segments →
+      ((n : ℕ) (f : F) → frame_at new n ≡ Some f → ShapeOf (tenant.serials + 1) tenant.jobs new n f) → IsShaped (record tenant { frames = new })
+  shaped-alike new alike charged at =
+      let old = tenant.frames in
+      shaped-by tenant.serials tenant.jobs new (tree-alike old new alike s.tree) at
+      (live-kept old new tenant.jobs (λ root is. path_in-alike old new root alike ∙ is) s.live) s.few_jobs charged s.opened
+
   -- another state in a frame: one that neither computes nor has returned, or of a frame without a child
   pub shaped-in_state : (n : ℕ) (state : State) → (mark_of_state state ≡ Neither) ⊎ (has_child tenant.frames n ≡ false) → IsShaped (in_state n state tenant)
   shaped-in_state n state ok =
       let old = tenant.frames in
-      let new = with_state n state old in
-      let alike = with_state-alike n state old in
-      let values = values_of-with_state n state old in
-      record {
-        tree = tree-with_state n state old s.tree;
-        given = AllBelow-alike old new (tenant.serials + 1) alike s.given;
-        childless = childless-with_state n state old s.tree ok s.childless;
-        roots = roots-alike tenant.jobs old new alike s.roots;
-        live = live-kept old new tenant.jobs (λ root is. path_in-alike old new root alike ∙ is) s.live;
-        few_jobs = s.few_jobs;
-        words = words-values old new values s.words;
-        charged = (let e = charged-values old new values in let c = s.charged in omega (arith, e, c));
-        opened = s.opened;
-        ticks = s.ticks;
-      }
+      let e = charged-values old (with_state n state old) (values_of-with_state n state old) in
+      let c = s.charged in
+      shaped-alike (with_state n state old) (with_state-alike n state old) (omega (arith, e, c)) parts
+    where
+      parts : (q : ℕ) (f : F) → frame_at (with_state n state tenant.frames) q ≡ Some f →
+          ShapeOf (tenant.serials + 1) tenant.jobs (with_state n state tenant.frames) q f
+      parts q f at = elim (cases_eq q n) [
+        | inl same ↦ (let g = found-with_state n state tenant.frames f (rw same at at) in let p = shape-at s n g.0 g.1 in grind (arith, g, p, has_child-with_state))
+        | inr other ↦ (let p = shape-at s q f (sym (frame_at-other-with_state n state tenant.frames q (λ e. other (sym e))) ∙ at) in
+            grind (arith, p, has_child-with_state))
+      ]
 
--- other words in a frame: 1 to 128, charged within what is reserved
-pub shaped-holding : (n : ℕ) (words : List ℕ) (tenant : Tenant) (f : F) → frame_at tenant.frames n ≡ Some f → (1 ≤ length words) × (length words ≤ 128) →
-    charged_for tenant.frames + charge (length words) ≤ tenant.reserve.segments + charge (length f.value) → IsShaped tenant → IsShaped (holding n words tenant)
-shaped-holding n words tenant f at fit room s =
-    let old = tenant.frames in
-    let new = with_frame_words n words old in
-    let alike = with_frame_words-alike n words old in
-    record {
-      tree = tree-with_frame_words n words old s.tree;
-      given = AllBelow-alike old new (tenant.serials + 1) alike s.given;
-      childless = childless-with_frame_words n words old s.tree s.childless;
-      roots = roots-alike tenant.jobs old new alike s.roots;
-      live = live-kept old new tenant.jobs (λ root is. path_in-alike old new root alike ∙ is) s.live;
-      few_jobs = s.few_jobs;
-      words = words-with_frame_words n words old fit s.words;
-      charged = within (charged_for new) (charge (length f.value)) (charged-with_frame_words n words old f (tree-rising old s.tree) at) room;
-      opened = s.opened;
-      ticks = s.ticks;
-    }
-  where
-    within : (a b : ℕ) {c r : ℕ} → a + b ≡ c → c ≤ r + b → a ≤ r
-    within a b e le = omega arith
+  -- other words in a frame: 1 to 128, charged within what is reserved
+  pub shaped-holding : (n : ℕ) (words : List ℕ) (f : F) → frame_at tenant.frames n ≡ Some f → (1 ≤ length words) × (length words ≤ 128) →
+      charged_for tenant.frames + charge (length words) ≤ tenant.reserve.segments + charge (length f.value) → IsShaped (holding n words tenant)
+  shaped-holding n words f at fit room =
+      let old = tenant.frames in
+      shaped-alike (with_frame_words n words old) (with_frame_words-alike n words old)
+      (within _ (charge (length f.value)) (charged-with_frame_words n words old f (tree-rising old s.tree) at) room) parts
+    where
+      within : (a b : ℕ) {c r : ℕ} → a + b ≡ c → c ≤ r + b → a ≤ r
+      within a b e le = omega arith
 
--- fewer frames: those that stay are a tree, and the root frames are among them
-module _ {tenant : Tenant} (s : IsShaped tenant) where
-  pub shaped-fewer : (keep : F → Bool) → IsTree (filter keep tenant.frames) →
-      KeepsRootsOf keep tenant.frames → IsShaped (record tenant { frames = filter keep tenant.frames })
-  shaped-fewer keep left stays = grind (arith, AllBelow-filter, childless-filter, roots-filter, live-kept, roots-stay, words-filter, charged-filter)
+      parts : (q : ℕ) (g : F) → frame_at (with_frame_words n words tenant.frames) q ≡ Some g →
+          ShapeOf (tenant.serials + 1) tenant.jobs (with_frame_words n words tenant.frames) q g
+      parts q g at_q = elim (cases_eq q n) [
+        | inl same ↦ (let p = shape-at s n f at in
+            let e : record f { value = words } ≡ g = found-same _ n q _ g (sym same) (frame_at-with_frame_words n words tenant.frames f at) at_q in
+            grind (arith, e, p, has_child-with_frame_words))
+        | inr other ↦ (let p = shape-at s q g (sym (frame_at-other-with_frame_words n words tenant.frames q (λ e. other (sym e))) ∙ at_q) in
+            grind (arith, p, has_child-with_frame_words))
+      ]
+
+  -- fewer frames, which are a tree, and jobs of which as many live under each root that stays
+  shaped-fewer : (keep : F → Bool) (jobs : List Job) → IsTree (filter keep tenant.frames) → AreLiveRootsThere (filter keep tenant.frames) jobs → length jobs ≤ 256 →
+      ((n : ℕ) (f : F) → frame_at tenant.frames n ≡ Some f → keep f ≡ true → live_count n jobs ≡ live_count n tenant.jobs) →
+      IsShaped (record tenant { jobs = jobs; frames = filter keep tenant.frames })
+  shaped-fewer keep jobs left live few same =
+      let fewer = charged-filter keep tenant.frames in
+      let c = s.charged in
+      shaped-by tenant.serials jobs (filter keep tenant.frames) left parts live few (omega (arith, fewer, c)) s.opened
+    where
+      parts : (q : ℕ) (f : F) → frame_at (filter keep tenant.frames) q ≡ Some f → ShapeOf (tenant.serials + 1) jobs (filter keep tenant.frames) q f
+      parts q f at =
+          let o = filter-found keep tenant.frames q f (tree-rising tenant.frames s.tree) at in
+          let p = shape-at s q f o.0 in
+          let e = same q f o.0 o.1 in grind (arith, o, p, e, no-child-filter)
+
+  -- the same jobs, where the roots are among the frames that stay
+  shaped-kept : (keep : F → Bool) → IsTree (filter keep tenant.frames) → KeepsRootsOf keep tenant.frames →
+      IsShaped (record tenant { frames = filter keep tenant.frames })
+  shaped-kept keep left stays =
+      shaped-fewer keep tenant.jobs left (live-kept tenant.frames _ tenant.jobs (λ root is. roots-stay keep tenant.frames root s.tree stays is) s.live) s.few_jobs
+      (λ n f at kept. refl)
 
   -- an abort
   pub shaped-aborted : (p : ℕ) → IsShaped (record tenant { frames = aborted p tenant.frames })
-  shaped-aborted p = shaped-fewer (λ x. not (goes_under p x.path)) (tree-aborted p tenant.frames s.tree) (λ root f at path. rw path refl)
+  shaped-aborted p = shaped-kept (λ x. not (goes_under p x.path)) (tree-aborted p tenant.frames s.tree) (λ root f at path. rw path refl)
 
 -- a leaf that is no root
 module _ (p : ℕ) where
   pub shaped-without : (tenant : Tenant) (f : F) (q : ℕ) → frame_at tenant.frames p ≡ Some f → parent_of f.path ≡ Some q →
       children_of tenant.frames p ≡ [] → IsShaped tenant → IsShaped (record tenant { frames = frames_without p tenant.frames })
   shaped-without tenant f q at named leaf s =
-      shaped-fewer s (λ x. not (eqb x.serial p)) (tree-without p tenant.frames s.tree leaf)
+      shaped-kept s (λ x. not (eqb x.serial p)) (tree-without p tenant.frames s.tree leaf)
       (λ root x at_x path. not_from_false (eqb x.serial p) (ne_eqb x.serial p (apart root x at_x path)))
     where
       apart : (root : ℕ) (x : F) → frame_at tenant.frames root ≡ Some x → x.path ≡ root ∷ [] → x.serial ≢ p
@@ -300,20 +266,11 @@ module _ (p : ℕ) where
   pub shaped-ended : (job : Job) (tenant : Tenant) → IsEnd job → IsShaped tenant → IsShaped (ended p job tenant)
   shaped-ended job tenant end s =
       let cut = aborted p tenant.frames in
-      let left = tree-without_job p tenant.frames s.tree in
       let c = shaped-aborted s p in
-      record {
-        tree = left;
-        given = AllBelow-filter (λ x. not (eqb x.serial p)) (tenant.serials + 1) cut c.given;
-        childless = childless-filter (λ x. not (eqb x.serial p)) cut c.tree left c.childless;
-        roots = roots-with_ended p job end tenant.jobs (frames_without p cut) (gone cut) (roots-filter tenant.jobs (λ x. not (eqb x.serial p)) cut c.roots);
-        live = live-with_ended cut (frames_without p cut) p job tenant.jobs end stays c.live;
-        few_jobs = (let e = length-with_ended p job tenant.jobs in let few = s.few_jobs in omega (arith, e, few));
-        words = words-filter (λ x. not (eqb x.serial p)) cut c.words;
-        charged = (let d = charged-filter (λ x. not (eqb x.serial p)) cut in let e = c.charged in omega (arith, d, e));
-        opened = s.opened;
-        ticks = s.ticks;
-      }
+      let e = length-with_ended p job tenant.jobs in
+      let few = s.few_jobs in
+      shaped-fewer c (λ x. not (eqb x.serial p)) (with_ended p job tenant.jobs) (tree-without_job p tenant.frames s.tree)
+      (live-with_ended cut (frames_without p cut) p job tenant.jobs end stays c.live) (omega (arith, e, few)) same
     where
       stays : (r : ℕ) → r ≢ p → path_in (aborted p tenant.frames) r ≡ r ∷ [] → path_in (frames_without p (aborted p tenant.frames)) r ≡ r ∷ []
       stays r other is =
@@ -321,9 +278,9 @@ module _ (p : ℕ) where
           let f = there-found cut r (path-there cut r is) in
           found-path (frames_without p cut) r f.0 (frame_at-other-without p cut r (λ e. other (sym e)) ∙ f.1) ∙ sym (found-path cut r f.0 f.1) ∙ is
 
-      gone : (xs : Tree) → has_frame (frames_without p xs) p ≡ false
-      gone [] = refl
-      gone (x ∷ xs) = elim (cases_Bool (eqb x.serial p)) [ inl same ↦ rw same (gone xs) | inr other ↦ rw (other, other) (gone xs) ]
+      same : (n : ℕ) (f : F) → frame_at (aborted p tenant.frames) n ≡ Some f → not (eqb f.serial p) ≡ true →
+          live_count n (with_ended p job tenant.jobs) ≡ live_count n tenant.jobs
+      same n f at kept = grind (arith, live_count-with_ended, found-serial, eq-eqb)
 
 -- what a frame of this size needs: words no longer than it, a node, and segments
 pub record HasRoomFor (words : List ℕ) (size : ℕ) (tenant : Tenant) : Type 0 where
@@ -333,54 +290,92 @@ pub record HasRoomFor (words : List ℕ) (size : ℕ) (tenant : Tenant) : Type 0
   pub node : tenant.serials < tenant.reserve.nodes
   pub segments : charged_for tenant.frames + charge size ≤ tenant.reserve.segments
 
-below-more : (bound more : ℕ) (xs : Tree) → bound ≤ more → AllBelow bound xs → AllBelow more xs
-below-more bound more [] le below = tt
-below-more bound more (x ∷ xs) le below = (omega (arith, le, below.0), below-more bound more xs le below.1)
-
-given-push : (serial : ℕ) (xs : Tree) (y : F) → y.serial ≡ serial → AllBelow serial xs → AllBelow (serial + 1) (xs ++ y ∷ [])
-given-push serial xs y e below = AllBelow-append (serial + 1) xs (y ∷ []) (below-more serial (serial + 1) xs (omega arith) below) (omega (arith, e), tt)
-
--- a new frame with this many words: what is charged with it, and that it has 1 to 128
-module _ (y : F) (size : ℕ) (is : length y.value ≡ size) where
-  charged-push : (xs : Tree) (segments : ℕ) → charged_for xs + charge size ≤ segments → charged_for (xs ++ y ∷ []) ≤ segments
-  charged-push xs segments room = grind (arith, charged-append, charged-one)
-
-  words-new : 1 ≤ size → size ≤ 128 → HaveWords (y ∷ [])
-  words-new some few = ((omega (arith, is), omega (arith, is)), tt)
-
 -- a path of two serials or more is no root's
 no-root : (path : List ℕ) (last s : ℕ) → EndsIn path last → is_root (path ++ s ∷ []) ≡ false
 no-root [] last s ends = absurd ends
 no-root (x ∷ path) last s ends = ne_eqb (length (x ∷ path ++ s ∷ [])) 1 (λ e. let long = length-append path (s ∷ []) in omega (arith, e, long))
 
--- a child opened under a frame that neither computes nor has returned
+new-root : (tree : Tree) (parent : Option ℕ) (serial : ℕ) → IsTree tree → has_parent tree parent ≡ true → is_root (path_under tree parent serial) ≡ true → parent ≡ None
+new-root tree None serial t there is = refl
+new-root tree (Some p) serial t there is =
+    let f = there-found tree p there in
+    let ends : EndsIn (path_in tree p) p = rw (found-path tree p f.0 f.1) (found-ends tree p f.0 t f.1) in
+    absurd (false≢true (sym (no-root (path_in tree p) p serial ends) ∙ is))
+
+-- a frame opened under one that neither computes nor has returned, or under none
+module _ {tenant : Tenant} (s : IsShaped tenant) (parent : Option ℕ) (home : ℕ) (words : List ℕ) (size : ℕ) (there : has_parent tenant.frames parent ≡ true)
+    (room : HasRoomFor words size tenant) where
+  abbrev new : F
+  new = new_frame tenant.frames (tenant.serials + 1) parent home (padded words size)
+
+  abbrev more : Tree
+  more = tenant.frames ++ new ∷ []
+
+  next : IsNextFrame tenant.frames new
+  next = new-frame-next tenant.frames (tenant.serials + 1) parent home (padded words size) s.tree s.given there
+
+  still-live : AreLiveRootsThere more tenant.jobs
+  still-live = grind (arith, live-kept, path_in-left, path-there)
+
+  -- the new frame is a child of its parent alone
+  new-child : (q : ℕ) → is_child_of q new.path ≡ true → parent ≡ Some q
+  new-child q child = grind (arith, parent_of-path_under, eqb-true)
+
+  still-childless : (q : ℕ) → is_child_of q new.path ≡ false → has_child tenant.frames q ≡ false → has_child more q ≡ false
+  still-childless q other none =
+      none-has_child more q (children_of-push tenant.frames new q s.tree next ∙ (rw (no-child tenant.frames q none, other) refl))
+
+  shaped-push : (jobs : List Job) → ((p : ℕ) (f : F) → parent ≡ Some p → frame_at tenant.frames p ≡ Some f → mark_of_state f.state ≡ Neither) →
+      ((n : ℕ) → n ≢ tenant.serials + 1 → live_count n jobs ≡ live_count n tenant.jobs) → (parent ≡ None → live_count (tenant.serials + 1) jobs ≡ 1) →
+      AreLiveRootsThere more jobs → length jobs ≤ 256 → IsShaped (record (opened parent words size home tenant) { jobs = jobs })
+  shaped-push jobs free same one live few =
+      let node = room.node in shaped-by s (tenant.serials + 1) jobs more (tree-push tenant.frames new s.tree next) parts live few charged (omega (arith, node))
+    where
+      long : length (padded words size) ≡ size
+      long = length-padded words size room.fits_in
+
+      charged : charged_for more ≤ tenant.reserve.segments
+      charged = let l = long in let c = room.segments in grind (arith, charged-append, charged-one, l, c)
+
+      old : (q : ℕ) (f : F) → frame_at tenant.frames q ≡ Some f → q ≢ tenant.serials + 1 → ShapeOf (tenant.serials + 1 + 1) jobs more q f
+      old q f at other =
+          let p = shape-at s q f at in
+          let e = same q other in
+          elim (cases_Bool (is_child_of q new.path)) [
+            | inl child ↦ (let neither = free q f (new-child q child) at in grind (arith, p, e, neither))
+            | inr none ↦ grind (arith, p, e, still-childless q none)
+          ]
+
+      own : ShapeOf (tenant.serials + 1 + 1) jobs more (tenant.serials + 1) new
+      own =
+          let l = long in
+          let some = room.some in
+          let few_words = room.few in
+          record {
+            given = omega arith;
+            childless = inl refl;
+            root = λ is. one (new-root tenant.frames parent (tenant.serials + 1) s.tree there is);
+            words = (omega (arith, l, some), omega (arith, l, few_words));
+          }
+
+      parts : (q : ℕ) (f : F) → frame_at more q ≡ Some f → ShapeOf (tenant.serials + 1 + 1) jobs more q f
+      parts q f at = elim (cases_eq new.serial q) [
+        | inl same_serial ↦ (let e : new ≡ f = found-same more new.serial q new f same_serial (frame_at-push tenant.frames new s.given) at in
+            rw (← same_serial, ← e) own)
+        | inr other ↦ old q f (sym (frame_at-other-push tenant.frames new q other) ∙ at) (λ e. other (sym e))
+      ]
+
 module _ (home : ℕ) (words : List ℕ) (size : ℕ) (tenant : Tenant) where
+  -- a child opened under a frame that neither computes nor has returned
   pub shaped-child : (p : ℕ) (f : F) → frame_at tenant.frames p ≡ Some f → mark_of_state f.state ≡ Neither → HasRoomFor words size tenant →
       IsShaped tenant → IsShaped (opened (Some p) words size home tenant)
   shaped-child p f at free room s =
-      let old = tenant.frames in
-      let serial = tenant.serials + 1 in
-      let new = new_frame old serial (Some p) home (padded words size) in
-      let there = found-there old p f at in
-      let next = new-frame-next old serial (Some p) home (padded words size) s.tree s.given there in
-      let long = length-padded words size room.fits_in in
-      let ends : EndsIn (path_in old p) p = rw (found-path old p f at) (found-ends old p f s.tree at) in
-      let named : parent_of new.path ≡ Some p = parent_of-path_under old (Some p) serial s.tree there in
-      record {
-        tree = tree-new_frame old serial (Some p) home (padded words size) s.tree s.given there;
-        given = given-push serial old new refl s.given;
-        childless = childless-push old new s.tree next refl (λ q g is at_q. parent-free q g (sym named ∙ is) at_q) s.childless;
-        roots = roots-append tenant.jobs old (new ∷ []) s.roots ((λ is. absurd (false≢true (sym (no-root (path_in old p) p serial ends) ∙ is))), tt);
-        live = live-kept old (old ++ new ∷ []) tenant.jobs (λ root is. path_in-left old (new ∷ []) root (path-there old root is) ∙ is) s.live;
-        few_jobs = s.few_jobs;
-        words = words-append old (new ∷ []) s.words (words-new new size long room.some room.few);
-        charged = charged-push new size long old tenant.reserve.segments room.segments;
-        opened = (let node = room.node in omega (arith, node));
-        ticks = s.ticks;
-      }
+      let there = found-there tenant.frames p f at in
+      shaped-push s (Some p) home words size there room tenant.jobs parent-free (λ n other. refl) (λ none. absurd cc)
+      (still-live s (Some p) home words size there room) s.few_jobs
     where
       parent-free : (q : ℕ) (g : F) → Some p ≡ Some q → frame_at tenant.frames q ≡ Some g → mark_of_state g.state ≡ Neither
-      parent-free q g e at_q = let same : p ≡ q = cc in rw (← found-same tenant.frames p q f g same at at_q) free
+      parent-free q g e at_q = grind arith
 
   -- a root opened, with the job that lives under it
   pub shaped-root : length tenant.jobs < 256 → HasRoomFor words size tenant → IsShaped tenant →
@@ -388,24 +383,12 @@ module _ (home : ℕ) (words : List ℕ) (size : ℕ) (tenant : Tenant) where
   shaped-root few room s =
       let old = tenant.frames in
       let root = tenant.serials + 1 in
-      let jobs = tenant.jobs ++ Live root ∷ [] in
       let new = new_frame old root None home (padded words size) in
-      let next = new-frame-next old root None home (padded words size) s.tree s.given refl in
-      let long = length-padded words size room.fits_in in
       let lacks = has_frame-above old root s.given in
       let none = no-live old root tenant.jobs lacks s.live in
-      let one : live_count root jobs ≡ 1 = live_count-append tenant.jobs root (Live root ∷ []) ∙ (rw (none, one-live root) refl) in
       let own : path_in (old ++ new ∷ []) root ≡ root ∷ [] = path_in-right old (new ∷ []) root lacks ∙ (rw (eq-eqb root root refl) refl) in
-      let kept = live-kept old (old ++ new ∷ []) tenant.jobs (λ r is. path_in-left old (new ∷ []) r (path-there old r is) ∙ is) s.live in
-      record {
-        tree = tree-new_frame old root None home (padded words size) s.tree s.given refl;
-        given = given-push root old new refl s.given;
-        childless = childless-push old new s.tree next refl (λ q g is at_q. absurd cc) s.childless;
-        roots = roots-append jobs old (new ∷ []) (roots-more root tenant.jobs old s.given s.roots) ((λ is. one), tt);
-        live = live-append (old ++ new ∷ []) tenant.jobs (Live root ∷ []) kept (own, tt);
-        few_jobs = (let more = length-append tenant.jobs (Live root ∷ []) in omega (arith, more, few));
-        words = words-append old (new ∷ []) s.words (words-new new size long room.some room.few);
-        charged = charged-push new size long old tenant.reserve.segments room.segments;
-        opened = (let node = room.node in omega (arith, node));
-        ticks = s.ticks;
-      }
+      let more = length-append tenant.jobs (Live root ∷ []) in
+      shaped-push s None home words size refl room (tenant.jobs ++ Live root ∷ []) (λ p f is at. absurd cc)
+      (λ n other. live_count-append tenant.jobs n (Live root ∷ []) ∙ (rw (none-live n root other) omega arith))
+      (λ is. live_count-append tenant.jobs root (Live root ∷ []) ∙ (rw (none, one-live root) refl))
+      (live-append (old ++ new ∷ []) tenant.jobs (Live root ∷ []) (still-live s None home words size refl room) (own, tt)) (omega (arith, more, few))

@@ -1,7 +1,7 @@
 -- Every step keeps the shape of its tenant, and so every answer that of all tenants.
 use Rattle.sched_laws.proofs.Common.{◌≡◌, ◌≢◌, if◌then◌else◌, ℕ, ◌+◌, ◌-◌, ◌*◌, ◌<◌, ◌≤◌, inl, inr, Bool, true, false, not, ◌||◌, ◌&&◌, eqb, ltb, List, [], ◌∷◌, ◌++◌, Option, Some, None, Result, Ok, Err, length, replicate, refl, ap, sym, ◌∙◌, subst, arith, length-append, length-replicate, false≢true, eqb-false, ltb-false, leb-true, leb-false, not-false, or_parts, and_parts, charge, growth_charge, Quota, State, Ready, Running, Computing, FrameId, frame_at, parent_of, root_of, children_of, is_ready, there-found, found-serial, tree-rising, under-there, under-below, aborted-itself, frame_at-other-without, Act, InletAct, Continuation, StepOf, Grow, Spawn, Go, Wait, Compute, Return, Live, Done, Spent as SpentJob, Cancelled as CancelledJob, Refusal, NotSpent, OldTenant, Lower, Admit, AdmitMore, Submit, Take, Steal, Advance, Answer, Inlet, Finish, Spend, Cancel, Leave, Functions, Tree, Tenant, admitted_with, frame_words, words_in, charged_for, left, stored, is_outside, has_child, job_at, kept_words, Neither, mark_of_state, Outcome, unless, lone_step, is_lower, raised, counted, holding, ended, is_frame_size, submit_tests, submitted, take_tests, steal_tests, taken_by, is_run_by, is_returned, act_by_sight, is_bad_then, is_spawn, segments_for, advance_tests, then_done, advanced, answer_tests, answered, inlet_tests, does_wait, staying, taken_in, finish_tests, finished, is_spendable, spent, at_frame, IsShaped}
 use Rattle.sched_laws.proofs.Holds.{frame_at-with_frame_words, charged-with_frame_words, F, found-own}
-use Rattle.sched_laws.proofs.Parts.{childless-at, no-child, has_child-with_frame_words, words-at, shaped-counted, shaped-in_state, shaped-holding, shaped-aborted, shaped-without, shaped-ended, shaped-child, shaped-root}
+use Rattle.sched_laws.proofs.Parts.{shape-at, no-child, has_child-with_frame_words, shaped-counted, shaped-in_state, shaped-holding, shaped-aborted, shaped-without, shaped-ended, shaped-child, shaped-root}
 use Rattle.sched_rules.proofs.StoreLemmas.{length-stored}
 
 -- what a step leaves, if it leaves a tenant, has its shape
@@ -96,7 +96,7 @@ pub record HoldsOfKinds {A : Type 0} (tenant : Tenant) (step : StepOf A) (P : Op
   pub at_leave : (number : ℕ) → step ≡ Leave number → P None
 
 -- either branch of a test
-either : {I : Type 0} (P : Option Tenant → Type 0) (test : Bool) (x y : Outcome I) → P x.0 → P y.0 → P (if test then x else y).0
+pub either : {I : Type 0} (P : Option Tenant → Type 0) (test : Bool) (x y : Outcome I) → P x.0 → P y.0 → P (if test then x else y).0
 either P true x y p q = p
 either P false x y p q = q
 
@@ -144,26 +144,6 @@ module _ (tenant : Tenant) where
 size-parts : (words : List ℕ) (size : ℕ) → not (is_frame_size words size) ≡ false → (1 ≤ size) × (size ≤ 128) × (length words ≤ size)
 size-parts words size is = grind (arith, and_parts, not-false, leb-true)
 
--- Submit
-module _ (I : Type 0) {tenant : Tenant} (s : IsShaped tenant) where
-  submit-shaped : (number : ℕ) (words : List ℕ) (size : ℕ) → AllPass (submit_tests tenant words size) →
-      LeftShaped (submitted {I = I} tenant number words size).0
-  submit-shaped number words size passed =
-      let fits = size-parts words size passed.0 in
-      shaped-root 0 words size tenant (leb-false 256 (length tenant.jobs) passed.1.0)
-      (record {
-        some = fits.0;
-        few = fits.1;
-        fits_in = fits.2;
-        node = node-left tenant passed.1.1.0;
-        segments = segments-left tenant (charge size) s.charged passed.1.1.1.0;
-      }) s
-
-  -- Take and Steal
-  taken-shaped : (worker : ℕ) (f : F) → eqb (left tenant).steps 0 ≡ false → LeftShaped (taken_by {I = I} tenant worker f).0
-  taken-shaped worker f some =
-      shaped-counted (shaped-in_state s f.serial (Running worker) (inl refl)) (step-left tenant some)
-
 -- a frame that a worker runs or computes, and one that has returned
 pub run-free : (worker : ℕ) (state : State) → is_run_by worker state ≡ true → mark_of_state state ≡ Neither
 run-free worker state is = grind (arith, false≢true)
@@ -173,17 +153,14 @@ returned-marked state is = grind (arith, false≢true)
 
 pub returned-childless : (tenant : Tenant) (s : ℕ) (f : F) → IsShaped tenant → frame_at tenant.frames s ≡ Some f → mark_of_state f.state ≢ Neither →
     children_of tenant.frames s ≡ []
-returned-childless tenant s f shape at marked = grind (arith, childless-at, no-child, found-serial)
+returned-childless tenant s f shape at marked = grind (arith, shape-at, no-child)
 
 -- stores in a frame
-same-room : (a : ℕ) {c r : ℕ} → c ≤ r → c + a ≤ r + a
-same-room a le = omega arith
-
 pub shaped-stored : (n : ℕ) (words : List ℕ) (tenant : Tenant) (f : F) → frame_at tenant.frames n ≡ Some f → length words ≡ length f.value →
     IsShaped tenant → IsShaped (holding n words tenant)
 shaped-stored n words tenant f at long s =
-    let fits = words-at tenant.frames n f s.words at in
-    shaped-holding n words tenant f at (omega (arith, fits.0, long), omega (arith, fits.1, long)) (rw long (same-room (charge (length f.value)) s.charged)) s
+    let fits = (shape-at s n f at).words in
+    shaped-holding s n words f at (omega (arith, fits.0, long), omega (arith, fits.1, long)) (let c = s.charged in rw long (omega (arith, c)))
 
 -- what comes after the stores of an act
 grow-room : (c a b r : ℕ) → c + (a - b) ≤ r → c + a ≤ r + b
@@ -200,11 +177,11 @@ module _ {I A : Type 0} (functions : Functions I A) where
       charged_for t.frames + segments_for g after ≤ t.reserve.segments → IsShaped t → LeftShaped (then_done functions t worker name path words after).0
   then-shaped t worker name path words (Grow more) g at is free good node room s =
       let whole = length-append words (replicate more 0) in let zeros = length-replicate {A = ℕ} more 0 in
-      let fits = words-at t.frames name.serial g s.words at in
+      let fits = (shape-at s name.serial g at).words in
       let long : length (words ++ replicate more 0) ≡ length words + more = omega (arith, whole, zeros) in
       let own : length g.value ≡ length words = ap length is in
-      shaped-holding name.serial (words ++ replicate more 0) t g at (omega (arith, fits.0, long, own), omega (arith, long, grow-fits (length words) more good))
-      (grown (charged_for t.frames) (length (words ++ replicate more 0)) (length g.value) t.reserve.segments (length words) more long own room) s
+      shaped-holding s name.serial (words ++ replicate more 0) g at (omega (arith, fits.0, long, own), omega (arith, long, grow-fits (length words) more good))
+      (grown (charged_for t.frames) (length (words ++ replicate more 0)) (length g.value) t.reserve.segments (length words) more long own room)
     where
       grown : (c n o r w m : ℕ) → n ≡ w + m → o ≡ w → c + growth_charge o m ≤ r → c + charge n ≤ r + charge o
       grown c n o r w m long own le = grow-room c (charge n) (charge o) r (rw (long, ← own) le)
@@ -231,31 +208,18 @@ module _ {I A : Type 0} (functions : Functions I A) where
       let at_g : frame_at t.frames name.serial ≡ Some g = ap (frame_at t.frames) (sym own) ∙ frame_at-with_frame_words n words tenant.frames f at_own in
       let child = ap (has_child t.frames) (sym own) ∙ has_child-with_frame_words n words tenant.frames n s.tree in
       let charges = charged-with_frame_words n words tenant.frames f (tree-rising tenant.frames s.tree) at_own in
-      let charged = same (charged_for t.frames) (charged_for tenant.frames) (ap charge long) charges in
+      let e = ap charge long in
+      let charged : charged_for t.frames ≡ charged_for tenant.frames = omega (arith, charges, e) in
+      let segments = segments-left tenant (segments_for f act.after) s.charged passed.1.1.1.1.0 in
       then-shaped (counted t) worker name f.path words act.after g at_g refl (run-free worker f.state (not-false (is_run_by worker f.state) passed.0))
-      (rw (long, child) good) (λ spawn. node-left tenant (node (is_spawn act.after) (eqb (left tenant).nodes 0) spawn passed.1.1.1.0))
-      (room act.after g (segments-left tenant (segments_for f act.after) s.charged passed.1.1.1.1.0) charged long)
+      (rw (long, child) good) (λ spawn. node-left tenant (rw spawn at passed.1.1.1.0))
+      (room act.after g _ (rw (← charged) at segments) long)
       (shaped-counted (shaped-stored n words tenant f at_own long s) (step-left tenant passed.1.0))
     where
-      node : (spawn none : Bool) → spawn ≡ true → (spawn && none) ≡ false → none ≡ false
-      node true none is both = both
-      node false none is both = absurd (false≢true is)
-
-      same : (a c : ℕ) {b d : ℕ} → d ≡ b → a + b ≡ c + d → a ≡ c
-      same a c e is = omega arith
-
-      room : (after : Continuation) (g : F) {c : ℕ} → charged_for tenant.frames + segments_for f after ≤ tenant.reserve.segments →
-          c ≡ charged_for tenant.frames → length g.value ≡ length f.value → c + segments_for g after ≤ tenant.reserve.segments
-      room (Grow more) g le e long = rw (e, long) le
-      room _ g le e long = rw e le
-
-  -- Answer
-  answer-shaped : (tenant : Tenant) (worker : ℕ) (s : ℕ) (f : F) (answer : A) → frame_at tenant.frames s ≡ Some f →
-      AllPass (answer_tests functions tenant worker f answer) → IsShaped tenant → LeftShaped (answered functions tenant worker f answer).0
-  answer-shaped tenant worker s f answer at passed shape =
-      let stores = functions.accept f.value answer in
-      let held = shaped-stored f.serial (stored stores f.value) tenant f (found-own tenant.frames s f at) (length-stored stores f.value) shape in
-      shaped-counted (shaped-in_state held f.serial (Running worker) (inl refl)) (step-left tenant passed.1.1.0)
+      room : (after : Continuation) (g : F) (c : ℕ) → c + segments_for f after ≤ tenant.reserve.segments → length g.value ≡ length f.value →
+          c + segments_for g after ≤ tenant.reserve.segments
+      room (Grow more) g c le long = rw long le
+      room _ g c le long = le
 
 -- Inlet: the frames that stay, with the parent among them
 module _ (tenant : Tenant) where
@@ -281,43 +245,35 @@ module _ (tenant : Tenant) where
       let long : length words ≡ length g.0.value = length-stored act.stores (words_in frames parent) ∙ ap (λ o. length (frame_words o)) at_g in
       shaped-counted (shaped-stored parent words _ g.0 at_g long (staying-shaped n parent f act.abort at named leaf s)) (step-left tenant passed.1.0)
 
--- Inlet leaves a tenant shaped
-module _ (I : Type 0) (tenant : Tenant) (worker : ℕ) (f : F) where
-  inlet-shaped : (name : FrameId) (parent : ℕ) (act : InletAct) → frame_at tenant.frames name.serial ≡ Some f → parent_of f.path ≡ Some parent →
-      AllPass (inlet_tests tenant worker f parent act) → IsShaped tenant → LeftShaped (taken_in {I = I} tenant worker name parent act).0
-  inlet-shaped name parent act at named passed s =
-      let frames = staying tenant.frames name.serial parent act.abort in
-      let sa = inlet-stored-shaped tenant worker name.serial f parent act at named passed s in
-      either LeftShaped (does_wait (frame_at frames parent) && (act.abort || act.wake || not (has_child frames parent))) _ _
-      (shaped-in_state sa parent (Ready worker) (inl refl)) sa
-
-  -- Finish and Spend
-  finish-shaped : AllPass (finish_tests tenant worker f) → IsShaped tenant → LeftShaped (finished {I = I} tenant f).0
-  finish-shaped passed s =
-      shaped-counted (shaped-ended f.serial (Done (kept_words f.value)) tenant (λ root. refl) s) (step-left tenant passed.1.0)
-
--- Spend leaves a tenant shaped
-module _ (I : Type 0) {tenant : Tenant} (s : IsShaped tenant) where
-  spend-shaped : (f : F) → LeftShaped (spent {I = I} tenant f).0
-  spend-shaped f = shaped-ended (root_of f.path) SpentJob tenant (λ root. refl) s
-
-  -- AdmitMore: what is used stays within the greater reservation
-  raised-shaped : (quota : Quota) → is_lower tenant.reserve quota ≡ false → LeftShaped (raised {I = I} tenant quota).0
-  raised-shaped quota enough = grind (arith, or_parts, ltb-false)
-
 -- every step of a tenant that has the core to itself
 module _ {I A : Type 0} (functions : Functions I A) (tenant : Tenant) where
   pub step-shaped : (step : StepOf A) (outcome : Outcome I) → lone_step functions tenant step ≡ Ok outcome → IsShaped tenant → LeftShaped outcome.0
   step-shaped step outcome is s = by-effects functions tenant step outcome LeftShaped is (record {
-    at_raise = λ number quota _ enough. raised-shaped I s quota enough;
-    at_submit = λ number words size _ passed. submit-shaped I s number words size passed;
-    at_take = λ worker serial f at ready some. taken-shaped I s worker f some;
+    at_raise = λ number quota _ enough. grind (arith, or_parts, ltb-false);
+    at_submit = λ number words size _ passed.
+        let fits = size-parts words size passed.0 in
+        shaped-root 0 words size tenant (leb-false 256 (length tenant.jobs) passed.1.0) (record {
+          some = fits.0;
+          few = fits.1;
+          fits_in = fits.2;
+          node = node-left tenant passed.1.1.0;
+          segments = segments-left tenant (charge size) s.charged passed.1.1.1.0;
+        }) s;
+    at_take = λ worker serial f at ready some. shaped-counted (shaped-in_state s f.serial (Running worker) (inl refl)) (step-left tenant some);
     at_advance = λ worker name f at passed. advance-shaped functions tenant worker name f (act_by_sight functions tenant f) at passed s;
-    at_answer = λ worker serial f answer at passed. answer-shaped functions tenant worker serial f answer at passed s;
+    at_answer = λ worker serial f answer at passed.
+        let stores = functions.accept f.value answer in
+        let held = shaped-stored f.serial (stored stores f.value) tenant f (found-own tenant.frames serial f at) (length-stored stores f.value) s in
+        shaped-counted (shaped-in_state held f.serial (Running worker) (inl refl)) (step-left tenant passed.1.1.0);
     at_inlet = λ worker name f parent at named passed.
-        inlet-shaped I tenant worker f name parent (functions.inlet (words_in tenant.frames parent) f.value) at named passed s;
-    at_finish = λ worker serial f at passed. finish-shaped I tenant worker f passed s;
-    at_spend = λ serial f at. spend-shaped I s f;
+        let act = functions.inlet (words_in tenant.frames parent) f.value in
+        let frames = staying tenant.frames name.serial parent act.abort in
+        let sa = inlet-stored-shaped tenant worker name.serial f parent act at named passed s in
+        either LeftShaped (does_wait (frame_at frames parent) && (act.abort || act.wake || not (has_child frames parent))) _ _
+        (shaped-in_state sa parent (Ready worker) (inl refl)) sa;
+    at_finish = λ worker serial f at passed.
+        shaped-counted (shaped-ended f.serial (Done (kept_words f.value)) tenant (λ r. refl) s) (step-left tenant passed.1.0);
+    at_spend = λ serial f at. shaped-ended (root_of f.path) SpentJob tenant (λ r. refl) s;
     at_cancel = λ number root at. shaped-ended root CancelledJob tenant (λ r. refl) s;
     at_leave = λ number leaves. tt;
   })

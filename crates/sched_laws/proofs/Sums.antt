@@ -1,8 +1,8 @@
 -- What all tenants have reserved and are charged, under each answer.
-use Rattle.sched_laws.proofs.Common.{◌≡◌, ◌↔◌, ℕ, ◌+◌, ◌*◌, ◌≤◌, false, List, [], ◌∷◌, Option, Some, None, Result, Ok, Err, refl, ap, sym, ◌∙◌, arith, sum_by-cons, false≢true, ltb-false, le-ltb, or_parts, Quota, reserved_segments, reserved_nodes, Account, Refusal, Lower, StepOf, Admit, AdmitMore, DidOf, Admitted, Functions, Tenant, admitted_with, account_in, charged_for, left, Outcome, lone, lone_step, is_lower, raised, tenant_of, free_in, CoreState, tenant_in, with_tenant, without_tenant, with_outcome, accounts_in, reservations_in, is_full, is_beyond, admit_tests, step_result, shared_after, charged_in, is_admission, after_answer, after_answers, there, IsShaped, AreShaped, IsReservedWithin, IsCovered}
-use Rattle.sched_laws.proofs.Shaped.{unless-passed, by-kinds}
-use Rattle.sched_laws.proofs.FitAnswers.{taken-alone, taken-more-there}
-use Rattle.sched_laws.proofs.Consequences.{more-taken}
+use Rattle.sched_laws.proofs.Common.{◌≡◌, ◌↔◌, ℕ, Bool, true, ◌+◌, ◌*◌, ◌≤◌, false, List, [], ◌∷◌, Some, Result, Ok, Err, refl, arith, sum_by-cons, ltb-false, le-ltb, or_parts, Quota, Account, Refusal, StepOf, DidOf, Functions, Tenant, admitted_with, account_in, charged_for, left, Outcome, tenant_of, free_in, CoreState, tenant_in, with_tenant, without_tenant, with_outcome, accounts_in, reservations_in, is_full, is_beyond, step_result, shared_after, shared_with, charged_in, after_answer, after_answers, IsShaped, AreShaped, IsReservedWithin, IsCovered}
+use Rattle.sched_laws.proofs.Shaped.{by-kinds}
+use Rattle.sched_laws.proofs.Consequences.{by-taken}
+use Rattle.std.specs.Prelude.{sum_by}
 
 abbrev Entries : Type 0
 Entries = List (ℕ × Tenant)
@@ -12,25 +12,34 @@ abbrev total : (Tenant → ℕ) → Entries → ℕ
 total m [] = 0
 total m (e ∷ es) = m e.1 + total m es
 
--- the segments and the nodes that all reserve
-abbrev all_segments : Entries → ℕ
-all_segments es = total (λ t. t.reserve.segments) es
+-- segments and nodes, each as a number of a reservation
+abbrev part : Bool → Quota → ℕ
+part true quota = quota.segments
+part false quota = quota.nodes
 
-abbrev all_nodes : Entries → ℕ
-all_nodes es = total (λ t. t.reserve.nodes) es
+-- what all reserve of it
+abbrev reserved : Bool → Entries → ℕ
+reserved b es = total (λ t. part b t.reserve) es
 
--- what all reserve is within the totals, where a tenant came to this
-abbrev WithinAfter : CoreState → ℕ → Option Tenant → Type 0
-WithinAfter before number o =
-    (all_segments (with_outcome number o before.tenants) ≤ before.totals.segments) × (all_nodes (with_outcome number o before.tenants) ≤ before.totals.nodes)
+-- what all reserve is within the totals
+abbrev Within : Quota → Entries → Type 0
+Within totals es = (b : Bool) → reserved b es ≤ part b totals
 
-segments-total : (es : Entries) → reserved_segments (accounts_in es) ≡ all_segments es
-segments-total [] = refl
-segments-total (e ∷ es) = rw (← segments-total es) (sum_by-cons (λ (a : ℕ × Account). a.1.reserve.segments) (e.0, account_in e.1) (accounts_in es))
+reserved-total : (b : Bool) (es : Entries) → sum_by (λ (a : ℕ × Account). part b a.1.reserve) (accounts_in es) ≡ reserved b es
+reserved-total b [] = refl
+reserved-total b (e ∷ es) = rw (← reserved-total b es) (sum_by-cons (λ (a : ℕ × Account). part b a.1.reserve) (e.0, account_in e.1) (accounts_in es))
 
-nodes-total : (es : Entries) → reserved_nodes (accounts_in es) ≡ all_nodes es
-nodes-total [] = refl
-nodes-total (e ∷ es) = rw (← nodes-total es) (sum_by-cons (λ (a : ℕ × Account). a.1.reserve.nodes) (e.0, account_in e.1) (accounts_in es))
+-- the same of the book
+module _ (shared : CoreState) where
+  within-both : IsReservedWithin shared → Within shared.totals shared.tenants
+  within-both within true = let a = within.segments in let c = reserved-total true shared.tenants in omega (arith, a, c)
+  within-both within false = let a = within.nodes in let c = reserved-total false shared.tenants in omega (arith, a, c)
+
+  both-within : Within shared.totals shared.tenants → IsReservedWithin shared
+  both-within both =
+      let a = both true in let b = both false in
+      let c = reserved-total true shared.tenants in let d = reserved-total false shared.tenants in
+      record { segments = omega (arith, a, c); nodes = omega (arith, b, d) }
 
 -- a sum over all tenants, after tenant n has changed, come or gone
 module _ (m : Tenant → ℕ) (n : ℕ) where
@@ -46,123 +55,72 @@ module _ (m : Tenant → ℕ) (n : ℕ) where
   total-less [] = omega arith
   total-less (e ∷ es) = grind (arith, total-less es)
 
--- a tenant that is left keeps what it reserved
-abbrev pub KeepsReserve : Quota → Option Tenant → Type 0
-KeepsReserve quota None = Unit {0}
-KeepsReserve quota (Some tenant) = tenant.reserve ≡ quota
-
--- every step but an admission of more
-step-reserve : {I A : Type 0} (functions : Functions I A) (tenant : Tenant) (step : StepOf A) (outcome : Outcome I) → is_admission step ≡ false →
-    lone_step functions tenant step ≡ Ok outcome → KeepsReserve tenant.reserve outcome.0
-step-reserve functions tenant step outcome no_admission is = grind (arith, by-kinds, false≢true)
-
--- a number that goes by what is reserved, after a tenant came to this
-module _ (m : Quota → ℕ) (es : Entries) where
-  outcome-total : (n : ℕ) (old : Tenant) (o : Option Tenant) → tenant_in es n ≡ Some old → KeepsReserve old.reserve o →
-      total (λ t. m t.reserve) (with_outcome n o es) ≤ total (λ t. m t.reserve) es
-  outcome-total n old o at keeps = grind (arith, total-less, total-changed)
-
-  -- after an admission
-  room : (number : ℕ) (quota : Quota) (most : ℕ) → total (λ t. m t.reserve) es + m quota ≤ most →
-      total (λ t. m t.reserve) (with_tenant number (admitted_with quota) es) ≤ most
-  room number quota most le = let more = total-more (λ t. m t.reserve) number (admitted_with quota) es in omega (arith, more, le)
-
-  -- with a further reservation in the place of the tenant's own
-  further : (number : ℕ) (old : Tenant) (quota : Quota) → tenant_in es number ≡ Some old →
-      total (λ t. m t.reserve) (with_tenant number (record old { reserve = quota }) es) + m old.reserve ≡ total (λ t. m t.reserve) es + m quota
-  further number old quota at = total-changed (λ t. m t.reserve) number old (record old { reserve = quota }) es at
-
 -- what the tests of the totals mean
 module _ (before : CoreState) (quota : Quota) where
-  has-room : is_full (reservations_in before) quota ≡ false →
-      (all_segments before.tenants + quota.segments ≤ before.totals.segments) × (all_nodes before.tenants + quota.nodes ≤ before.totals.nodes)
-  has-room none = grind (arith, or_parts, ltb-false, segments-total, nodes-total)
+  has-room : is_full (reservations_in before) quota ≡ false → (b : Bool) → reserved b before.tenants + part b quota ≤ part b before.totals
+  has-room none b = let c = reserved-total true before.tenants in let d = reserved-total false before.tenants in grind (arith, or_parts, ltb-false, c, d)
 
   no-beyond : (own : Quota) → is_beyond (reservations_in before) own quota ≡ false →
-      (all_segments before.tenants + quota.segments ≤ before.totals.segments + own.segments)
-      × (all_nodes before.tenants + quota.nodes ≤ before.totals.nodes + own.nodes)
-  no-beyond own enough = grind (arith, or_parts, ltb-false, segments-total, nodes-total)
+      (b : Bool) → reserved b before.tenants + part b quota ≤ part b before.totals + part b own
+  no-beyond own enough b = let c = reserved-total true before.tenants in let d = reserved-total false before.tenants in grind (arith, or_parts, ltb-false, c, d)
 
-  within-beyond : (own : Quota) → all_segments before.tenants + quota.segments ≤ before.totals.segments + own.segments →
-      all_nodes before.tenants + quota.nodes ≤ before.totals.nodes + own.nodes → is_beyond (reservations_in before) own quota ≡ false
-  within-beyond own segments nodes = grind (arith, le-ltb, segments-total, nodes-total)
+  within-beyond : (own : Quota) → ((b : Bool) → reserved b before.tenants + part b quota ≤ part b before.totals + part b own) →
+      is_beyond (reservations_in before) own quota ≡ false
+  within-beyond own both =
+      let c = reserved-total true before.tenants in let d = reserved-total false before.tenants in
+      let p = both true in let q = both false in grind (arith, le-ltb, c, d, p, q)
 
 -- a raised reservation that isn't beyond the totals stays within them
 module _ (before : CoreState) (number : ℕ) (old : Tenant) (quota : Quota) (at : tenant_in before.tenants number ≡ Some old) where
-  further-within : is_beyond (reservations_in before) old.reserve quota ≡ false → WithinAfter before number (Some (record old { reserve = quota }))
-  further-within enough =
-      let p = no-beyond before quota old.reserve enough in
-      let a = further (λ q. q.segments) before.tenants number old quota at in
-      let b = further (λ q. q.nodes) before.tenants number old quota at in
-      (omega (arith, p.0, a), omega (arith, p.1, b))
+  -- with a further reservation in the place of the tenant's own
+  further : (b : Bool) → reserved b (with_tenant number (record old { reserve = quota }) before.tenants) + part b old.reserve ≡ reserved b before.tenants + part b quota
+  further b = total-changed (λ t. part b t.reserve) number old (record old { reserve = quota }) before.tenants at
+
+  further-within : is_beyond (reservations_in before) old.reserve quota ≡ false →
+      Within before.totals (with_tenant number (record old { reserve = quota }) before.tenants)
+  further-within enough b = grind (arith, no-beyond, further)
 
   -- a raised reservation is beyond exactly where a total is passed
   pub beyond-exactly : (is_beyond (reservations_in before) old.reserve quota ≡ false)
       ↔ IsReservedWithin (record before { tenants = with_tenant number (record old { reserve = quota }) before.tenants })
   beyond-exactly = (
-    (λ enough.
-        let both = further-within enough in
-        record { segments = omega (arith, both.0, segments-total after); nodes = omega (arith, both.1, nodes-total after) }),
-    (λ within.
-        let a = further (λ q. q.segments) before.tenants number old quota at in
-        let b = further (λ q. q.nodes) before.tenants number old quota at in
-        let s = within.segments in
-        let n = within.nodes in
-        within-beyond before quota old.reserve (omega (arith, a, s, segments-total after)) (omega (arith, b, n, nodes-total after))),
+    (λ enough. both-within (record before { tenants = with_tenant number (record old { reserve = quota }) before.tenants }) (further-within enough)),
+    (λ within. within-beyond before quota old.reserve (λ b.
+        let a = further b in
+        let w = within-both (record before { tenants = with_tenant number (record old { reserve = quota }) before.tenants }) within b in omega (arith, a, w))),
   )
-    where
-      after : Entries
-      after = with_tenant number (record old { reserve = quota }) before.tenants
 
 -- a taken step keeps the reservations within the totals
 module _ {I A : Type 0} (functions : Functions I A) (before : CoreState) (within : IsReservedWithin before) where
-  admit-within : (number : ℕ) (quota : Quota) (outcome : Outcome I) → step_result {A = A} functions before (Admit number quota) ≡ Ok outcome →
-      WithinAfter before number outcome.0
-  admit-within number quota outcome is =
-      let p = unless-passed (admit_tests before number quota) (Some (admitted_with quota), Admitted) outcome is in
-      let free = has-room before quota p.0.1.0 in
-      rw (← p.1) (room (λ q. q.segments) before.tenants number quota _ free.0, room (λ q. q.nodes) before.tenants number quota _ free.1)
+  -- so does a tenant that reserves what it did
+  kept-within : (number : ℕ) (old new : Tenant) → tenant_in before.tenants number ≡ Some old → new.reserve ≡ old.reserve →
+      Within before.totals (with_tenant number new before.tenants)
+  kept-within number old new at same b = grind (arith, total-changed, within-both)
 
-  more-within : (number : ℕ) (quota : Quota) (outcome : Outcome I) → step_result {A = A} functions before (AdmitMore number quota) ≡ Ok outcome →
-      WithinAfter before number outcome.0
-  more-within number quota outcome is = by (tenant_in before.tenants number) refl
-    where
-      by : (own : Option Tenant) → tenant_in before.tenants number ≡ own → WithinAfter before number outcome.0
-      by None own = absurd (taken-more-there {A = A} functions before outcome number quota is own)
-      by (Some old) own =
-          let found = more-taken {A = A} functions before number quota outcome is in
-          let p = unless-passed ((is_lower old.reserve quota, Lower) ∷ []) (raised {I = I} old quota) outcome (rw own at found.1) in
-          rw (← p.1) (further-within before number old quota own (rw own at found.0))
-
-  step-within : (step : StepOf A) (outcome : Outcome I) → is_admission step ≡ false → step_result functions before step ≡ Ok outcome →
-      WithinAfter before (tenant_of step) outcome.0
-  step-within step outcome no_admission is = by (tenant_in before.tenants (tenant_of step)) refl
-    where
-      alone : lone functions (tenant_in before.tenants (tenant_of step)) step ≡ Ok outcome
-      alone = taken-alone functions before outcome step no_admission is
-
-      by : (own : Option Tenant) → tenant_in before.tenants (tenant_of step) ≡ own → WithinAfter before (tenant_of step) outcome.0
-      by None own = absurd (there functions None step outcome no_admission (ap (λ o. lone functions o step) (sym own) ∙ alone) refl)
-      by (Some tenant) own =
-          let keeps = step-reserve functions tenant step outcome no_admission (ap (λ o. lone functions o step) (sym own) ∙ alone) in
-          let a = outcome-total (λ q. q.segments) before.tenants (tenant_of step) tenant outcome.0 own keeps in
-          let b = outcome-total (λ q. q.nodes) before.tenants (tenant_of step) tenant outcome.0 own keeps in
-          let c = within.segments in let d = within.nodes in
-          let e = segments-total before.tenants in let f = nodes-total before.tenants in
-          (omega (arith, a, c, e), omega (arith, b, d, f))
-
-  taken-within : (step : StepOf A) (outcome : Outcome I) → step_result functions before step ≡ Ok outcome → WithinAfter before (tenant_of step) outcome.0
-  taken-within (Admit number quota) outcome is = admit-within number quota outcome is
-  taken-within (AdmitMore number quota) outcome is = more-within number quota outcome is
-  taken-within step outcome is = step-within step outcome refl is
+  taken-within : (step : StepOf A) (outcome : Outcome I) → step_result functions before step ≡ Ok outcome →
+      Within before.totals (with_outcome (tenant_of step) outcome.0 before.tenants)
+  taken-within step outcome is =
+      by-taken functions before step outcome (λ o. Within before.totals (with_outcome (tenant_of step) o before.tenants)) is (record {
+        at_admit = λ number quota admits passed b.
+            let more = total-more (λ t. part b t.reserve) (tenant_of step) (admitted_with quota) before.tenants in
+            let free = has-room before quota passed.1.0 b in omega (arith, more, free);
+        at_step = λ tenant o at taken allowed.
+            by-kinds functions tenant step o (λ left. Within before.totals (with_outcome (tenant_of step) left before.tenants)) taken (record {
+              at_raise = λ number quota raises. further-within before (tenant_of step) tenant quota at (allowed number quota raises);
+              at_submit = λ serials root frames. kept-within (tenant_of step) tenant _ at refl;
+              at_work = λ serials frames. kept-within (tenant_of step) tenant _ at refl;
+              at_finish = λ root words. kept-within (tenant_of step) tenant _ at refl;
+              at_spend = λ s f found. kept-within (tenant_of step) tenant _ at refl;
+              at_cancel = λ number root found. kept-within (tenant_of step) tenant _ at refl;
+              at_leave = λ number leaves b.
+                  let less = total-less (λ t. part b t.reserve) (tenant_of step) before.tenants in let w = within-both before within b in omega (arith, less, w);
+            });
+      })
 
   after-within : (step : StepOf A) (came_to : Result (Outcome I) Refusal) → step_result functions before step ≡ came_to →
       IsReservedWithin (shared_after before step came_to)
   after-within step (Err refusal) is = within
-  after-within step (Ok outcome) is =
-      let both = taken-within step outcome is in
-      let after = with_outcome (tenant_of step) outcome.0 before.tenants in
-      record { segments = omega (arith, both.0, segments-total after); nodes = omega (arith, both.1, nodes-total after) }
+  after-within step (Ok outcome) is = both-within (shared_with before step outcome.0) (taken-within step outcome is)
 
 -- whatever a step is answered, the reservations stay within the totals
 module _ {I A : Type 0} (functions : Functions I A) (before : CoreState) where
@@ -180,12 +138,12 @@ reserved-answers functions before steps answers within = grind arith
 -- the charges are within what is reserved, and so within the total
 charged-reserved : (es : Entries) → AreShaped es → charged_in es ≤ total (λ t. t.reserve.segments) es
 charged-reserved [] all = omega arith
-charged-reserved (e ∷ es) all = let rest = charged-reserved es all.1 in let own = all.0.charged in omega (arith, rest, own)
+charged-reserved (e ∷ es) all = grind (arith, charged-reserved es all.1)
 
 -- all that is charged is within the totals, and what is free is the rest of them
 module _ (shared : CoreState) (all : AreShaped shared.tenants) (within : IsReservedWithin shared) where
   pub covered : IsCovered shared
-  covered = let a = charged-reserved shared.tenants all in let b = within.segments in let c = segments-total shared.tenants in omega (arith, a, b, c)
+  covered = let a = charged-reserved shared.tenants all in let b = within-both shared within true in omega (arith, a, b)
 
   pub free-whole : free_in shared + charged_in shared.tenants ≡ shared.totals.segments
   free-whole = let c : charged_in shared.tenants ≤ shared.totals.segments = covered in omega (arith, c)

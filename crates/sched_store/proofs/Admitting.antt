@@ -7,7 +7,7 @@ use Rattle.sched_store.proofs.Common.{owner_of_jobs, jobs_of, is_there, Parts, t
 use Rattle.sched_store.proofs.Common.{cases_eq, ne_eqb, lt-ltb, CoreState, is_full, reservations_in, tenant_in}
 use Rattle.sched_store.proofs.Common.{reserved_by, is_beyond, account_of, fresh, with_new, raised_to, IsStored, IsAccountFor}
 use Rattle.sched_store.proofs.Common.{AreAtMost, Reservations, IsSoundBook, HasRoom, Admits}
-use Rattle.sched_store.proofs.Common.{KeepsOtherAccounts, HasRoomFor, CanRaise, Raises, empty_of}
+use Rattle.sched_store.proofs.Common.{KeepsOtherAccounts, HasRoomFor, Raises, empty_of}
 use Rattle.numbered_list.proofs.Edits.{said-inserted-own, said-inserted-other}
 use Rattle.sched_store.proofs.Lookups.{its-account, nobodys, within-reserve, Frames, Trees, Owns, Entries, reservations-found, tenant-found, length-numbers, numbers-inserted, no-job_list}
 use Rattle.std.proofs.lemmas.List.Folds.{sum_by-replicate}
@@ -134,10 +134,6 @@ pub record CanBeRaised (parts : Parts) (number : ℕ) (quota : Quota) : Type 0 w
 pub can-be-raised : {parts : Parts} (number : ℕ) (quota : Quota) {core : CoreState} → IsStored parts → shared_of parts ≡ core → IsAboveOwn (tenant_in core.tenants number) quota →
     is_beyond (reservations_in core) (reserved_by (tenant_in core.tenants number)) quota ≡ false → CanBeRaised parts number quota
 can-be-raised {parts} number quota stored is own_above own_room = grind (arith, tenant-found, reservations-found, within-reserve)
-
--- so the book allows it
-pub book-raises : {parts : Parts} {number : ℕ} {quota : Quota} → CanBeRaised parts number quota → CanRaise parts.book number quota
-book-raises can = rw can.there (can.above, can.room)
 
 -- what was told by the table and the book
 pub record IsRaised (parts : Parts) (trees : Trees) (book : Reservations) (number : ℕ) (quota : Quota) : Type 0 where

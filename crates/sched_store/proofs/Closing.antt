@@ -1,14 +1,15 @@
 -- Some frames of one tenant are removed, and their nodes closed: frames and nodes still belong to one another, one to one.
-use Rattle.std.proofs.Common.{◌≡◌, ◌≢◌, ℕ, zero, suc, ◌<◌, ◌⊎◌, inl, inr, Bool, true, false, not, eqb, List, [], ◌∷◌, length, get_or, Option, Some, None, IsSome, Contains, refl, ap, sym, ◌∙◌, subst, arith, ◌+◌, sum_by, All, AllPairs}
-use Rattle.sched_store.proofs.Common.{filter, FrameId, frames_of, sum_by-cons, charged_for, get_or_default, with_words_of_nodes, frame_at-stays, filter-found}
-use Rattle.sched_store.proofs.Common.{AreSerialsRising, Each, AllAboveSerial, map_value, cases_Bool, there-found}
+use Rattle.std.proofs.Common.{◌≡◌, ◌≢◌, ℕ, suc, ◌⊎◌, inl, inr, Bool, true, false, not, eqb, List, [], ◌∷◌, Option, Some, None, IsSome, Contains, refl, ap, sym, ◌∙◌, subst, arith, ◌+◌, sum_by, All, AllPairs}
+use Rattle.sched_store.proofs.Common.{filter, FrameId, frames_of, sum_by-cons, charged_for, with_words_of_nodes, frame_at-stays, filter-found}
+use Rattle.sched_store.proofs.Common.{AreSerialsRising, Each, AllAboveSerial, map_value, cases_Bool, there-found, found-there, above-missing, eq-eqb}
 use Rattle.sched_store.proofs.Common.{tree-rising, found-each, under-there, Frame, frame_at, has_frame, parent_of, values_of, IsTree}
 use Rattle.sched_store.proofs.Common.{frame_in_trees, node_of, node_above, IsFrameNode, HasFrame, AreFramesNodes, ArePlaces}
-use Rattle.cactus_stack.specs.Nodes.{Nodes, Node, IsOpen, node_at, node_words, words_of_node, parent_of_node as parent_at, without, charge_of, node_parent, total_charge, HasAllChildren}
+use Rattle.cactus_stack.specs.Nodes.{Nodes, IsOpen, node_at, node_words, words_of_node, without, charge_of, node_parent, total_charge, HasAllChildren}
 use Rattle.cactus_stack.proofs.LawFacts.{gone, kept, still-none, charge-without}
 use Rattle.sched_store.proofs.Words.{charge-words, with_words_of_nodes-same}
 use Rattle.sched_store.proofs.States.{charged-cons}
 use Rattle.std.proofs.lemmas.List.Kept.{AllPairs-cons}
+use Rattle.std.proofs.lemmas.List.Elements.{All-cons}
 use Rattle.sched_store.proofs.Lookups.{Frames, Trees}
 
 -- the nodes of the frames that go
@@ -42,27 +43,20 @@ pub record Goes (keep : Frame ℕ → Bool) (frames : Frames) (node : ℕ) : Typ
   pub out : keep frame ≡ false
   pub node_is : frame.value ≡ node
 
--- such a frame, of which something is known
-abbrev pub GoesWith : (Frame ℕ → Bool) → (Frame ℕ → Type 0) → ℕ → Type 0
-GoesWith keep P node = (f : Frame ℕ) × P f × (keep f ≡ false) × (f.value ≡ node)
+-- what holds of the node of each frame that goes holds of each node that is closed
+pub closed-all : (P : ℕ → Type 0) (keep : Frame ℕ → Bool) (frames : Frames) → Each (λ f. keep f ≡ false → P f.value) frames → All P (closed keep frames)
+closed-all P keep [] each = λ i d within. absurd (omega arith)
+closed-all P keep (x ∷ xs) each = elim (cases_Bool (keep x)) [
+  | inl stays ↦ rw stays (closed-all P keep xs each.1)
+  | inr out ↦ rw out (All-cons P x.value (closed keep xs) (each.0 out) (closed-all P keep xs each.1))
+]
 
--- a node that is closed is that of a frame that isn't kept; what holds of each frame holds of that one
-module _ (keep : Frame ℕ → Bool) where
-  first-or-later : (P : Frame ℕ → Type 0) (x : Frame ℕ) (numbers : List ℕ) (node i : ℕ) → P x → keep x ≡ false →
-      ((k : ℕ) → k < length numbers → get_or numbers k node ≡ node → GoesWith keep P node) →
-      i < length (x.value ∷ numbers) → get_or (x.value ∷ numbers) i node ≡ node → GoesWith keep P node
-  first-or-later P x numbers node zero p out later within is = (x, p, out, is)
-  first-or-later P x numbers node (suc i) p out later within is = grind arith
-
-  pub listed-at : (P : Frame ℕ → Type 0) (xs : Frames) (node i : ℕ) → Each P xs → i < length (closed keep xs) → get_or (closed keep xs) i node ≡ node → GoesWith keep P node
-  listed-at P [] node i each within is = absurd (omega arith)
-  listed-at P (x ∷ xs) node i each within is = grind (arith, first-or-later, listed-at P xs node i each.1, listed-at P xs node)
-
-  -- a node among them is that of a frame that goes
-  pub listed-goes : (frames : Frames) (node : ℕ) → AreSerialsRising frames → Contains (closed keep frames) node → Goes keep frames node
-  listed-goes frames node rising among =
-      let P : Frame ℕ → Type 0 = λ f. (s : ℕ) × (frame_at frames s ≡ Some f) in
-      let each : Each P frames = grind (arith, found-each) in grind (arith, listed-at)
+-- so a node among them is that of a frame that goes
+pub listed-goes : (keep : Frame ℕ → Bool) (frames : Frames) (node : ℕ) → AreSerialsRising frames → Contains (closed keep frames) node → Goes keep frames node
+listed-goes keep frames node rising among =
+    let each : Each (λ f. keep f ≡ false → Goes keep frames f.value) frames =
+    found-each (λ f. keep f ≡ false → Goes keep frames f.value) frames rising (λ s f at out. record { serial = s; frame = f; there = at; out = out; node_is = refl }) in
+    subst (λ (n : ℕ). Goes keep frames n) among.2 (closed-all (Goes keep frames) keep frames each among.0 node among.1)
 
 -- what a cut leaves of the trees
 pub record IsCut (trees after : Trees) (number : ℕ) (keep : Frame ℕ → Bool) : Type 0 where
@@ -81,18 +75,8 @@ pub record Stays (nodes : Nodes) (trees : Trees) (number : ℕ) (keep : Frame �
   pub unlisted : Contains (closing trees number keep) frame.value → ⊥
   pub node : node_at (without nodes (closing trees number keep)) frame.value ≡ node_at nodes frame.value
 
-unlisted-here : {nodes : Nodes} {trees : Trees} (number : ℕ) (keep : Frame ℕ → Bool) (owner serial : ℕ) (frame : Frame ℕ) →
-    AreFramesNodes nodes trees → AreSerialsRising (frames_of trees number) → frame_in_trees trees owner serial ≡ Some frame → ((owner ≡ number) → keep frame ≡ true) → Contains (closing trees number keep) frame.value → ⊥
-unlisted-here {trees} number keep owner serial frame belong rising at stays among =
-    let goes = listed-goes keep (frames_of trees number) frame.value rising among in
-    let one = belong.once owner serial number goes.serial frame goes.frame at goes.there (sym goes.node_is) in grind arith
-
 some-first : (xs : Frames) (keep : Frame ℕ → Bool) (p : ℕ) → AreSerialsRising xs → has_frame (filter keep xs) p ≡ true → node_of (frame_at xs p) ≡ node_of (frame_at (filter keep xs) p)
 some-first xs keep p rising there = grind (arith, there-found, filter-found)
-
-still-open : (nodes : Nodes) (numbers : List ℕ) (node : ℕ) (entry : Option Node) → node_at nodes node ≡ entry → IsOpen (without nodes numbers) node → IsSome entry
-still-open nodes numbers node None at is = grind (arith, still-none)
-still-open nodes numbers node (Some found) at is = refl
 
 -- the node of the parent is the same as before
 module _ {trees after : Trees} {number : ℕ} {keep : Frame ℕ → Bool} (is : IsCut trees after number keep)
@@ -126,7 +110,9 @@ module _ {nodes : Nodes} {trees after : Trees} {number : ℕ} {keep : Frame ℕ 
 
       made : frame_in_trees trees owner serial ≡ Some frame → ((owner ≡ number) → keep frame ≡ true) → Stays nodes trees number keep owner serial frame
       made there stays =
-          let not = unlisted-here number keep owner serial frame belong rising there stays in
+          let not : Contains (closing trees number keep) frame.value → ⊥ = λ among. (
+          let goes = listed-goes keep (frames_of trees number) frame.value rising among in
+          let one = belong.once owner serial number goes.serial frame goes.frame there goes.there (sym goes.node_is) in grind (arith, goes, one)) in
           record { there = there; unlisted = not; node = kept nodes (closing trees number keep) frame.value not }
 
   -- frames and open nodes still belong to one another
@@ -150,9 +136,12 @@ module _ {nodes : Nodes} {trees after : Trees} {number : ℕ} {keep : Frame ℕ 
             parent = grind (arith, above-kept);
           }
 
+      was-open : (node : ℕ) → IsOpen (without nodes (closing trees number keep)) node → IsOpen nodes node
+      was-open node open_still = grind (arith, still-none)
+
       no-other : (node : ℕ) → IsOpen (without nodes numbers) node → HasFrame after node
       no-other node open_still =
-          let has = belong.no_other node (still-open nodes numbers node (node_at nodes node) refl open_still) in
+          let has = belong.no_other node (was-open node open_still) in
           elim (stays-or-closed is has.number has.serial has.frame has.there) [
             | inl there ↦ grind arith
             | inr among ↦ grind (arith, gone)
@@ -193,60 +182,39 @@ module _ (nodes : Nodes) (keep : Frame ℕ → Bool) where
         | inr out ↦ grind (arith, took-cons, charge-words, charged-cut xs)
       ]
 
--- the frame of a list under its serial, found in the table
-abbrev pub IsFound : Trees → ℕ → Frame ℕ → Type 0
-IsFound trees number frame = (serial : ℕ) × (frame_in_trees trees number serial ≡ Some frame)
+-- no node is closed twice, where no two frames have one
+later-found : (x : Frame ℕ) (xs : Frames) (s : ℕ) (f : Frame ℕ) → AllAboveSerial x.serial xs → frame_at xs s ≡ Some f → (x.serial ≢ s) × (frame_at (x ∷ xs) s ≡ Some f)
+later-found x xs s f above at = grind (arith, found-there, above-missing)
 
-later-ones : (P : Frame ℕ → Type 0) (low : ℕ) (xs : Frames) → AllAboveSerial low xs → Each P xs → Each (λ f. P f × (low < f.serial)) xs
-later-ones P low [] above each = tt
-later-ones P low (x ∷ xs) above each = ((each.0, above.0), later-ones P low xs above.1 each.1)
-
--- no node is closed twice
-module _ (nodes : Nodes) (trees : Trees) (number : ℕ) (keep : Frame ℕ → Bool) where
-  apart : (x : Frame ℕ) (xs : Frames) → AreFramesNodes nodes trees → IsFound trees number x →
-      Each (λ f. IsFound trees number f × (x.serial < f.serial)) xs → All (◌≢◌ x.value) (closed keep xs)
-  apart x xs belong here each k d within same =
-      let node = get_or (closed keep xs) k d in
-      let at : get_or (closed keep xs) k node ≡ node = get_or_default (closed keep xs) k node d within in
-      let found = listed-at keep (λ f. IsFound trees number f × (x.serial < f.serial)) xs node k each within at in
-      let f : Frame ℕ = found.0 in
-      let one = belong.once number here.0 number found.1.0.0 x f here.1 found.1.0.1 (same ∙ sym found.3) in
-      grind arith
-
-  closed-once : (xs : Frames) → AreFramesNodes nodes trees → AreSerialsRising xs → Each (IsFound trees number) xs → AllPairs ◌≢◌ (closed keep xs)
-  closed-once [] belong rising each = λ i j d low within. absurd (omega arith)
-  closed-once (x ∷ xs) belong rising each =
-      let rest = closed-once xs belong rising.1 each.1 in
-      elim (cases_Bool (keep x)) [
-        | inl stays ↦ rw stays rest
-        | inr out ↦ rw out (AllPairs-cons ◌≢◌ x.value (closed keep xs) (apart x xs belong each.0 (later-ones (IsFound trees number) x.serial xs rising.0 each.1)) rest)
-      ]
-
-all-found : (trees : Trees) (number : ℕ) → IsTree (frames_of trees number) → Each (IsFound trees number) (frames_of trees number)
-all-found trees number tree = grind (arith, found-each, tree-rising)
+closed-once : (keep : Frame ℕ → Bool) (frames : Frames) → AreSerialsRising frames →
+    ((s t : ℕ) (f g : Frame ℕ) → frame_at frames s ≡ Some f → frame_at frames t ≡ Some g → f.value ≡ g.value → s ≡ t) → AllPairs ◌≢◌ (closed keep frames)
+closed-once keep [] rising once = λ i j d low within. absurd (omega arith)
+closed-once keep (x ∷ xs) rising once =
+    let later = λ (s : ℕ) (f : Frame ℕ) (at : frame_at xs s ≡ Some f). later-found x xs s f rising.0 at in
+    let rest = closed-once keep xs rising.1 (λ s t f g at_s at_t. once s t f g (later s f at_s).1 (later t g at_t).1) in
+    let apart : Each (λ f. keep f ≡ false → x.value ≢ f.value) xs = found-each (λ f. keep f ≡ false → x.value ≢ f.value) xs rising.1
+    (λ s f at out same. (later s f at).0 (once x.serial s x f (rw (eq-eqb x.serial x.serial refl) refl) (later s f at).1 same)) in
+    elim (cases_Bool (keep x)) [
+      | inl stays ↦ rw stays rest
+      | inr out ↦ rw out (AllPairs-cons ◌≢◌ x.value (closed keep xs) (closed-all (◌≢◌ x.value) keep xs apart) rest)
+    ]
 
 -- no node is closed twice
 module _ {nodes : Nodes} {trees : Trees} (number : ℕ) (keep : Frame ℕ → Bool) (belong : AreFramesNodes nodes trees)
     (tree : IsTree (frames_of trees number)) where
   pub closing-once : AllPairs ◌≢◌ (closing trees number keep)
-  closing-once = grind (arith, closed-once, tree-rising, all-found)
+  closing-once =
+      closed-once keep (frames_of trees number) (tree-rising (frames_of trees number) tree) (λ s t f g at_s at_t same. (belong.once number s number t f g at_s at_t same).1)
 
   -- each is open
   pub closing-open : All (IsOpen nodes) (closing trees number keep)
-  closing-open k d within =
-      let numbers = closing trees number keep in
-      let node = get_or numbers k d in
-      let at : get_or numbers k node ≡ node = get_or_default numbers k node d within in
-      let found = listed-at keep (IsFound trees number) (frames_of trees number) node k (all-found trees number tree) within at in
-      subst (λ (n : ℕ). IsOpen nodes n) found.3 (belong.nodes_of_frames number found.1.0 found.0 found.1.1).is_open
+  closing-open =
+      closed-all (IsOpen nodes) keep (frames_of trees number) (found-each (λ f. keep f ≡ false → IsOpen nodes f.value) (frames_of trees number)
+      (tree-rising (frames_of trees number) tree) (λ s f at out. (belong.nodes_of_frames number s f at).is_open))
 
 -- a cut that takes the children of each frame that goes
 abbrev pub TakesChildren : Frames → (Frame ℕ → Bool) → Type 0
 TakesChildren frames keep = (serial parent : ℕ) (frame above : Frame ℕ) → frame_at frames serial ≡ Some frame → parent_of frame.path ≡ Some parent → frame_at frames parent ≡ Some above → keep above ≡ false → keep frame ≡ false
-
-parent-open : (nodes : Nodes) (child parent : ℕ) (entry : Option Node) → node_at nodes child ≡ entry → parent_at entry ≡ Some parent → IsSome entry
-parent-open nodes child parent None at up = absurd cc
-parent-open nodes child parent (Some node) at up = refl
 
 above-found : (frames : Frames) (parent : Option ℕ) (node : ℕ) → node_above frames parent ≡ Some node → (p : ℕ) × (f : Frame ℕ) × (parent ≡ Some p) × (frame_at frames p ≡ Some f) × (f.value ≡ node)
 above-found frames None node is = absurd cc
@@ -264,7 +232,8 @@ pub record HasUnder (frames : Frames) (serial node : ℕ) : Type 0 where
 pub child-under : {nodes : Nodes} {trees : Trees} → AreFramesNodes nodes trees → (number serial child : ℕ) (above : Frame ℕ) → frame_in_trees trees number serial ≡ Some above → node_parent nodes child ≡ Some above.value →
     HasUnder (frames_of trees number) serial child
 child-under {nodes} {trees} belong number serial child above there up =
-    let has = belong.no_other child (parent-open nodes child above.value (node_at nodes child) refl up) in
+    let child_open : IsOpen nodes child = grind (arith, up) in
+    let has = belong.no_other child child_open in
     let belongs = belong.nodes_of_frames has.number has.serial has.frame has.there in
     let found = above-found (frames_of trees has.number) (parent_of has.frame.path) above.value (sym belongs.parent ∙ ap (node_parent nodes) has.value ∙ up) in grind arith
 

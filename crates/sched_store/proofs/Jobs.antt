@@ -1,7 +1,7 @@
 -- The jobs of one tenant: found by number, begun and ended.
 use Rattle.sched_store.proofs.Common.{◌≡◌, ◌≢◌, ℕ, zero, suc, ◌<◌, ◌≤◌, ◌+◌, ◌-◌, true, false, List, [], ◌∷◌, ◌++◌, length, get_or, drop, Some, None, refl, ap}
-use Rattle.sched_store.proofs.Common.{sym, ◌∙◌, arith, inl, inr, set, cases_Bool, true≢false, ne_eqb, or_parts, or_from, Job, Live}
-use Rattle.sched_store.proofs.Common.{is_live_at, job_at, number_from, job_under, with_ended, is_live, is_live_in, AreLiveOnce, JobListOf}
+use Rattle.sched_store.proofs.Common.{◌∙◌, arith, inl, inr, set, cases_Bool, true≢false, ne_eqb, or_parts, or_from, Job, Live}
+use Rattle.sched_store.proofs.Common.{is_live_at, job_at, number_from, with_ended, is_live, is_live_in, AreLiveOnce, JobListOf}
 use Rattle.sched_store.proofs.Common.{owner_of_jobs, jobs_of, with_jobs, find_by_number, change_by_number}
 use Rattle.std.proofs.Math.Bool.{or-true}
 use Rattle.std.specs.Prelude.{Option, IfSome, IfNone, option_copied}
@@ -17,10 +17,6 @@ Jobs = List Job
 pub job_at-zero : (jobs : Jobs) → job_at jobs 0 ≡ None
 job_at-zero [] = refl
 job_at-zero (job ∷ jobs) = job_at-zero jobs
-
-pub job_at-past : (jobs : Jobs) (number : ℕ) → length jobs < number → job_at jobs number ≡ None
-job_at-past [] number past = refl
-job_at-past (job ∷ jobs) number past = grind (arith, job_at-past jobs (number - 1))
 
 pub job_at-there : (jobs : Jobs) (at : ℕ) (d : Job) → at < length jobs → job_at jobs (suc at) ≡ Some (get_or jobs at d)
 job_at-there [] at d within = absurd (omega arith)
@@ -46,17 +42,13 @@ live-there root (suc at) (job ∷ jobs) d within live = rw (live-there root at j
 pub number_from-there : (first at root : ℕ) (jobs : Jobs) (d : Job) → AreLiveOnce jobs → at < length jobs → is_live_at root (get_or jobs at d) ≡ true → number_from first root jobs ≡ first + at
 number_from-there first at root [] d once within live = absurd (omega arith)
 number_from-there first zero root (job ∷ jobs) d once within live = rw live (omega arith)
-number_from-there first (suc at) root (job ∷ jobs) d once within live =
-    elim (cases_Bool (is_live_at root job)) [
-      | inl first_lives ↦ grind (arith, live-there)
-      | inr other ↦ rw other (number_from-there (first + 1) at root jobs d once.1 (omega arith) live ∙ omega arith)
-    ]
+number_from-there first (suc at) root (job ∷ jobs) d once within live = grind (arith, number_from-there (first + 1) at root jobs d once.1, live-there)
 
 -- none from a place on lives under a root, where none after it does
 pub none-from : (root at : ℕ) (jobs : Jobs) (d : Job) → at < length jobs → is_live_at root (get_or jobs at d) ≡ false → is_live_in root (drop (at + 1) jobs) ≡ false → is_live_in root (drop at jobs) ≡ false
 none-from root at [] d within other none = absurd (omega arith)
 none-from root zero (job ∷ jobs) d within other none = grind arith
-none-from root (suc at) (job ∷ jobs) d within other none = let next : suc at + 1 ≡ suc (at + 1) = omega arith in none-from root at jobs d (omega arith) other (rw next at none)
+none-from root (suc at) (job ∷ jobs) d within other none = grind (arith, none-from root at jobs d)
 
 -- ending a job
 
@@ -102,19 +94,17 @@ live-push : (jobs : Jobs) (root other : ℕ) → root ≢ other → is_live_in o
 live-push [] root other differs none = rw (ne_eqb root other differs) refl
 live-push (job ∷ jobs) root other differs none = grind (arith, or_parts, or_from, live-push jobs root other differs)
 
-once-push : (jobs : Jobs) (root : ℕ) → is_live_in root jobs ≡ false → AreLiveOnce jobs → AreLiveOnce (jobs ++ Live root ∷ [])
+pub once-push : (jobs : Jobs) (root : ℕ) → is_live_in root jobs ≡ false → AreLiveOnce jobs → AreLiveOnce (jobs ++ Live root ∷ [])
 once-push [] root none once = (λ other live. refl, tt)
 once-push (job ∷ jobs) root none once = grind (arith, live-push, true≢false, once-push jobs root)
-
-pub once-begun : (jobs : Jobs) (root : ℕ) → job_under root jobs ≡ 0 → AreLiveOnce jobs → AreLiveOnce (jobs ++ Live root ∷ [])
-once-begun jobs root none once = grind (arith, once-push, none-number_from)
 
 -- the job that was read under its number
 pub job-read : (jobs : Jobs) (number : ℕ) (job : Job) → number ≢ 0 → number - 1 < length jobs → job ≡ get_or jobs (number - 1) job → Some job ≡ job_at jobs number
 job-read jobs number job some within is = grind (arith, job_at-there)
 
 pub job-past : (jobs : Jobs) (number : ℕ) → number ≢ 0 → length jobs ≤ number - 1 → None ≡ job_at jobs number
-job-past jobs number some past = sym (job_at-past jobs number (omega arith))
+job-past [] number some past = refl
+job-past (job ∷ jobs) number some past = grind (arith, job-past jobs (number - 1))
 
 -- A tenant's list of jobs that was found, and what other jobs in it leave.
 
@@ -141,4 +131,4 @@ pub ruleset job_laws = (job_at-zero, job-read, job-past)
 
 pub ruleset under_laws = (number_from-there, none-from, number_from-none, drop_all)
 
-pub ruleset begun_laws = (once-begun)
+pub ruleset begun_laws = (once-push, none-number_from)

@@ -8,8 +8,8 @@ use Rattle.tenant_quota.specs.Accounts.{without as without_account, AllEntries, 
 use Rattle.numbered_list.proofs.Edits.{said-without-other, all-without}
 use Rattle.sched_store.proofs.Steps.{SameOthers}
 use Rattle.sched_store.proofs.Lookups.{its-account, within-reserve, Frames, Trees, tree_in, Owns, numbers-without}
-use Rattle.sched_store.proofs.Closing.{IsCut, closed, closing, cut-belongs, cut-places, cut-words, cut-trees, TakesChildren, closing-open, closing-once, closing-children, cut-frees}
-use Rattle.sched_store.proofs.Removing.{length-without, AreClosable}
+use Rattle.sched_store.proofs.Closing.{IsCut, closed, closing, cut-belongs, cut-places, cut-words, cut-trees, TakesChildren, cut-frees}
+use Rattle.sched_store.proofs.Removing.{length-without, AreClosable, cut-closes}
 
 -- no frame stays
 abbrev pub none_stays : Frame ℕ → Bool
@@ -30,14 +30,8 @@ has-places {parts} stored number {account} there = grind (arith, within-reserve)
 -- the nodes of all frames of a tenant: open, once, with their children
 pub leave-closes : {parts : Parts} (number : ℕ) (numbers : List ℕ) → IsStored parts → numbers ≡ values_of (frames_of parts.trees number) → AreClosable parts.nodes numbers
 leave-closes {parts} number numbers stored is =
-    let tree = stored.forest number in
     let same : closing parts.trees number none_stays ≡ numbers = grind (arith, closed-whole) in
-    let takes : TakesChildren (frames_of parts.trees number) none_stays = grind arith in
-    subst (AreClosable parts.nodes) same (record {
-      are_open = grind (arith, closing-open);
-      once = grind (arith, closing-once);
-      with_children = closing-children number none_stays stored.frames_nodes tree takes;
-    })
+    let takes : TakesChildren (frames_of parts.trees number) none_stays = grind arith in cut-closes number none_stays numbers stored takes same
 
 -- what a departure was told by the table, the stack, the lists of jobs and the book
 pub record IsDeparture (parts : Parts) (nodes : Nodes) (trees : Trees) (job_lists : List JobListOf) (book : Reservations) (number : ℕ) (numbers : List ℕ) (account : Account) : Type 0 where
@@ -57,9 +51,6 @@ pub record IsDeparture (parts : Parts) (nodes : Nodes) (trees : Trees) (job_list
 -- the parts after it
 abbrev pub departed : Parts → Nodes → Trees → List JobListOf → Reservations → Parts
 departed parts nodes trees job_lists book = record parts { nodes = nodes; trees = trees; job_lists = job_lists; book = book }
-
-closed-same : (parts : Parts) (nodes : Nodes) (number : ℕ) (numbers : List ℕ) → numbers ≡ values_of (frames_of parts.trees number) → nodes ≡ without parts.nodes numbers → without parts.nodes (closing parts.trees number none_stays) ≡ nodes
-closed-same parts nodes number numbers values closed_all = grind (arith, closed-whole)
 
 -- the tenants of accounts above the one that leaves
 module _ (parts after : Parts) (number : ℕ) where
@@ -86,11 +77,15 @@ module _ {parts : Parts} {nodes : Nodes} {trees : Trees} {job_lists : List JobLi
   leave-cut : IsCut parts.trees trees number none_stays
   leave-cut = grind (arith, filter-none)
 
+  -- the nodes that stay
+  left-nodes : without parts.nodes (closing parts.trees number none_stays) ≡ nodes
+  left-nodes = grind (arith, closed-whole)
+
   -- another tenant's words
   leave-words : (other : ℕ) → other ≢ number → with_words_of_nodes nodes (frames_of trees other) ≡ tree_in parts other
   leave-words other differs =
       let cut = leave-cut in
-      ap (λ (n : Nodes). with_words_of_nodes n (frames_of trees other)) (sym (closed-same parts nodes number numbers is.values is.closed_all))
+      ap (λ (n : Nodes). with_words_of_nodes n (frames_of trees other)) (sym left-nodes)
       ∙ cut-words stored.frames_nodes cut other (cut-trees cut other)
       ∙ ap (with_words_of_nodes parts.nodes) (is.other_frames other differs)
 
@@ -98,7 +93,7 @@ module _ {parts : Parts} {nodes : Nodes} {trees : Trees} {job_lists : List JobLi
   leave-charges =
       let frees = cut-frees number none_stays stored.frames_nodes (stored.forest number) in
       let none : charged_for (with_words_of_nodes parts.nodes (filter none_stays (frames_of parts.trees number))) ≡ 0 = grind (arith, filter-none) in
-      let same = ap total_charge (closed-same parts nodes number numbers is.values is.closed_all) in
+      let same = ap total_charge left-nodes in
       let charged = IsAccountFor.charged (its-account stored number is.there) in
       omega (arith, frees, none, same, charged, stored.charges, is.released.charged)
 
@@ -106,7 +101,7 @@ module _ {parts : Parts} {nodes : Nodes} {trees : Trees} {job_lists : List JobLi
   pub leave-stored : IsStored (departed parts nodes trees job_lists book)
   leave-stored =
       let cut = leave-cut in
-      let same = closed-same parts nodes number numbers is.values is.closed_all in
+      let same = left-nodes in
       let tenants = stored.tenants in
       let fewer = is.count in
       let left = is.released.tenants in

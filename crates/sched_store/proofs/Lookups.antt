@@ -1,14 +1,14 @@
 -- What is found in the core that a store stands for: tenants, jobs, frames and what they see.
-use Rattle.std.proofs.Common.{◌≡◌, ℕ, ◌<◌, eqb, List, [], ◌∷◌, Some, None, ◌⊎◌, refl, subst, arith, inl, inr, suc, true, false, length, ap, sym, ◌≤◌, ◌+◌, Option, IfSome, is_some, option_map, option_and_then, ltb, IsSome}
-use Rattle.sched_store.proofs.Common.{cases_Bool, eq-eqb, eqb-true}
+use Rattle.std.proofs.Common.{◌≡◌, ℕ, ◌<◌, List, [], ◌∷◌, Some, None, ◌⊎◌, refl, subst, arith, inl, inr, suc, true, false, length, ap, sym, ◌≤◌, ◌+◌, Option, IfSome, is_some, option_map, option_and_then, IsSome}
+use Rattle.sched_store.proofs.Common.{eq-eqb, eqb-true}
 use Rattle.sched_store.proofs.Common.{account_of, AllEntries, IsRising, charged_segments, Account, has_by_number, change_by_number}
 use Rattle.sched_store.proofs.Common.{remove_by_number, inserted, JobListOf, owner_of_jobs, numbers_by, numbers_of, is_there, jobs_of, numbers_in, IsStored}
 use Rattle.sched_store.proofs.Common.{frame_in_trees, AreAtMost, node_above, sum_by-cons, node_words, total_charge, Nodes, IsOpen, IsSight, Left}
-use Rattle.sched_store.proofs.Common.{left_in_book, Reservations, IsSoundBook, unreserved_of, FrameId, frame_at, Frame, has_frame, parent_of, name_of}
+use Rattle.sched_store.proofs.Common.{left_in_book, Reservations, FrameId, frame_at, Frame, has_frame, parent_of, name_of}
 use Rattle.sched_store.proofs.Common.{entry_of_frame, newest_ready_of, IsTree, map_value, frames_of, Tenant, Tree, TenantTree, charged_for}
 use Rattle.sched_store.proofs.Common.{account_in, job_at, sight, words_in, tenant_in, accounts_in, charged_in, reservations_in, is_full, is_beyond, Parts}
 use Rattle.sched_store.proofs.Common.{with_words_of_nodes, tenant_from, tenants_from, shared_of, tree_of, frames_in_core, jobs_in, AreAfter}
-use Rattle.sched_store.proofs.Common.{AreTenantsRising, IsAccountFor, places_of, CoreState, AreRising, sight_of, Quota, Entry, found-there, IsTop, IsUnder, tree-induction, found-serial}
+use Rattle.sched_store.proofs.Common.{AreTenantsRising, IsAccountFor, places_of, CoreState, AreRising, sight_of, Quota, Entry, found-there, tree-induction, found-serial}
 use Rattle.sched_store.proofs.Common.{AllEntries-of, IsWithinReserve, reverse-append, map-append, Each, found-each, tree-rising}
 use Rattle.numbered_list.specs.Places.{AreAbove}
 use Rattle.numbered_list.proofs.Edits.{said-lacks, has-above, has-found, lacks-said}
@@ -16,7 +16,6 @@ use Rattle.tenant_quota.proofs.Places.{entry-of}
 use Rattle.frame_table.proofs.TreeValues.{frame_at-map_values, tree-map_values}
 use Rattle.sched_rules.specs.Headline.{AreNumbersTaken, AreNumbersGiven}
 use Rattle.sched_rules.specs.Views.{left_in_core, job_of, named, free_in, frame_in_core, newest_ready_in}
-use Rattle.tenant_quota.specs.declared.book.Rest.{Rest}
 use Rattle.cactus_stack.proofs.LawFacts.{one-sight}
 
 abbrev pub Entries : Type 0
@@ -67,14 +66,7 @@ pub lower-missing : (number : ℕ) (entries : List (ℕ × Account)) → AllEntr
 lower-missing number entries all = grind (arith, said-lacks, has-above)
 
 pub account-tail : (number : ℕ) (account : Account) (entry : ℕ × Account) (entries : List (ℕ × Account)) → IsRising (entry ∷ entries) → account_of number entries ≡ Some account → account_of number (entry ∷ entries) ≡ Some account
-account-tail number account entry entries rising there =
-    elim (cases_Bool (eqb entry.0 number)) [
-      | inl same ↦
-          (let e = eqb-true entry.0 number same in
-          let P : ℕ → Type 0 = λ n. account_of n entries ≡ None in
-          let gone : account_of number entries ≡ None = subst P e (lower-missing entry.0 entries rising.0) in absurd (cc (gone, there)))
-      | inr other ↦ rw other there
-    ]
+account-tail number account entry entries rising there = let none = lower-missing entry.0 entries rising.0 in grind (arith, none, eqb-true)
 
 pub each-entry : (P : ℕ → Account → Type 0) (entries : List (ℕ × Account)) → IsRising entries → ((number : ℕ) (account : Account) → account_of number entries ≡ Some account → P number account) → AllEntries (λ entry. P entry.0 entry.1) entries
 each-entry P [] rising all = tt
@@ -168,9 +160,6 @@ module _ {parts : Parts} (stored : IsStored parts) where
 
   -- its account is the book's
 
-  pub account-found : (number : ℕ) {account : Account} → Owns parts number account → account_in (tenant_from parts number account) ≡ account
-  account-found number {account} is = grind arith
-
   pub within-reserve : (number : ℕ) {account : Account} → Owns parts number account → IsWithinReserve account
   within-reserve number {account} is = grind (arith, AllEntries-of)
 
@@ -183,7 +172,7 @@ ChargesFrames parts number account = account_in (tenant_from parts number accoun
 -- the accounts that the core shows are the book's
 module _ (parts : Parts) where
   all-charged : IsStored parts → AllEntries (λ entry. ChargesFrames parts entry.0 entry.1) parts.book.accounts
-  all-charged stored = each-entry (ChargesFrames parts) parts.book.accounts stored.book.rising (λ number account is. account-found stored number is)
+  all-charged stored = each-entry (ChargesFrames parts) parts.book.accounts stored.book.rising (λ number account is. grind arith)
 
   accounts_in-tenants_from : (entries : Entries) → AllEntries (λ entry. ChargesFrames parts entry.0 entry.1) entries → accounts_in (tenants_from parts entries) ≡ entries
   accounts_in-tenants_from [] all = refl
@@ -234,26 +223,13 @@ job-kept core number job = grind arith
 
 pub ruleset job_reads = (job-kept)
 
--- Whether a reservation has room, from what isn't reserved yet.
+-- whether a reservation has room, and whether a raise is beyond the totals, is what the book says
+module _ (parts : Parts) (stored : IsStored parts) where
+  pub full-found : (quota : Quota) → is_full parts.book quota ≡ is_full (reservations_in (shared_of parts)) quota
+  full-found quota = ap (λ (book : Reservations). is_full book quota) (sym (reservations-found parts stored))
 
--- a reservation for which tenants, segments or nodes are wanting finds the book full
-module _ (book : Reservations) (rest : Rest) (quota : Quota) where
-  pub full-tenants : rest ≡ unreserved_of book → rest.tenants ≡ 0 → true ≡ is_full book quota
-  full-tenants is none = grind arith
-
-  pub full-segments : (segments : ℕ) → IsSoundBook book → rest ≡ unreserved_of book → segments ≡ quota.segments → rest.segments < segments → true ≡ is_full book quota
-  full-segments segments sound is same short = grind arith
-
-  pub full-nodes : (segments nodes : ℕ) → IsSoundBook book → rest ≡ unreserved_of book → segments ≡ quota.segments → nodes ≡ quota.nodes → (rest.tenants ≡ 0 → ⊥) → segments ≤ rest.segments → ltb rest.nodes nodes ≡ is_full book quota
-  full-nodes segments nodes sound is same same_nodes some enough = grind arith
-
--- and a raise for which segments or nodes are wanting is beyond the totals
-module _ (book : Reservations) (rest : Rest) (own quota : Quota) (sound : IsSoundBook book) (is : rest ≡ unreserved_of book) where
-  pub beyond-segments : rest.segments + own.segments < quota.segments → true ≡ is_beyond book own quota
-  beyond-segments short = grind arith
-
-  pub beyond-nodes : quota.segments ≤ rest.segments + own.segments → ltb (rest.nodes + own.nodes) quota.nodes ≡ is_beyond book own quota
-  beyond-nodes enough = grind arith
+  pub beyond-found : (own quota : Quota) → is_beyond parts.book own quota ≡ is_beyond (reservations_in (shared_of parts)) own quota
+  beyond-found own quota = ap (λ (book : Reservations). is_beyond book own quota) (sym (reservations-found parts stored))
 
 -- What is asked of frames with words is what is asked of the table's frames.
 
@@ -329,15 +305,10 @@ module _ {parts : Parts} (stored : IsStored parts) (number : ℕ) where
       let belongs = stored.frames_nodes.nodes_of_frames number serial frame at in
       rw whole (belongs.is_open, rw (found-serial (frames_of parts.trees number) serial frame at) (sym (words-at parts number serial frame at)), rw belongs.parent above)
 
-  top-sees : (frame : Frame ℕ) → IsTop frame → Sees parts number frame
-  top-sees frame top serial at = grind (arith, sees-first)
-
-  under-sees : (frame : Frame ℕ) → (u : IsUnder (frames_of parts.trees number) frame) → Sees parts number u.above → Sees parts number frame
-  under-sees frame u above_sees serial at = grind (arith, sees-first, map-append, reverse-append)
-
   sees : (serial : ℕ) (frame : Frame ℕ) → frame_in_trees parts.trees number serial ≡ Some frame → IsSight parts.nodes (Some frame.value) (sight (tree_in parts number) frame.path)
   sees serial frame at =
-      tree-induction (Sees parts number) (frames_of parts.trees number) (stored.forest number) top-sees under-sees serial frame at serial at
+      tree-induction (Sees parts number) (frames_of parts.trees number) (stored.forest number)
+      (λ f top s at_s. grind (arith, sees-first)) (λ f u above_sees s at_s. grind (arith, sees-first, map-append, reverse-append)) serial frame at serial at
 
 -- so what the stack shows is what the frame sees
 module _ {parts : Parts} (stored : IsStored parts) (name : FrameId) where

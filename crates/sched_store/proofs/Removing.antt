@@ -1,21 +1,21 @@
 -- Frames of one tenant are removed, their nodes closed and their segments given back: what the store keeps true stays so.
-use Rattle.std.proofs.Common.{◌≡◌, ◌≢◌, ℕ, ◌+◌, Bool, List, [], ◌∷◌, length, Some, None, refl, ap, sym, ◌∙◌, subst, arith, ◌≤◌, inl, inr, true, false, not, eqb, Option, ◌-◌, IsSome, All, AllPairs, ◌<◌, IsTrue, is_some}
+use Rattle.std.proofs.Common.{◌≡◌, ◌≢◌, ℕ, ◌+◌, Bool, List, [], ◌∷◌, length, Some, None, refl, ap, ◌∙◌, subst, arith, ◌≤◌, inl, inr, true, false, not, eqb, Option, ◌-◌, IsSome, All, AllPairs, ◌<◌, IsTrue, is_some}
 use Rattle.sched_store.proofs.Common.{filter, length-set, length-append, Nodes, with_node, without, total_charge, HasNoChild, node_words}
 use Rattle.sched_store.proofs.Common.{IsOpen, HasAllChildren, credited_by, charged_segments, Reservations, IsSoundBook, ChangesOnly}
 use Rattle.sched_store.proofs.Common.{HasChargedAtLeast, Account, Frame, frame_at, parent_of, children_of}
-use Rattle.sched_store.proofs.Common.{frames_without, HasValue, goes_under, aborted, frames_under, values_of, IsTree, path_in}
-use Rattle.sched_store.proofs.Common.{name_of, frames_of, KeepsOtherFrames, AllBelow-filter, tree-without, frame_at-stays, tree-aborted, child-further-under}
+use Rattle.sched_store.proofs.Common.{HasValue, goes_under, frames_under, values_of, IsTree, path_in}
+use Rattle.sched_store.proofs.Common.{frames_of, KeepsOtherFrames, AllBelow-filter, frame_at-stays, child-further-under}
 use Rattle.sched_store.proofs.Common.{Tenant, charged_for, has_child, is_root, Parts, with_words_of_nodes, shared_of}
 use Rattle.sched_store.proofs.Common.{IsStored, eqb-true, ne_eqb}
 use Rattle.sched_store.proofs.Common.{FrameId, map_values, is_child_of, AllAboveSerial, AreSerialsRising, tree-rising}
-use Rattle.sched_store.proofs.Common.{children-by-paths, found-path, placed, IsPlaced, frames_in_core, path_of, words_under, Entry}
+use Rattle.sched_store.proofs.Common.{children-by-paths, found-path, placed, IsPlaced, frames_in_core, path_of, Entry}
 use Rattle.sched_store.proofs.Closing.{IsCut, closing, cut-belongs, cut-places, cut-words, cut-trees, cut-frees, closed, child-under, TakesChildren, closing-open, closing-once, closing-children}
 use Rattle.sched_store.proofs.States.{frame-account}
 use Rattle.sched_store.proofs.Steps.{TenantStep, Stepped, stepped, other-tenants, length-with_words_of_nodes}
-use Rattle.frame_table.proofs.TreeValues.{frames_without-map_values, children_of-map_values, aborted-map_values, frames_under-map_values}
-use Rattle.sched_store.proofs.Lookups.{Frames, Trees, family, there-frame, framed, tree_in, entry_in, Owns, its-account, frames-found, named-found, found, nothing-found}
+use Rattle.frame_table.proofs.TreeValues.{children_of-map_values, frames_under-map_values}
+use Rattle.sched_store.proofs.Lookups.{Frames, Trees, family, there-frame, framed, tree_in, entry_in, Owns, its-account, frames-found, named-found, found}
 use Rattle.cactus_stack.proofs.LawFacts.{charge-without}
-use Rattle.sched_rules.specs.Views.{named, words_of_frame}
+use Rattle.sched_rules.specs.Views.{named}
 use Rattle.std.specs.Option.{is_none}
 
 pub length-without : (nodes : Nodes) (numbers : List ℕ) → length (without nodes numbers) ≡ length nodes
@@ -50,10 +50,6 @@ pub closing-one : (serial : ℕ) (xs : Frames) (frame : Frame ℕ) → AreSerial
 closing-one serial [] frame rising at = absurd cc
 closing-one serial (x ∷ xs) frame rising at = grind (arith, eqb-true, nothing-above, closing-one serial xs frame)
 
-pub has-value : (o : Option (Frame ℕ)) (node : ℕ) → HasValue o node → (f : Frame ℕ) × (o ≡ Some f) × (f.value ≡ node)
-has-value None node is = absurd is
-has-value (Some f) node is = (f, refl, is)
-
 module _ {parts : Parts} (stored : IsStored parts) (name : FrameId) where
   -- a frame without a child in the core has none in the table
   pub no-children : has_child (frames_in_core (shared_of parts) name.tenant) name.serial ≡ false → children_of (family parts name) name.serial ≡ []
@@ -64,25 +60,26 @@ module _ {parts : Parts} (stored : IsStored parts) (name : FrameId) where
       empty (x ∷ xs) is = absurd (omega arith)
 
   -- so no open node has its node as a parent
-  pub leaf-node : (frame : Frame ℕ) → framed parts name ≡ Some frame → children_of (family parts name) name.serial ≡ [] → HasNoChild parts.nodes frame.value
+  leaf-node : (frame : Frame ℕ) → framed parts name ≡ Some frame → children_of (family parts name) name.serial ≡ [] → HasNoChild parts.nodes frame.value
   leaf-node frame at leaf child up =
       let F = family parts name in
       let c = child-under stored.frames_nodes name.tenant name.serial child frame at up in
       let is_child : is_child_of name.serial c.frame.path ≡ true = grind arith in
       let found = frame_at-stays (λ (f : Frame ℕ). is_child_of name.serial f.path) F c.at c.frame (tree-rising F (stored.forest name.tenant)) c.there is_child in grind (arith, children-by-paths)
 
+  -- and it is open
+  pub leaf-closes : (node : ℕ) → HasValue (framed parts name) node → children_of (family parts name) name.serial ≡ [] →
+      IsOpen parts.nodes node × HasNoChild parts.nodes node
+  leaf-closes node value leaf = by (framed parts name) refl value
+    where
+      by : (o : Option (Frame ℕ)) → framed parts name ≡ o → HasValue o node → IsOpen parts.nodes node × HasNoChild parts.nodes node
+      by None at is = absurd is
+      by (Some f) at is = rw (← is) ((stored.frames_nodes.nodes_of_frames name.tenant name.serial f at).is_open, leaf-node f at leaf)
+
   -- the node that a removal closes is that of the frame that goes
   pub leaf-gone : (nodes : Nodes) (node : ℕ) → HasValue (framed parts name) node → nodes ≡ with_node parts.nodes node None →
       without parts.nodes (closing parts.trees name.tenant (others_stay name.serial)) ≡ nodes
   leaf-gone nodes node value closed_one = grind (arith, closing-one, tree-rising)
-
-  -- the cut that it makes
-  pub leaf-cut : (trees : Trees) → children_of (family parts name) name.serial ≡ [] →
-      frames_of trees name.tenant ≡ frames_without name.serial (family parts name) → KeepsOtherFrames parts.trees trees name.tenant → IsCut parts.trees trees name.tenant (others_stay name.serial)
-  leaf-cut trees leaf frames keeps = grind (arith, tree-without)
-
-pub leaf-words : (parts : Parts) (name : FrameId) → with_words_of_nodes parts.nodes (filter (others_stay name.serial) (family parts name)) ≡ frames_without name.serial (tree_in parts name.tenant)
-leaf-words parts name = grind (arith, frames_without-map_values)
 
 -- An abort at a frame: the frames under it go, with their nodes and what they were charged.
 
@@ -98,11 +95,6 @@ module _ {parts : Parts} (stored : IsStored parts) (name : FrameId) (some : IsSo
   pub is-there : IsThere parts name
   is-there = grind (arith, there-frame, frame-account)
 
--- what a list of nodes gives back, from what was free before and is free then
-pub freed-is : (nodes : Nodes) (numbers : List ℕ) (before later : ℕ) → AllPairs ◌≢◌ numbers → length (without nodes numbers) ≡ length nodes → before + total_charge nodes ≡ length nodes → later + total_charge (without nodes numbers) ≡ length (without nodes numbers) →
-    (before ≤ later) × (total_charge (without nodes numbers) + (later - before) ≡ total_charge nodes)
-freed-is nodes numbers before later once long was is = grind (arith, charge-without)
-
 -- no less is free, it is what the nodes of the frames that don't stay gave back, and the tenant was charged as much
 pub record AreFreed (parts : Parts) (name : FrameId) (stay : Frame ℕ → Bool) (before later : ℕ) : Type 0 where
   pub more : before ≤ later
@@ -117,7 +109,9 @@ nodes-free {parts} name stay before later stored some gone was_free is_free =
     let long = length-without parts.nodes numbers in
     let free : later + total_charge (without parts.nodes numbers) ≡ length (without parts.nodes numbers) = grind arith in
     let once = closing-once name.tenant stay stored.frames_nodes (stored.forest name.tenant) in
-    let freed = freed-is parts.nodes numbers before later once long was_free free in
+    let charge = charge-without parts.nodes numbers once in
+    let more : before ≤ later = omega (arith, charge, long, was_free, free) in
+    let frees : total_charge (without parts.nodes numbers) + (later - before) ≡ total_charge parts.nodes = omega (arith, charge, long, was_free, free) in
     let there = is-there stored name some in grind (arith, can-give-back)
 
 -- what the table, the stack and the book told of frames that went
@@ -203,29 +197,26 @@ pub record AreClosable (nodes : Nodes) (numbers : List ℕ) : Type 0 where
   pub once : AllPairs ◌≢◌ numbers
   pub with_children : HasAllChildren nodes numbers
 
+-- a cut that takes the children of each frame that goes closes such nodes
+pub cut-closes : {parts : Parts} (number : ℕ) (keep : Frame ℕ → Bool) (numbers : List ℕ) → IsStored parts → TakesChildren (frames_of parts.trees number) keep →
+    closing parts.trees number keep ≡ numbers → AreClosable parts.nodes numbers
+cut-closes {parts} number keep numbers stored takes same =
+    let tree = stored.forest number in
+    subst (AreClosable parts.nodes) same (record {
+      are_open = closing-open number keep stored.frames_nodes tree;
+      once = closing-once number keep stored.frames_nodes tree;
+      with_children = closing-children number keep stored.frames_nodes tree takes;
+    })
+
 -- they are those of the frames that go
 pub abort-gone : (parts : Parts) (nodes : Nodes) (name : FrameId) (numbers : List ℕ) → numbers ≡ values_of (frames_under name.serial (family parts name)) → nodes ≡ without parts.nodes numbers →
     without parts.nodes (closing parts.trees name.tenant (stays name.serial)) ≡ nodes
 abort-gone parts nodes name numbers values closed_all = grind arith
 
-pub abort-words : (parts : Parts) (name : FrameId) → with_words_of_nodes parts.nodes (filter (stays name.serial) (family parts name)) ≡ aborted name.serial (tree_in parts name.tenant)
-abort-words parts name = grind (arith, aborted-map_values)
-
 module _ {parts : Parts} (stored : IsStored parts) (name : FrameId) where
-  -- the cut that an abort makes
-  pub abort-cut : (trees : Trees) → frames_of trees name.tenant ≡ aborted name.serial (family parts name) → KeepsOtherFrames parts.trees trees name.tenant →
-      IsCut parts.trees trees name.tenant (stays name.serial)
-  abort-cut trees frames keeps = grind (arith, tree-aborted)
-
   pub abort-closes : (numbers : List ℕ) → numbers ≡ values_of (frames_under name.serial (family parts name)) → AreClosable parts.nodes numbers
   abort-closes numbers is =
-      let tree = stored.forest name.tenant in
-      let same : closing parts.trees name.tenant (stays name.serial) ≡ numbers = grind arith in
-      subst (AreClosable parts.nodes) same (record {
-        are_open = grind (arith, closing-open);
-        once = grind (arith, closing-once);
-        with_children = closing-children name.tenant (stays name.serial) stored.frames_nodes tree (takes-under name.serial (family parts name) tree);
-      })
+      cut-closes name.tenant (stays name.serial) numbers stored (takes-under name.serial (family parts name) (stored.forest name.tenant)) grind arith
 
   -- as many go as are under the frame
   pub abort-count : (numbers : List ℕ) → numbers ≡ values_of (frames_under name.serial (family parts name)) →
@@ -238,29 +229,10 @@ module _ {parts : Parts} (stored : IsStored parts) (name : FrameId) where
 
 -- What a frame's words are, seen through its node.
 
--- the words of an entry are those that the core shows
-module _ {parts : Parts} (stored : IsStored parts) (name : FrameId) {entry : Entry ℕ} {words : List ℕ}
-    (is : Some entry ≡ entry_in parts name) (own : words ≡ node_words parts.nodes entry.value) where
-  pub words-shown : Some words ≡ words_of_frame (shared_of parts) name
-  words-shown =
-      let f = found stored name is in grind arith
-
-  pub own-words-shown : words ≡ words_under (shared_of parts) name
-  own-words-shown =
-      let f = found stored name is in grind arith
-
--- where there is no entry, the core shows no words
 module _ {parts : Parts} (stored : IsStored parts) (name : FrameId) where
-  pub no-words-shown : None ≡ entry_in parts name → None ≡ words_of_frame (shared_of parts) name
-  no-words-shown is = grind (arith, nothing-found)
-
   -- the path of a frame that is there
   pub path-shown : IsSome (named (shared_of parts) name) → path_of (named (shared_of parts) name) ≡ path_in (family parts name) name.serial
   path-shown some = grind (arith, named-found, found-path)
-
-nobody-above : (tenant : ℕ) (parent : Option ℕ) → is_none (name_of tenant parent) ≡ is_none parent
-nobody-above tenant None = refl
-nobody-above tenant (Some parent) = refl
 
 some-length : (frames : Frames) (frame : Frame ℕ) → IsPlaced frames frame → 1 ≤ length frame.path
 some-length frames frame (inl top) = grind arith
@@ -273,21 +245,15 @@ root-by-length frames frame tree (inr under) =
     let above = some-length frames under.above (placed frames under.parent under.above tree under.there) in
     let long = ap length under.path ∙ length-append under.above.path (frame.serial ∷ []) in grind arith
 
--- an entry has no parent exactly where the core's frame is a root
+-- an entry has a parent exactly where the core's frame is no root
 module _ {parts : Parts} (stored : IsStored parts) (name : FrameId) {entry : Entry ℕ}
     (is : Some entry ≡ entry_in parts name) where
-  pub root-shown : is_none entry.parent ≡ is_root (path_of (named (shared_of parts) name))
-  root-shown =
+  pub child-or-root : is_some entry.parent ≡ not (is_root (path_of (named (shared_of parts) name)))
+  child-or-root =
       let f = found stored name is in
       let F = family parts name in
-      let parent : entry.parent ≡ name_of name.tenant (parent_of f.frame.path) = ap (λ (e : Entry ℕ). e.parent) f.is in
-      ap is_none parent ∙ nobody-above name.tenant (parent_of f.frame.path)
-      ∙ root-by-length F f.frame (stored.forest name.tenant) (placed F name.serial f.frame (stored.forest name.tenant) f.there)
-      ∙ sym (ap (λ (o : Option (Frame (List ℕ))). is_root (path_of o)) f.named)
-
-  -- so it has one where it is no root
-  pub child-or-root : is_some entry.parent ≡ not (is_root (path_of (named (shared_of parts) name)))
-  child-or-root = grind (arith, root-shown)
+      let root = root-by-length F f.frame (stored.forest name.tenant) (placed F name.serial f.frame (stored.forest name.tenant) f.there) in
+      grind (arith, f, root)
 
 -- a frame has a child exactly where it has one in the table
 pub child-shown : {parts : Parts} → IsStored parts → (name : FrameId) (has : Bool) → (IsTrue has → 0 < length (children_of (family parts name) name.serial)) × (0 < length (children_of (family parts name) name.serial) → IsTrue has) →

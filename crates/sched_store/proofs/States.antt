@@ -1,13 +1,13 @@
 -- Workers and the frames that they hold: whether a worker is busy is one look at its place.
 use Rattle.std.proofs.Common.{◌≡◌, ℕ, true, false, List, [], ◌∷◌, get_or, Option, Some, None, refl, sym, ◌∙◌, arith, inl, inr, ◌≤◌, ◌+◌, length, ◌⊎◌, get_or-set_other, get_or-set_same}
-use Rattle.sched_store.proofs.Common.{set, Entry, Account, FrameId, account_of, sum_by-cons, Nodes, node_words}
-use Rattle.sched_store.proofs.Common.{charge, AreSerialsRising, frames_of, KeepsOtherFrames, found-there, tree-rising, above-missing, is_busy_among}
+use Rattle.sched_store.proofs.Common.{set, Account, FrameId, account_of, sum_by-cons, Nodes, node_words}
+use Rattle.sched_store.proofs.Common.{charge, frames_of, KeepsOtherFrames, is_busy_among}
 use Rattle.sched_store.proofs.Common.{holds, may_hold, is_held, is_held_by, is_busy_in, Tree, charged_for, Parts}
 use Rattle.sched_store.proofs.Common.{with_words_of_nodes, tenants_from, shared_of, Frame, frame_at, with_state, IsStored}
-use Rattle.sched_store.proofs.Common.{frame_in_trees, AreFramesNodes, ArePlaces, node_of, cases_Bool, true≢false, false≢true, eq-eqb, eqb-true}
-use Rattle.sched_store.proofs.Common.{or_cases, or_left, or_right, false_from_ne_true, cases_eq}
+use Rattle.sched_store.proofs.Common.{frame_in_trees, AreFramesNodes, ArePlaces, node_of, cases_Bool, true≢false, eqb-true}
+use Rattle.sched_store.proofs.Common.{Each, or_left, or_right, false_from_ne_true, cases_eq}
 use Rattle.sched_rules.specs.Views.{named}
-use Rattle.sched_store.proofs.Lookups.{Frames, Trees, family, framed, tree_in, entry_in, Owns, its-account, none-or-some, named-found, found, nothing-found}
+use Rattle.sched_store.proofs.Lookups.{Frames, Trees, family, framed, tree_in, Owns, its-account, none-or-some, each-frame, named-found}
 use Rattle.frame_table.specs.declared.names.State.{State}
 use Rattle.frame_table.proofs.TreeValues.{tree-with_state, with_state-alike, AllBelow-alike, with_state-map_values, frame_at-with_state, frame_at-other-with_state}
 use Rattle.sched_rules.specs.Lone.{in_state}
@@ -34,37 +34,19 @@ module _ {parts : Parts} (stored : IsStored parts) where
   pub held-busy : (worker number serial : ℕ) {frame : Frame ℕ} → frame_in_trees parts.trees number serial ≡ Some frame → is_held_by worker frame.state ≡ true → is_busy_among worker (shared_of parts).tenants ≡ true
   held-busy worker number serial there held = grind (arith, frame-account, entries-busy, frames-busy)
 
--- a busy worker holds a frame
+-- a worker that holds no frame is not busy
 
-pub record Holds (frames : Frames) (worker : ℕ) : Type 0 where
-  pub serial : ℕ
-  pub frame : Frame ℕ
-  pub there : frame_at frames serial ≡ Some frame
-  pub held : is_held_by worker frame.state ≡ true
+idle-frames : (nodes : Nodes) (frames : Frames) (worker : ℕ) → Each (λ f. is_held_by worker f.state ≡ false) frames → is_busy_in worker (with_words_of_nodes nodes frames) ≡ false
+idle-frames nodes [] worker each = refl
+idle-frames nodes (first ∷ frames) worker each = rw (each.0, idle-frames nodes frames worker each.1) refl
 
-busy-frames : (nodes : Nodes) (frames : Frames) (worker : ℕ) → AreSerialsRising frames → is_busy_in worker (with_words_of_nodes nodes frames) ≡ true → Holds frames worker
-busy-frames nodes [] worker rising busy = absurd (false≢true busy)
-busy-frames nodes (first ∷ frames) worker rising busy =
-    elim (or_cases (is_held_by worker first.state) (is_busy_in worker (with_words_of_nodes nodes frames)) busy) [
-      | inl held ↦ record { serial = first.serial; frame = first; there = rw (eq-eqb first.serial first.serial refl) refl; held = held }
-      | inr rest ↦ grind (arith, eqb-true, above-missing, false≢true, found-there, busy-frames nodes frames worker rising.1)
-    ]
-
-pub record HoldsSome (parts : Parts) (worker : ℕ) : Type 0 where
-  pub number : ℕ
-  pub serial : ℕ
-  pub frame : Frame ℕ
-  pub there : frame_in_trees parts.trees number serial ≡ Some frame
-  pub held : is_held_by worker frame.state ≡ true
-
--- a worker that is busy in the core holds some frame
-module _ {parts : Parts} (stored : IsStored parts) where
-  busy-entries : (entries : List (ℕ × Account)) (worker : ℕ) → is_busy_among worker (tenants_from parts entries) ≡ true → HoldsSome parts worker
-  busy-entries [] worker busy = absurd (false≢true busy)
-  busy-entries (entry ∷ entries) worker busy = grind (arith, busy-frames, tree-rising, busy-entries entries worker)
-
-  pub busy-holds : (worker : ℕ) → is_busy_among worker (shared_of parts).tenants ≡ true → HoldsSome parts worker
-  busy-holds worker busy = grind (arith, busy-entries)
+module _ {parts : Parts} (stored : IsStored parts) (worker : ℕ)
+    (idle : (number serial : ℕ) (f : Frame ℕ) → frame_in_trees parts.trees number serial ≡ Some f → is_held_by worker f.state ≡ false) where
+  idle-entries : (entries : List (ℕ × Account)) → is_busy_among worker (tenants_from parts entries) ≡ false
+  idle-entries [] = refl
+  idle-entries (entry ∷ entries) =
+      let own = idle-frames parts.nodes (frames_of parts.trees entry.0) worker (each-frame stored entry.0 (λ f. is_held_by worker f.state ≡ false) (idle entry.0)) in
+      rw (own, idle-entries entries) refl
 
 pub record HeldThere (parts : Parts) (worker : ℕ) (name : FrameId) : Type 0 where
   pub frame : Frame ℕ
@@ -82,19 +64,16 @@ module _ {parts : Parts} (stored : IsStored parts) (worker : ℕ) where
       elim (cases_Bool (holds worker (named (shared_of parts) name))) [
         | inl held ↦ (let own = holds-there name held in
             held ∙ sym (held-busy stored worker name.tenant name.serial own.there own.held))
-        | inr not_held ↦ not_held ∙ sym (false_from_ne_true (is_busy_among worker (shared_of parts).tenants) (λ busy.
-            let some = busy-holds stored worker busy in
-            let at = (stored.places worker some.number some.serial some.frame some.there some.held).2 in
+        | inr not_held ↦ not_held ∙ sym (idle-entries stored worker (λ number serial f at. false_from_ne_true (is_held_by worker f.state) (λ held.
+            let here = (stored.places worker number serial f at held).2 in
             let own : holds worker (named (shared_of parts) name) ≡ true = grind (arith, named-found) in
-            true≢false (sym own ∙ not_held)))
+            true≢false (sym own ∙ not_held))) parts.book.accounts)
       ]
 
   pub busy-nothing : get_or parts.places worker None ≡ None → false ≡ is_busy_among worker (shared_of parts).tenants
   busy-nothing place =
-      sym (false_from_ne_true (is_busy_among worker (shared_of parts).tenants) (λ busy.
-      let some = busy-holds stored worker busy in
-      let at = (stored.places worker some.number some.serial some.frame some.there some.held).2 in
-      cc (place, at)))
+      sym (idle-entries stored worker (λ number serial f at. false_from_ne_true (is_held_by worker f.state) (λ held.
+      let here = (stored.places worker number serial f at held).2 in cc (place, here))) parts.book.accounts)
 
   -- where a worker may hold a frame, it holds no other
   pub holds-no-other : (name : FrameId) → may_hold (shared_of parts) worker name ≡ true → (number serial : ℕ) (frame : Frame ℕ) →
@@ -106,15 +85,6 @@ module _ {parts : Parts} (stored : IsStored parts) (worker : ℕ) where
       let first = (stored.places worker number serial frame there held).2 in
       let second = (stored.places worker name.tenant name.serial here.frame here.there here.held).2 in
       (cc (first, second), cc (first, second))
-
--- what the table tells of a frame, and whether a worker holds it
-module _ {parts : Parts} (stored : IsStored parts) (worker : ℕ) (name : FrameId) where
-  pub entry-holds : {entry : Entry ℕ} → Some entry ≡ entry_in parts name → is_held_by worker entry.state ≡ holds worker (named (shared_of parts) name)
-  entry-holds is =
-      let f = found stored name is in grind arith
-
-  pub nothing-holds : None ≡ entry_in parts name → false ≡ holds worker (named (shared_of parts) name)
-  nothing-holds is = grind (arith, nothing-found)
 
 -- A frame in another state.
 
@@ -207,44 +177,29 @@ module _ {old : Parts} {trees : Trees} (name : FrameId) (state : State) {frame :
       let frames : with_words_of_nodes old.nodes (frames_of trees name.tenant) ≡ with_state name.serial state (tree_in old name.tenant) = grind (arith, with_state-map_values) in
       stepped (in_state name.serial state) stored (state-step places own.0 own.1 are) (rw frames refl)
 
+  -- what is held is this frame in its state, or was held and has its place
+  placed : (other number serial : ℕ) (f : Frame ℕ) → frame_in_trees trees number serial ≡ Some f → is_held_by other f.state ≡ true →
+      ((number ≡ name.tenant) × (serial ≡ name.serial) × (f.state ≡ state))
+      ⊎ ((frame_in_trees old.trees number serial ≡ Some f) × (1 ≤ other) × (other ≤ 32) × (get_or old.places other None ≡ Some (record { tenant = number; serial = serial })))
+  placed other number serial f is held = grind (arith, state-cases, state-here)
+
   -- a state that names no worker
 
   pub unheld-set : is_held state ≡ false → StateSet old trees old.places name state
   unheld-set nobody =
-      state-set old.places (λ worker number serial f is held.
-      elim (state-cases sets number serial) [
-        | inl (m, s) ↦ grind (arith, state-here)
-        | inr same ↦ stored.places worker number serial f (sym same ∙ is) held
-      ])
+      state-set old.places (λ worker number serial f is held. let p = placed worker number serial f is held in grind (arith, p))
 
   -- the worker that held the frame has an empty place, where the state names nobody
 
   pub let-go-set : (worker : ℕ) → is_held_by worker frame.state ≡ true → is_held state ≡ false → StateSet old trees (set old.places worker None) name state
   let-go-set worker holds nobody =
+      let own = stored.places worker name.tenant name.serial frame there holds in
       state-set (set old.places worker None) (λ other number serial f is held.
-      elim (state-cases sets number serial) [
-        | inl (m, s) ↦ grind (arith, state-here)
-        | inr same ↦
-            (let was : frame_in_trees old.trees number serial ≡ Some f = sym same ∙ is in
-            let at = stored.places other number serial f was held in
-            elim (cases_eq other worker) [
-              | inl w ↦ grind (arith, state-here)
-              | inr differs ↦ grind (arith, get_or-set_other)
-            ])
-      ])
+      let p = placed other number serial f is held in grind (arith, p, own, state-here, cases_eq, get_or-set_other))
 
   pub held-set : (worker : ℕ) → length old.places ≡ 33 → 1 ≤ worker → worker ≤ 32 → may_hold (shared_of old) worker name ≡ true → is_held_by worker state ≡ true →
       StateSet old trees (set old.places worker (Some name)) name state
   held-set worker long some most may names =
       let place : get_or (set old.places worker (Some name)) worker None ≡ Some name = grind (arith, get_or-set_same) in
       state-set (set old.places worker (Some name)) (λ other number serial f is held.
-      elim (state-cases sets number serial) [
-        | inl (m, s) ↦ grind (arith, state-here)
-        | inr same ↦
-            (let was : frame_in_trees old.trees number serial ≡ Some f = sym same ∙ is in
-            let at = stored.places other number serial f was held in
-            elim (cases_eq other worker) [
-              | inl w ↦ grind (arith, holds-no-other)
-              | inr differs ↦ grind (arith, get_or-set_other)
-            ])
-      ])
+      let p = placed other number serial f is held in grind (arith, p, place, cases_eq, holds-no-other, get_or-set_other))

@@ -1,8 +1,8 @@
 -- The stack's nodes as they come, change and go, and what they are charged.
-use Rattle.std.proofs.Common.{◌≡◌, ◌≢◌, ℕ, zero, suc, ◌<◌, ◌≤◌, ◌+◌, List, [], ◌∷◌, length, Option, Some, None, IsSome, refl, ap, arith, get_or-set_other, get_or-set_same, sym, subst, false, drop, get_or, add-one, drop-cons, ◌-◌, ◌++◌, replicate}
+use Rattle.std.proofs.Common.{◌≡◌, ◌≢◌, ℕ, zero, suc, ◌<◌, ◌≤◌, ◌+◌, List, [], ◌∷◌, length, Option, Some, None, IsSome, refl, ap, arith, get_or-set_other, get_or-set_same, sym, subst, drop, get_or, add-one, drop-cons, ◌-◌, ◌++◌, replicate}
 use Rattle.sched_store.proofs.Common.{set, Account, FrameId, frames_of, on_tenant, words_under, TenantHasLeft, AllEntries-map, sum_by-le-with}
 use Rattle.sched_store.proofs.Common.{Frame, frame_at, HasValue, found-serial, tree-rising, Parts, with_words_of_nodes, shared_of}
-use Rattle.sched_store.proofs.Common.{Reservations, changed, IsSoundBook, ChangesOnly, map_value, AllAboveSerial, AreSerialsRising, Each, length-set, drop_all}
+use Rattle.sched_store.proofs.Common.{Reservations, changed, IsSoundBook, ChangesOnly, map_value, AllAboveSerial, AreSerialsRising, Each, length-set}
 use Rattle.sched_store.proofs.Common.{length-append, length-replicate, IsStored, AreFramesNodes}
 use Rattle.sched_store.proofs.Common.{eqb-true, eqb-false, charged_segments, charged_by, reserved_segments, IsWithinReserve}
 use Rattle.cactus_stack.specs.Nodes.{Nodes, Node, node_at, node_words, node_parent, words_of_node, with_node_words, IsOpen, charge, charge_of, total_charge, growth_charge, free_segments}
@@ -13,7 +13,6 @@ use Rattle.frame_table.proofs.TreeValues.{frame_at-map_values, tree-map_values}
 use Rattle.sched_store.proofs.Common.{Tree}
 use Rattle.sched_store.proofs.Steps.{TenantStep, Stepped, stepped, left-account, changed-nothing}
 use Rattle.cactus_stack.proofs.LawFacts.{lt-of-some}
-use Rattle.std.proofs.lemmas.List.{set-set}
 use Rattle.std.proofs.lemmas.List.Sums.{sum_by-set}
 use Rattle.sched_rules.specs.Views.{named}
 use Rattle.sched_store.proofs.Lookups.{Frames, family, framed, tree_in, Owns, each-frame, named-found, there-frame}
@@ -152,31 +151,12 @@ Stores = List (ℕ × ℕ)
 abbrev stored_in : Nodes → ℕ → Stores → Nodes
 stored_in nodes node stores = with_node_words nodes node (stored stores (node_words nodes node))
 
-first-store : (stores : Stores) (i : ℕ) (d : ℕ × ℕ) → i < length stores → drop i stores ≡ get_or stores i d ∷ drop (i + 1) stores
+pub first-store : (stores : Stores) (i : ℕ) (d : ℕ × ℕ) → i < length stores → drop i stores ≡ get_or stores i d ∷ drop (i + 1) stores
 first-store stores i d within = rw add-one (drop-cons stores i d within)
 
-outside-set : (stores : Stores) (words : List ℕ) (at word : ℕ) → is_outside stores (set words at word) ≡ is_outside stores words
+pub outside-set : (stores : Stores) (words : List ℕ) (at word : ℕ) → is_outside stores (set words at word) ≡ is_outside stores words
 outside-set [] words at word = refl
 outside-set (store ∷ stores) words at word = grind (arith, length-set, outside-set stores words)
-
--- what is true after one more store
-pub record StoredMore (stack new start : Nodes) (node : ℕ) (stores : Stores) (i : ℕ) : Type 0 where
-  pub is_open : IsOpen new node
-  pub inside : is_outside (drop (i + 1) stores) (node_words new node) ≡ false
-  pub so_far : stored_in new node (drop (i + 1) stores) ≡ stored_in start node stores
-
-pub store-inside : (stack : Nodes) (node : ℕ) (stores : Stores) (i : ℕ) (d : ℕ × ℕ) → i < length stores → is_outside (drop i stores) (node_words stack node) ≡ false → (get_or stores i d).0 < length (node_words stack node)
-store-inside stack node stores i d within inside = grind (arith, first-store)
-
-pub store-more : (stack new start : Nodes) (node : ℕ) (stores : Stores) (i : ℕ) (d : ℕ × ℕ) → i < length stores → IsOpen stack node → is_outside (drop i stores) (node_words stack node) ≡ false →
-    stored_in stack node (drop i stores) ≡ stored_in start node stores →
-    new ≡ with_node_words stack node (set (node_words stack node) (get_or stores i d).0 (get_or stores i d).1) → StoredMore stack new start node stores i
-store-more stack new start node stores i d within is_open inside so_far is = grind (arith, first-store, outside-set, set-set, words-same)
-
--- after the last store
-pub store-all : (stack start : Nodes) (node : ℕ) (stores : Stores) (i : ℕ) → length stores ≤ i → IsOpen stack node → stored_in stack node (drop i stores) ≡ stored_in start node stores →
-    stack ≡ stored_in start node stores
-store-all stack start node stores i past is_open so_far = grind (arith, drop_all, words-stay)
 
 -- Stores and growths of a frame that is there.
 
@@ -188,7 +168,7 @@ pub record HasNode (parts : Parts) (name : FrameId) (node : ℕ) : Type 0 where
   pub is_open : IsOpen parts.nodes node
   pub words : words_under (shared_of parts) name ≡ node_words parts.nodes node
 
--- the node of a frame that the core names; and what changes no charge changes no account
+-- the node of a frame that the core names
 module _ {parts : Parts} (stored : IsStored parts) (name : FrameId) where
   pub has-node : (node : ℕ) → IsSome (named (shared_of parts) name) → HasValue (framed parts name) node → HasNode parts name node
   has-node node is value =
@@ -201,13 +181,6 @@ module _ {parts : Parts} (stored : IsStored parts) (name : FrameId) where
         is_open = rw same at ((stored.frames_nodes.nodes_of_frames name.tenant name.serial f.0 f.1).is_open);
         words = grind (arith, named-found);
       }
-
-  same-charges : {account : Account} (before after : ℕ) → Owns parts name.tenant account → before ≡ after → ChargesWords parts parts.book name (λ a. a) account before after
-  same-charges before after own same = grind (arith, changed-nothing)
-
-charged-changes : (parts : Parts) (book : Reservations) (name : FrameId) (account : Account) (before after added : ℕ) → Owns parts name.tenant account → IsSoundBook book → ChangesOnly parts.book book name.tenant (charged_by added 0) →
-    charged_segments book.accounts ≡ charged_segments parts.book.accounts + added → before + added ≡ after → ChargesWords parts book name (charged_by added 0) account before after
-charged-changes parts book name account before after added own sound changes sum grown = grind arith
 
 -- the tenant of a frame with a node has an account
 module _ {parts : Parts} {name : FrameId} {node : ℕ} (is_stored : IsStored parts) (has : HasNode parts name node) where
@@ -225,7 +198,8 @@ module _ {parts : Parts} {name : FrameId} {node : ℕ} (is_stored : IsStored par
   stores-set nodes stores is =
       let words = node_words parts.nodes node in
       let len = length-stored stores words in
-      let charges = same-charges is_stored name (charge_at parts.nodes node) (charge (length (stored stores words))) own.1 (ap charge (sym len)) in
+      let same = changed-nothing parts.book name.tenant in
+      let charges : ChargesWords parts parts.book name (λ a. a) own.0 (charge_at parts.nodes node) (charge (length (stored stores words))) = grind (arith, own, len, same) in
       rw has.words (set-node nodes parts.book (stored stores words) (λ a. a) is charges)
 
   -- a node that is longer
@@ -238,7 +212,7 @@ module _ {parts : Parts} {name : FrameId} {node : ℕ} (is_stored : IsStored par
       let longer : List ℕ = words ++ replicate more 0 in
       let grown : length longer ≡ length words + more = grind (arith, length-append, length-replicate) in
       let after = ap charge grown in
-      let charges = charged-changes parts book name own.0 (charge_at parts.nodes node) (charge (length longer)) added own.1 sound changes sum (omega (arith, after, added_is)) in
+      let charges : ChargesWords parts book name (charged_by added 0) own.0 (charge_at parts.nodes node) (charge (length longer)) = grind (arith, own, after, added_is) in
       rw has.words (set-node nodes book longer (charged_by added 0) is charges)
 
   pub growth-added : (more len added : ℕ) → len ≡ length (node_words parts.nodes node) → added ≡ growth_charge len more → added ≡ growth_charge (length (words_under (shared_of parts) name)) more

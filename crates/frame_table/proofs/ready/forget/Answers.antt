@@ -1,4 +1,5 @@
-use Rattle.frame_table.proofs.Common.{refl, ap, ◌∙◌, arith, ReadyFrame}
+-- A ready frame that is forgotten goes, and the list stays where it was not there.
+use Rattle.frame_table.proofs.Common.{refl, ap, ◌∙◌, arith, ReadyFrame, ℕ}
 use Rattle.frame_table.proofs.Places.{remove-rising, filter-not-absent, alike}
 use Rattle.frame_table.proofs.ready.forget.Goals.{else-at-len-via-then-at-len+else-at-serial, else-at-len-via-else-at-len}
 use Rattle.frame_table.proofs.ready.forget.Goals as goal
@@ -12,12 +13,9 @@ returns-then-at-serial g c =
 pub returns-else-at-len : goal.returns-else-at-len
 returns-else-at-len g c =
     let frames = c.args.ready.now.list in
-    let place = c.place_for-at.ensures.place in
-    elim c.else-at-len.branch [
-      | else-at-len-via-then-at-len+else-at-serial w ↦ (
-          let same = filter-not-absent (λ (frame : ReadyFrame). frame.serial) frames c.args.serial c.place_for-at.result c.requires place (λ x lt is e. w.if-at-serial.false (ap (λ (frame : ReadyFrame). frame.serial) (alike frames c.place_for-at.result _ x lt w.at.ensures is) ∙ e)) in
-          ap (λ fs. record { places = c.args.ready.now.places; list = fs }) same)
-      | else-at-len-via-else-at-len w ↦ (
-          let same = filter-not-absent (λ (frame : ReadyFrame). frame.serial) frames c.args.serial c.place_for-at.result c.requires place (λ x lt is e. omega (arith, lt, w.if-at-len.false)) in
-          ap (λ fs. record { places = c.args.ready.now.places; list = fs }) same)
-    ]
+    let serial_of : ReadyFrame → ℕ = λ frame. frame.serial in
+    let stays = filter-not-absent serial_of frames c.args.serial c.place_for-at.result c.requires c.place_for-at.ensures.place in
+    ap (λ fs. record { places = c.args.ready.now.places; list = fs }) (stays (λ x lt is e. elim c.else-at-len.branch [
+      | else-at-len-via-then-at-len+else-at-serial w ↦ w.if-at-serial.false (ap serial_of (alike frames _ _ x lt w.at.ensures is) ∙ e)
+      | else-at-len-via-else-at-len w ↦ omega (arith, lt, w.if-at-len.false)
+    ]))

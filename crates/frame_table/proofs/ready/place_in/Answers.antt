@@ -1,42 +1,32 @@
-use Rattle.frame_table.proofs.Common.{◌-◌, ◌<◌, length, get_or, nat_lt, refl, arith, rules, get_or_default, ReadyFrame}
+-- The place of a serial among the ready frames, at each return of the search for it.
+use Rattle.frame_table.proofs.Common.{◌-◌, length, nat_lt, arith, rules, ReadyFrame, ℕ}
 use Rattle.std.proofs.lemmas.List.Sorted.{IsPartitionPoint-from_clause, IsPartitionedBy-ltb}
-use Rattle.frame_table.proofs.Places.{rises-by-not-falls, place-from-point, place-of-element, place_in-none, place-before, place-behind}
+use Rattle.frame_table.proofs.Places.{rises-by-not-falls, place-by-count, place-before, counts-below}
+use Rattle.numbered_list.proofs.Places.{count_below-found, count_below-le-length, point-is-count_below}
 use Rattle.frame_table.proofs.ready.place_in.Goals as goal
 
 pub returns-then-count-eq0-clause-place : goal.returns-then-count-eq0-clause-place
 returns-then-count-eq0-clause-place c =
-    place_in-none (λ (frame : ReadyFrame). frame.serial) c.args.frames.now c.args.serial (omega (arith, c.if-count-eq0.true))
+    place-by-count _ _ _ 0 c.requires (omega (arith, c.if-count-eq0.true, count_below-le-length (λ (frame : ReadyFrame). frame.serial) c.args.serial c.args.frames.now))
 
 pub returns-then-last-serial-clause-place : goal.returns-then-last-serial-clause-place
 returns-then-last-serial-clause-place c =
     let frames = c.args.frames.now in
-    let none : ReadyFrame = record { serial = 0; home = 0 } in
-    let within : length frames - 1 < length frames = omega (arith, c.if-count-eq0.false) in
-    let last : ReadyFrame = get_or frames (length frames - 1) none in
-    let read = get_or_default frames (length frames - 1) none last within in
-    place-behind (λ (frame : ReadyFrame). frame.serial) frames c.args.serial (length frames - 1) (length frames) last c.requires refl (omega (arith, within)) read c.if-last-serial.true
+    let serial_of : ReadyFrame → ℕ = λ frame. frame.serial in
+    let below = counts-below serial_of frames c.args.serial (length frames - 1) _ c.requires (omega (arith, c.if-count-eq0.false)) c.if-last-serial.true in
+    place-by-count serial_of frames c.args.serial (length frames) c.requires (omega (arith, below, count_below-le-length serial_of c.args.serial frames))
 
 pub returns-then-last-serial-2-clause-place : goal.returns-then-last-serial-2-clause-place
 returns-then-last-serial-2-clause-place c =
     let frames = c.args.frames.now in
-    let none : ReadyFrame = record { serial = 0; home = 0 } in
-    let within : length frames - 1 < length frames = omega (arith, c.if-count-eq0.false) in
-    let last : ReadyFrame = get_or frames (length frames - 1) none in
-    let read = get_or_default frames (length frames - 1) none last within in
-    place-of-element (λ (frame : ReadyFrame). frame.serial) frames c.args.serial (length frames - 1) last c.requires within read c.if-last-serial-2.true
+    place-by-count _ frames c.args.serial (length frames - 1) c.requires (count_below-found _ c.args.serial frames _ _ c.requires (omega (arith, c.if-count-eq0.false)) c.if-last-serial-2.true)
 
 pub returns-then-serial-frames-clause-place : goal.returns-then-serial-frames-clause-place
-returns-then-serial-frames-clause-place c =
-    let frames = c.args.frames.now in
-    let none : ReadyFrame = record { serial = 0; home = 0 } in
-    let within : 0 < length frames = omega (arith, c.if-count-eq0.false) in
-    let first : ReadyFrame = get_or frames 0 none in
-    let read = get_or_default frames 0 none first within in
-    place-before (λ (frame : ReadyFrame). frame.serial) frames c.args.serial first c.requires within read c.if-serial-frames.true
+returns-then-serial-frames-clause-place c = place-before _ _ _ _ c.requires c.if-serial-frames.true
 
 pub returns-clause-place : goal.returns-clause-place
 returns-clause-place c =
     let serial_of : ReadyFrame → _ = λ frame. frame.serial in
     let parted = IsPartitionedBy-ltb serial_of c.args.frames.now c.args.serial (rises-by-not-falls serial_of c.args.frames.now c.requires) in
     let point = IsPartitionPoint-from_clause (λ frame. nat_lt frame.serial c.args.serial) _ _ c.partition_point.ensures.partitioned parted (λ a r f k. search rules) in
-    place-from-point serial_of c.args.frames.now c.args.serial c.partition_point.result c.partition_point.ensures.bound point
+    place-by-count serial_of c.args.frames.now c.args.serial c.partition_point.result c.requires (point-is-count_below serial_of c.args.serial c.args.frames.now c.partition_point.result point c.partition_point.ensures.bound)

@@ -1,21 +1,14 @@
-use Rattle.frame_table.proofs.Common.{[], refl, arith, IsSlotStore}
+-- A slot more: the parent counts it, and the store stays sound.
+use Rattle.frame_table.proofs.Common.{[], refl}
+use Rattle.frame_table.proofs.Keys.{re-keyed}
 use Rattle.frame_table.proofs.SlotStores.{slots_in-length, push-store, push-slots}
 use Rattle.frame_table.proofs.slot_store.SlotStore.push.Goals as goal
 
 pub invariant_of-self : goal.invariant_of-self
 invariant_of-self g c =
-    let slab = c.adopt-root.new.slab in
     let order = c.self.inside.order.list in
     let less = rw (← c.self.view_is, slots_in-length c.self.inside.slab [] order c.self.invariant.here) at c.requires.room in
-    let keys = c.adopt-root.ensures.keys in
-    let store : IsSlotStore slab order c.self.inside.order.places c.self.inside.places = record {
-      here = keys.here;
-      apart = keys.apart;
-      counted = keys.counted;
-      within = c.self.invariant.within;
-      slab_room = omega (arith, c.self.invariant.slab_room, c.adopt-root.ensures.capacity);
-      order_room = c.self.invariant.order_room;
-    } in
+    let store = re-keyed c.self.invariant c.adopt-root.ensures.keys c.adopt-root.ensures.capacity in
     let put = c.insert_reserved-key.ensures in
     rw c.push.ensures (push-store order put.was_vacant put.updates _ _ store less c.adopt-root.ensures.above put.len put.capacity)
 

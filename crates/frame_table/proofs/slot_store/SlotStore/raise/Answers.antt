@@ -1,16 +1,16 @@
+-- More places: the slots stay, whichever step is refused memory.
 use Rattle.std.proofs.Common.{◌≤◌, length, ap, arith}
-use Rattle.frame_table.proofs.SlotStores.{roomy-store, roomy-len}
+use Rattle.frame_table.proofs.SlotStores.{roomy-store, roomy-same, roomy-len}
+use Rattle.frame_table.proofs.Keys.{are-keys}
 use Rattle.frame_table.proofs.slot_store.SlotStore.raise.Goals as goal
 
 pub invariant_of-self-in_err-reserve : goal.invariant_of-self-in_err-reserve
 invariant_of-self-in_err-reserve g c =
-    rw c.raise.ensures.list (roomy-store _ _ c.reserve.ensures.rest_kept c.self.inside.order.list _ _ _ _ c.self.invariant (omega arith)
-    (omega (arith, c.reserve.ensures.capacity, c.self.invariant.slab_room)) (omega (arith, c.raise.ensures.kept, c.self.invariant.order_room)))
+    rw c.raise.ensures.list (roomy-same _ _ c.reserve.ensures.rest_kept _ c.self.invariant (omega (arith, c.raise.ensures.kept)) (omega (arith, c.reserve.ensures.capacity)))
 
 pub invariant_of-self-in_err-guesses : goal.invariant_of-self-in_err-guesses
 invariant_of-self-in_err-guesses g c =
-    rw c.raise.ensures.list (roomy-store _ _ c.reserve.ensures.rest_kept c.self.inside.order.list _ _ _ _ c.self.invariant (omega arith)
-    (omega (arith, c.reserve.ensures.capacity, c.self.invariant.slab_room)) (omega (arith, c.raise.ensures.kept, c.self.invariant.order_room)))
+    rw c.raise.ensures.list (roomy-same _ _ c.reserve.ensures.rest_kept _ c.self.invariant (omega (arith, c.raise.ensures.kept)) (omega (arith, c.reserve.ensures.capacity)))
 
 pub invariant_of-self-2 : goal.invariant_of-self-2
 invariant_of-self-2 g c =
@@ -23,6 +23,4 @@ invariant_of-self-2 g c =
 
 pub guess_all-requires : goal.guess_all-requires
 guess_all-requires g c =
-    let s = roomy-store _ _ c.reserve.ensures.rest_kept c.self.inside.order.list _ c.raise.new.self.places _ c.self.inside.places c.self.invariant (omega arith)
-    (omega (arith, c.reserve.ensures.capacity, c.self.invariant.slab_room)) (omega (arith, c.raise.ensures.kept, c.self.invariant.order_room)) in
-    rw c.raise.ensures.list (record { here = s.here; apart = s.apart; counted = s.counted })
+    rw c.raise.ensures.list (are-keys _ _ c.raise.new.self.places _ (roomy-same _ _ c.reserve.ensures.rest_kept _ c.self.invariant (omega (arith, c.raise.ensures.kept)) (omega (arith, c.reserve.ensures.capacity))))

@@ -1,17 +1,18 @@
+-- A tenant's tree without frames in its place, and the others as they were.
 use Rattle.std.proofs.Common.{refl, ◌∙◌, arith}
-use Rattle.frame_table.proofs.Tenants.{has-tree, new-sound, new-frames, new-keeps}
+use Rattle.frame_table.proofs.Tenants.{has-tree, new-sound, here-now, new-keeps}
 use Rattle.frame_table.proofs.table.FrameTable.remove_all.Goals as goal
 
 pub invariant_of-self : goal.invariant_of-self
 invariant_of-self g c =
     let tree = has-tree c.self.invariant c.get_mut-tree.ensures.value in
-    rw (c.remove_all.ensures.capacity, c.clear.ensures.capacity)
-    (new-sound tree c.remove_all.ensures.left (omega arith) (omega (arith, tree, c.ready-before.ensures)))
+    rw (c.remove_all.ensures.capacity, c.clear.ensures.capacity, c.remove_all.ensures.left)
+    (new-sound tree _ (omega arith) (omega (arith, tree, c.ready-before.ensures)))
 
 pub returns : goal.returns
 returns g c =
     let tree = has-tree c.self.invariant c.get_mut-tree.ensures.value in
-    rw (← c.self.view_is, tree.own.frames) (
-      (refl, λ _. tt, (new-frames tree c.remove_all.ensures.left, new-keeps tree c.remove_all.ensures.left)),
+    rw (← c.self.view_is, tree.own.frames, c.remove_all.ensures.left) (
+      (refl, λ _. tt, ((here-now tree refl).frames, new-keeps tree _)),
       record { ends = tt; values = c.as_slice.ensures.value ∙ (rw c.clear.ensures.items at c.remove_all.ensures.values) },
     )

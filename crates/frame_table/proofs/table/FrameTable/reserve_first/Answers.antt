@@ -1,5 +1,7 @@
-use Rattle.frame_table.proofs.Common.{◌<◌, [], length, ap, arith, length-inserted, TenantTree, owner_of_tree}
-use Rattle.frame_table.proofs.Tenants.{reserve-sound, reserve-here, insert-keeps, more-room}
+-- The first places of a tenant: a tree without frames more.
+use Rattle.frame_table.proofs.Common.{◌<◌, [], length, arith, length-inserted, owner_of_tree}
+use Rattle.frame_table.proofs.Tenants.{reserve-sound, reserve-here, more-room}
+use Rattle.numbered_list.proofs.Edits.{said-inserted-other}
 use Rattle.frame_table.proofs.table.FrameTable.reserve_first.Goals as goal
 
 pub invariant_of-self-in_err-tree : goal.invariant_of-self-in_err-tree
@@ -10,17 +12,17 @@ pub invariant_of-self-2 : goal.invariant_of-self-2
 invariant_of-self-2 g c =
     let fresh = rw (← c.self.view_is) at c.requires.fresh in
     let free : length c.self.inside.trees < 64 = rw (← c.self.view_is) at c.requires.free in
-    rw c.insert.ensures (reserve-sound c.args.tenant c.args.segments c.self.invariant fresh c.in_ok-tree.ensures
+    rw (c.insert.ensures, c.in_ok-tree.ensures) (reserve-sound c.args.tenant c.args.segments c.self.invariant fresh
     (omega (arith, c.clear.ensures.capacity, c.reserve.ensures.capacity)) (omega (arith, c.in_ok-reserve.ensures.ok, c.clear.ensures.len))
     c.requires.some c.requires.few free)
 
 pub returns : goal.returns
 returns g c =
     let fresh = rw (← c.self.view_is) at c.requires.fresh in
-    rw (← c.self.view_is, c.insert.ensures) (record {
-      places = reserve-here c.args.tenant c.args.segments c.self.invariant fresh c.in_ok-tree.ensures (λ tree. tree.places) 0;
-      frames = reserve-here c.args.tenant c.args.segments c.self.invariant fresh c.in_ok-tree.ensures (λ tree. tree.frames) [];
-      kept = insert-keeps c.self.inside.trees c.args.tenant c.in_ok-tree.tree (ap (λ (z : TenantTree g.row.T.Denot). z.tenant) c.in_ok-tree.ensures);
-      count = length-inserted owner_of_tree c.in_ok-tree.tree c.self.inside.trees;
+    rw (← c.self.view_is, c.insert.ensures, c.in_ok-tree.ensures) (record {
+      places = reserve-here c.args.tenant c.args.segments c.self.invariant fresh (λ tree. tree.places) 0;
+      frames = reserve-here c.args.tenant c.args.segments c.self.invariant fresh (λ tree. tree.frames) [];
+      kept = grind (arith, said-inserted-other);
+      count = length-inserted owner_of_tree _ c.self.inside.trees;
       err = tt;
     })

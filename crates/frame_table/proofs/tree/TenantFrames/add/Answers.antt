@@ -1,3 +1,4 @@
+-- A frame more: its slot, its serial and its ready frame.
 use Rattle.frame_table.proofs.Changes.{keeps-added}
 use Rattle.frame_table.proofs.Common.{[], frames_from, length-append, new_frame, ◌∷◌}
 use Rattle.frame_table.proofs.Finds.{keeps-view, kept-length}
@@ -9,17 +10,15 @@ use Rattle.frame_table.proofs.tree.TenantFrames.add.Goals as goal
 pub invariant_of-self : goal.invariant_of-self
 invariant_of-self g c =
     let slots = c.self.inside.store.slots in
-    let k = keeps-added c.self.invariant.sound c.args.serial c.args.home c.args.parent c.args.value (rw (← c.self.view_is) at c.requires.above) (rw (← c.self.view_is) at c.requires.parent) in
-    let room = rw (← c.self.view_is) at c.requires.room in
-    rw (c.push.ensures, c.push-2.ensures, c.push-3.ensures) (is-tenant k
+    let q = rw (← c.self.view_is) at c.requires in
+    let k = keeps-added c.self.invariant.sound c.args.serial c.args.home c.args.parent c.args.value q.above q.parent in
+    rw (c.push.ensures, c.push-2.ensures, c.push-3.ensures) (is-tenant c.self.invariant k
     (added-index slots _ c.self.invariant.index c.args.parent _)
     (added-ready slots c.args.parent _ c.args.home c.self.inside.ready.list c.self.invariant.ready_frames refl)
-    (omega (arith, room, kept-length k, length-append (frames_from [] slots) (new_frame (frames_from [] slots) c.args.serial c.args.parent c.args.home c.args.value ∷ [])))
-    c.self.invariant.few
-    c.self.invariant.serial_places
-    c.self.invariant.ready_places)
+    (omega (arith, q.room, kept-length k, length-append (frames_from [] slots) (new_frame (frames_from [] slots) c.args.serial c.args.parent c.args.home c.args.value ∷ []))))
 
 pub returns : goal.returns
 returns g c =
-    let k = keeps-added c.self.invariant.sound c.args.serial c.args.home c.args.parent c.args.value (rw (← c.self.view_is) at c.requires.above) (rw (← c.self.view_is) at c.requires.parent) in
+    let q = rw (← c.self.view_is) at c.requires in
+    let k = keeps-added c.self.invariant.sound c.args.serial c.args.home c.args.parent c.args.value q.above q.parent in
     rw (← c.self.view_is, c.push.ensures, keeps-view k) refl

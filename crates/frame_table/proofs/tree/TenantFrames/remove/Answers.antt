@@ -1,3 +1,4 @@
+-- A leaf less: its slot, its serial and its ready frame.
 use Rattle.frame_table.proofs.Changes.{count-without}
 use Rattle.frame_table.proofs.Common.{ap}
 use Rattle.frame_table.proofs.Changes.{keeps-left, left-counted}
@@ -34,13 +35,10 @@ invariant_of-self g c =
     let slots = c.self.inside.store.slots in
     let less = remove slots c.known_place-at.result in
     let gone = ready_in-remove slots c.known_place-at.result c.args.serial c.take-slot.result (keeps-rises c.self.invariant.sound) seen in
-    rw (c.take-slot.ensures.left, c.leave.ensures, c.remove.ensures.left) (is-tenant (keeps-left c.self.invariant.sound seen leaf)
+    rw (c.take-slot.ensures.left, c.leave.ensures, c.remove.ensures.left) (is-tenant c.self.invariant (keeps-left c.self.invariant.sound seen leaf)
     (removed-index slots _ c.self.invariant.index c.known_place-at.result ∙ sym (serials_of-recounted c.take-slot.result.parent (λ n. n - 1) less))
     (rw (ready_in-recounted c.take-slot.result.parent (λ n. n - 1) less, c.self.invariant.ready_frames) gone)
-    (omega (arith, c.self.invariant.within, length-remove slots c.known_place-at.result seen.within, length-map less (if_named c.take-slot.result.parent (recounted (λ n. n - 1)))))
-    c.self.invariant.few
-    c.self.invariant.serial_places
-    c.self.invariant.ready_places)
+    (omega (arith, c.self.invariant.within, length-remove slots c.known_place-at.result seen.within, length-map less (if_named c.take-slot.result.parent (recounted (λ n. n - 1))))))
 
 pub returns-clause-left : goal.returns-clause-left
 returns-clause-left g c =

@@ -1,3 +1,4 @@
+-- An abort: at a leaf nothing goes, else slots, serials and ready frames are cut.
 use Rattle.frame_table.proofs.Aborts.{CutsReady, childless-serial, cut-length, cut-ready, leaf-aborted, leaf-none-under}
 use Rattle.frame_table.proofs.Changes.{cleared, keeps-cut, keeps-cut-at, keeps-gone}
 use Rattle.frame_table.proofs.Common.{IsSeenAt, [], append-nil, children_of, frames_from, kept_slots, length-set, recounted, set, sym, ◌∙◌, ◌≡◌}
@@ -64,13 +65,10 @@ pub invariant_of-self : goal.invariant_of-self
 invariant_of-self g c =
     let seen = seen g (goal.at.invariant_of-self g c).After-at-slot in
     let cuts = cuts g (goal.at.invariant_of-self g c).After-at-slot in
-    rw (c.add_ready.ensures, c.forget_from.ensures, c.add_serials.ensures, c.truncate.ensures, c.cut.ensures.kept, c.put.ensures) (is-tenant (keeps-cut c.self.invariant.sound seen)
+    rw (c.add_ready.ensures, c.forget_from.ensures, c.add_serials.ensures, c.truncate.ensures, c.cut.ensures.kept, c.put.ensures) (is-tenant c.self.invariant (keeps-cut c.self.invariant.sound seen)
     (cut-index c.self.inside.store.slots _ c.self.invariant.index _ c.known_place-at.result cuts.front)
     cuts.ready
-    (omega (arith, cut-length c.self.invariant.sound seen, c.self.invariant.within))
-    c.self.invariant.few
-    c.self.invariant.serial_places
-    c.self.invariant.ready_places)
+    (omega (arith, cut-length c.self.invariant.sound seen, c.self.invariant.within)))
 
 pub returns-clause-left : goal.returns-clause-left
 returns-clause-left g c =

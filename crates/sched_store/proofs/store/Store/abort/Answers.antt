@@ -1,5 +1,7 @@
-use Rattle.sched_store.proofs.Common.{length, arith, ap, ◌∙◌, on_tenant, without_under, CoreState, parts_of, frames_in_core, aborted, frames_under}
-use Rattle.sched_store.proofs.Removing.{stays, with_parts, abort-cut, abort-closes, abort-gone, abort-words, AreFreed, nodes-free, gone-step, abort-count}
+-- The proof of `Store::abort`: what the search leaves.
+use Rattle.sched_store.proofs.Common.{arith, without_under, parts_of, aborted, tree-aborted, sym, node_words}
+use Rattle.frame_table.proofs.TreeValues.{aborted-map_values}
+use Rattle.sched_store.proofs.Removing.{stays, with_parts, abort-closes, abort-gone, AreFreed, nodes-free, gone-step, abort-count}
 use Rattle.sched_store.proofs.Lookups.{there-has}
 use Rattle.sched_store.proofs.Steps.{Stepped}
 use Rattle.sched_store.proofs.store.Store.abort.Goals.{After-free_count, After-give_back}
@@ -14,18 +16,10 @@ freed g c =
 -- what the table, the stack and the book told
 told : (g : _) (c : After-give_back g) → Stepped (parts_of c.self.inside) (with_parts (parts_of c.self.inside) c.close_all.new.self c.remove_under-nodes.follows.lender-at-none c.give_back.new.self) c.args.name.tenant (without_under c.args.name.serial)
 told g c =
+    let some = rw (← c.self.view_is) at c.requires in
     let under = c.remove_under-nodes.follows.holds-at-none in
-    gone-step c.args.name (stays c.args.name.serial) c.free_count-before.result c.free_count.result c.self.invariant (record {
-      some = rw (← c.self.view_is) at c.requires;
-      gone = grind arith;
-      was_free = c.free_count-before.ensures;
-      is_free = c.free_count.ensures;
-      cut = abort-cut c.self.invariant c.args.name c.remove_under-nodes.follows.lender-at-none under.0 under.1;
-      keeps = under.1;
-      credited = c.give_back.ensures.credits;
-      sum = c.give_back.ensures.sum;
-      sound = c.give_back.ensures.sound;
-    }) (aborted c.args.name.serial) (abort-words (parts_of c.self.inside) c.args.name)
+    gone-step c.args.name (stays c.args.name.serial) c.free_count-before.result c.free_count.result c.self.invariant
+    grind (arith, some, tree-aborted, under, c.self.invariant.forest) (aborted c.args.name.serial) (sym (aborted-map_values (node_words c.self.inside.stack) c.args.name.serial _))
 
 pub remove_under-nodes-requires : goal.remove_under-nodes-requires
 remove_under-nodes-requires g c =
@@ -48,10 +42,7 @@ pub invariant_of-self : goal.invariant_of-self
 invariant_of-self g c = (told g (goal.at.invariant_of-self g c).After-give_back).stored
 
 pub returns-clause-aborted : goal.returns-clause-aborted
-returns-clause-aborted g c =
-    (told g (goal.at.returns-clause-aborted g c).After-give_back).shared ∙ ap (on_tenant c.args.name.tenant (without_under c.args.name.serial)) c.self.view_is
+returns-clause-aborted g c = rw (← c.self.view_is) (told g (goal.at.returns-clause-aborted g c).After-give_back).shared
 
 pub returns-clause-count : goal.returns-clause-count
-returns-clause-count g c =
-    abort-count c.self.invariant c.args.name c.remove_under-nodes.result.now c.remove_under-nodes.ensures.values
-    ∙ ap (λ (s : CoreState). length (frames_under c.args.name.serial (frames_in_core s c.args.name.tenant))) c.self.view_is
+returns-clause-count g c = rw (← c.self.view_is) (abort-count c.self.invariant c.args.name c.remove_under-nodes.result.now c.remove_under-nodes.ensures.values)

@@ -1,5 +1,5 @@
-use Rattle.sched_rules.specs.Views.{named}
-use Rattle.sched_store.proofs.Common.{sym, ◌∙◌, not, ap, CoreState, is_root, path_of}
+-- The proof of `Store::find`: what the search leaves.
+use Rattle.sched_store.proofs.Common.{sym, ◌∙◌}
 use Rattle.sched_store.proofs.Lookups.{frame-found, no-frame-found, tree-found}
 use Rattle.sched_store.proofs.Removing.{child-or-root}
 use Rattle.sched_store.proofs.store.Store.find.Goals as goal
@@ -9,7 +9,7 @@ returns-in-Some g c =
     let found = sym c.in-Some.is ∙ c.find.ensures.entry in
     record {
       frame = rw (← c.self.view_is) (frame-found c.self.invariant c.args.name found);
-      root = child-or-root c.self.invariant c.args.name found ∙ ap (λ (s : CoreState). not (is_root (path_of (named s c.args.name)))) c.self.view_is;
+      root = rw (← c.self.view_is) (child-or-root c.self.invariant c.args.name found);
       tree = rw (← c.self.view_is) (tree-found c.self.invariant c.args.name.tenant);
     }
 

@@ -1,4 +1,5 @@
-use Rattle.sched_store.proofs.Common.{IfSome, Option, refl, ap, ◌∙◌, subst, Releases, Account, with_departed, parts_of}
+-- The proof of `Store::leave`: what the search leaves.
+use Rattle.sched_store.proofs.Common.{arith, refl, Account, parts_of}
 use Rattle.sched_store.proofs.Steps.{there-account-in, has-job_list}
 use Rattle.sched_store.proofs.Lookups.{job_lists-rise}
 use Rattle.sched_store.proofs.LeaveTenant.{has-places, leave-closes, IsDeparture, leave-stored, leave-shared}
@@ -11,20 +12,7 @@ told g c =
     let a = there-account-in (parts_of c.self.inside) c.args.tenant c.self.view_is c.requires in
     let emptied = c.remove_all-nodes.follows.holds-at-none in (
       a.0,
-      record {
-        there = a.1;
-        values = c.remove_all-nodes.ensures.values;
-        closed_all = c.close_all.ensures;
-        frames = c.release.ensures.frames;
-        places = c.release.ensures.places;
-        other_frames = λ other differs. c.release.ensures.kept.frames other differs ∙ emptied.1.frames other differs;
-        other_places = λ other differs. c.release.ensures.kept.places other differs ∙ emptied.1.places other;
-        count = c.release.ensures.count ∙ emptied.1.count;
-        jobs = c.remove.ensures.list;
-        released = subst (λ (o : Option Account). IfSome o (Releases c.self.inside.book c.release-2.new.self c.args.tenant)) a.1 c.release-2.ensures.releases;
-        others = c.release-2.ensures.others;
-        sound = c.release-2.ensures.sound;
-      },
+      grind (arith, a, emptied),
     )
 
 pub remove_all-nodes-requires : goal.remove_all-nodes-requires
@@ -56,4 +44,4 @@ pub invariant_of-self : goal.invariant_of-self
 invariant_of-self g c = leave-stored c.self.invariant (told g (goal.at.invariant_of-self g c).After-release-2).1
 
 pub returns : goal.returns
-returns g c = leave-shared c.self.invariant (told g (goal.at.returns g c).After-release-2).1 ∙ ap (with_departed c.args.tenant) c.self.view_is
+returns g c = rw (← c.self.view_is) (leave-shared c.self.invariant (told g (goal.at.returns g c).After-release-2).1)

@@ -1,7 +1,7 @@
-use Rattle.sched_rules.specs.Views.{named}
-use Rattle.sched_store.proofs.Common.{parts_of, not, ap, ◌∙◌, CoreState, is_root, path_of, sight_of, words_under}
-use Rattle.sched_store.proofs.Lookups.{frame-found, no-frame-found, tree-found, rising-found, sight-found, entry-open}
-use Rattle.sched_store.proofs.Removing.{child-or-root, own-words-shown}
+-- The proof of `Store::look_up`: what the search leaves.
+use Rattle.sched_store.proofs.Common.{arith, parts_of}
+use Rattle.sched_store.proofs.Lookups.{found as entry-found, frame-found, no-frame-found, tree-found, rising-found, sight-found, entry-open}
+use Rattle.sched_store.proofs.Removing.{child-or-root}
 use Rattle.sched_store.proofs.store.Store.look_up.Goals as goal
 
 pub own-requires : goal.own-requires
@@ -16,11 +16,9 @@ returns-in-Some g c =
     let found = c.in-Some.ensures.entry in
     record {
       frame = rw (← c.self.view_is) (frame-found c.self.invariant c.args.name found);
-      root = child-or-root c.self.invariant c.args.name found ∙ ap (λ (s : CoreState). not (is_root (path_of (named s c.args.name)))) c.self.view_is;
-      words = own-words-shown c.self.invariant c.args.name found c.own.ensures
-          ∙ ap (λ (s : CoreState). words_under s c.args.name) c.self.view_is;
-      sight = sight-found c.self.invariant c.args.name found c.sight.ensures
-          ∙ ap (λ (s : CoreState). sight_of s c.args.name) c.self.view_is;
+      root = rw (← c.self.view_is) (child-or-root c.self.invariant c.args.name found);
+      words = (let f = entry-found c.self.invariant c.args.name found in rw (← c.self.view_is, c.own.ensures) grind (arith, f));
+      sight = rw (← c.self.view_is) (sight-found c.self.invariant c.args.name found c.sight.ensures);
       tree = rw (← c.self.view_is) (tree-found c.self.invariant c.args.name.tenant);
       rising = rw (← c.self.view_is) (rising-found parts c.self.invariant);
     }

@@ -1,3 +1,4 @@
+-- The proof of `Store::open`: what the search leaves.
 use Rattle.sched_store.proofs.Common.{◌≤◌, refl, arith, charge, parts_of}
 use Rattle.sched_store.proofs.Steps.{book-left}
 use Rattle.sched_store.proofs.Words.{has-free}
@@ -10,7 +11,7 @@ step : (g : _) (c : After-add g) → Opened (parts_of c.self.inside) c.open-2.ne
 step g c =
     let own = left-for c.self.invariant c.args.tenant c.args.size c.self.view_is c.requires.left in
     let size = size-some c.args.words.now c.args.size c.requires.size in
-    open-step (parts_of c.self.inside) c.open-2.new.self c.add.new.self c.open.new.self c.args.tenant c.args.parent c.parent_node-above.result c.args.words.now c.args.size c.args.home c.unwrap-node.result own.0 c.self.invariant (record {
+    open-step _ _ _ _ _ _ c.parent_node-above.result _ _ _ c.unwrap-node.result own.0 c.self.invariant (record {
       there = own.1.0;
       parent_there = parent-found c.self.invariant c.args.tenant c.args.parent (rw (← c.self.view_is) at c.requires.parent);
       above_is = c.parent_node-above.ensures;

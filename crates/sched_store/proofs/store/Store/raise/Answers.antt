@@ -1,5 +1,6 @@
-use Rattle.sched_store.proofs.Common.{refl, ap, ◌∙◌, arith, on_tenant, with_reserve, parts_of}
-use Rattle.sched_store.proofs.Admitting.{CanBeRaised, can-be-raised, book-raises, with_more, raised}
+-- The proof of `Store::raise`: what the search leaves.
+use Rattle.sched_store.proofs.Common.{refl, ◌∙◌, arith, with_reserve, parts_of}
+use Rattle.sched_store.proofs.Admitting.{CanBeRaised, can-be-raised, with_more, raised}
 use Rattle.sched_store.proofs.Steps.{Stepped}
 use Rattle.sched_store.proofs.store.Store.raise.Goals.{After-segments, After-unwrap}
 use Rattle.sched_store.proofs.store.Store.raise.Goals as goal
@@ -36,10 +37,10 @@ pub raise-requires : goal.raise-requires
 raise-requires g c = rw (can g (goal.at.raise-requires g c).After-segments).there refl
 
 pub unwrap-requires : goal.unwrap-requires
-unwrap-requires g c = c.raise.ensures.ok.1 (book-raises (can g (goal.at.unwrap-requires g c).After-segments))
+unwrap-requires g c = let able = can g (goal.at.unwrap-requires g c).After-segments in c.raise.ensures.ok.1 (rw able.there (able.above, able.room))
 
 pub invariant_of-self-2 : goal.invariant_of-self-2
 invariant_of-self-2 g c = (told g (goal.at.invariant_of-self-2 g c).After-unwrap).stored
 
 pub returns-clause-ok : goal.returns-clause-ok
-returns-clause-ok g c = (told g (goal.at.returns-clause-ok g c).After-unwrap).shared ∙ ap (on_tenant c.args.tenant (with_reserve c.args.reserve)) c.self.view_is
+returns-clause-ok g c = rw (← c.self.view_is) (told g (goal.at.returns-clause-ok g c).After-unwrap).shared

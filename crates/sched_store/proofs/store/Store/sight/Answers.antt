@@ -1,4 +1,4 @@
-use Rattle.sched_store.proofs.Common.{ap, ◌∙◌, CoreState, sight_of}
+-- The proof of `Store::sight`: what the search leaves.
 use Rattle.sched_store.proofs.Lookups.{sight-found, entry-open, there-not-missing}
 use Rattle.sched_store.proofs.store.Store.sight.Goals as goal
 
@@ -11,6 +11,4 @@ unreachable-requires g c =
     there-not-missing c.self.invariant c.args.name some c.in-None.ensures.entry
 
 pub returns : goal.returns
-returns g c =
-    sight-found c.self.invariant c.args.name c.in-Some.ensures.entry c.sight.ensures
-    ∙ ap (λ (s : CoreState). sight_of s c.args.name) c.self.view_is
+returns g c = rw (← c.self.view_is) (sight-found c.self.invariant c.args.name c.in-Some.ensures.entry c.sight.ensures)

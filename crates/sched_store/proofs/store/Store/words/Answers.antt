@@ -1,17 +1,13 @@
-use Rattle.sched_store.proofs.Common.{ap, ◌∙◌, CoreState, words_of_frame}
-use Rattle.sched_store.proofs.Lookups.{entry-open}
-use Rattle.sched_store.proofs.Removing.{words-shown, no-words-shown}
+-- The proof of `Store::words`: what the search leaves.
+use Rattle.sched_store.proofs.Common.{arith, refl}
+use Rattle.sched_store.proofs.Lookups.{entry-open, found, nothing-found}
 use Rattle.sched_store.proofs.store.Store.words.Goals as goal
 
 pub own-requires : goal.own-requires
 own-requires g c = entry-open c.self.invariant c.args.name c.in-Some.ensures.entry
 
 pub returns-in-Some : goal.returns-in-Some
-returns-in-Some g c =
-    words-shown c.self.invariant c.args.name c.in-Some.ensures.entry c.own.ensures
-    ∙ ap (λ (s : CoreState). words_of_frame s c.args.name) c.self.view_is
+returns-in-Some g c = let f = found c.self.invariant c.args.name c.in-Some.ensures.entry in rw (← c.self.view_is, c.own.ensures) grind (arith, f)
 
 pub returns-in-None : goal.returns-in-None
-returns-in-None g c =
-    no-words-shown c.self.invariant c.args.name c.in-None.ensures.entry
-    ∙ ap (λ (s : CoreState). words_of_frame s c.args.name) c.self.view_is
+returns-in-None g c = rw (← c.self.view_is, nothing-found c.self.invariant c.args.name c.in-None.ensures.entry) refl
