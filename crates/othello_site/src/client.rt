@@ -11,58 +11,27 @@ use site_book::{Told, Who};
 use site_desk::SiteNaming;
 use site_file::Address;
 use site_office::{SiteOffice, serve_connection};
-use site_rules::{Arrival, Caller, Port, Times, identify};
+use site_rules::{Arrival, KnownClient, Port, Recognized, Times, recognize};
 use std::alloc::{AllocError, Global};
 use std::net::TcpStream;
 use std::sync::{Arc, Wait};
 use std::time::{Clock, Duration};
-
-/// A connection whose customer is known.
-#[derive(Clone, Copy)]
-struct KnownClient {
-    who: Who,
-    address: Address,
-    /// How many bytes its header had.
-    used: usize,
-}
-
-/// What came of a connection's first bytes.
-enum FirstBytes {
-    Is(KnownClient),
-    Unfinished,
-    Foreign,
-}
 
 /// Milliseconds of so many seconds.
 fn millis(seconds: u32) -> u64 {
     u64::from(seconds).saturating_mul(1_000)
 }
 
-/// Whose a connection is that begins with these bytes.
-fn identified<J: SiteNaming, R: Wait>(
+/// Whose a connection is that begins with these bytes, by the file that is gone by now.
+fn recognized<J: SiteNaming, R: Wait>(
     rt: &R,
     shared: &Shared<J>,
     port: Port,
     bytes: &[u8],
     peer: Address,
-) -> FirstBytes {
-    match identify(port, bytes, peer) {
-        Caller::From {
-            address,
-            certificate,
-            used,
-        } => {
-            let register = shared.register(rt);
-            let who = register
-                .config
-                .directory
-                .keys
-                .by_connection(certificate, address);
-            FirstBytes::Is(KnownClient { who, address, used })
-        }
-        Caller::Unfinished => FirstBytes::Unfinished,
-        Caller::Foreign => FirstBytes::Foreign,
-    }
+) -> Recognized {
+    let register = shared.register(rt);
+    recognize(port, bytes, peer, &register.config.directory.keys)
 }
 
 /// Reads until it is known whose the connection is; `None` where it is to be closed.
@@ -75,13 +44,13 @@ fn greet<J: SiteNaming, R: Clock + Wait>(
     peer: Address,
 ) -> Option<KnownClient> {
     for _ in 0..MOST_BYTES {
-        match identified(rt, shared, port, source.ahead.bytes(), peer) {
-            FirstBytes::Is(known) => return Some(known),
-            FirstBytes::Foreign => {
+        match recognized(rt, shared, port, source.ahead.bytes(), peer) {
+            Recognized::Known(known) => return Some(known),
+            Recognized::Foreign => {
                 refuse(rt, alloc, shared, peer, None, HEADER);
                 return None;
             }
-            FirstBytes::Unfinished => {}
+            Recognized::Unfinished => {}
         }
         let mut block = [0; 512];
         let most = source.ahead.left().min(block.len());

@@ -19,7 +19,6 @@
 #![tactic(auto)]
 
 mod client;
-mod connections;
 mod control;
 mod counts;
 mod ending;

@@ -1,10 +1,9 @@
 //! What all connections share beside the desks, under one lock: the file's words, rates, connections, who can be shut, and the counts.
-use crate::connections::ConnectionCounts;
 use crate::counts::{Counts, RefusedCustomers};
 use crate::rates::Rates;
 use site_book::{Group, Told, Who};
 use site_file::{Address, SiteConfig};
-use site_rules::{Arrival, ClientState, Crowd, HallRoom, Watch, arrival_of, hall_of_guest};
+use site_rules::{Arrival, ClientState, Connections, HallRoom, Watch, hall_of_guest};
 use std::alloc::{AllocError, Global};
 use std::io::ErrorKind;
 use std::net::{Shutdown, TcpStream};
@@ -34,10 +33,7 @@ pub(crate) struct SessionLink {
 pub(crate) struct Register {
     pub(crate) config: Arc<SiteConfig, Global>,
     pub(crate) rates: Rates,
-    connections: ConnectionCounts,
-    /// Connections in all, and those that count as nobody's.
-    pub(crate) all: u32,
-    pub(crate) extra: u32,
+    pub(crate) connections: Connections,
     pub(crate) links: Vec<SessionLink>,
     pub(crate) counts: Counts,
     pub(crate) refused: RefusedCustomers,
@@ -51,9 +47,7 @@ impl Register {
         Register {
             config,
             rates: Rates::new(alloc),
-            connections: ConnectionCounts::new(alloc),
-            all: 0,
-            extra: 0,
+            connections: Connections::new(alloc),
             links: Vec::new(alloc),
             counts: Counts::new(),
             refused: RefusedCustomers::new(alloc),
@@ -63,59 +57,33 @@ impl Register {
 
     /// One connection more; false where there may be none.
     pub(crate) fn come(&mut self) -> bool {
-        if self.draining.is_some() || self.all >= self.config.limits.connections {
-            return false;
-        }
-        self.all = self.all.saturating_add(1);
-        true
+        self.draining.is_none() && self.connections.come(self.config.limits.connections)
     }
 
     /// One connection less.
     pub(crate) fn go(&mut self) {
-        self.all = self.all.saturating_sub(1);
+        self.connections.go();
     }
 
-    /// How a connection of this customer is taken. (It is one of all already.)
+    /// How a connection of this customer is taken. (It is one of all already.) It is closed where there is no memory to count it.
     pub(crate) fn arrive(&mut self, who: Who) -> Arrival {
-        let crowd = Crowd {
-            own: self.connections.of(who),
-            most_own: self.config.directory.terms(who).connections,
-            extra: self.extra,
-            all: self.all.saturating_sub(1),
-            most_all: self.config.limits.connections,
-        };
-        let arrival = arrival_of(&crowd);
-        match arrival {
-            Arrival::Counted => {
-                let _ = self.connections.arrive(who);
-            }
-            Arrival::Heard => self.extra = self.extra.saturating_add(1),
-            Arrival::Closed => {}
+        let most = self.config.directory.terms(who).connections;
+        let most_all = self.config.limits.connections;
+        match self.connections.arrive(who, most, most_all) {
+            Ok(arrival) => arrival,
+            Err(_) => Arrival::Closed,
         }
-        arrival
     }
 
     /// A connection leaves that counts as this customer's, or as nobody's.
     pub(crate) fn depart(&mut self, account: Option<Who>) {
-        match account {
-            Some(who) => self.connections.depart(who),
-            None => self.extra = self.extra.saturating_sub(1),
-        }
+        self.connections.depart(account);
     }
 
-    /// Has a connection count as another customer's, if that may have one more.
+    /// Has a connection count as another customer's, if that may have one more, and there is memory to count it.
     pub(crate) fn belong(&mut self, account: Option<Who>, who: Who) -> bool {
-        if let Some(own) = account {
-            if own.is(who) {
-                return true;
-            }
-        }
-        if self.connections.of(who) >= self.config.directory.terms(who).connections {
-            return false;
-        }
-        let _ = self.connections.arrive(who);
-        self.depart(account);
-        true
+        let most = self.config.directory.terms(who).connections;
+        self.connections.belong(account, who, most).unwrap_or(false)
     }
 
     /// The hall that the file says of a customer; of a guest the first.

@@ -2,7 +2,7 @@
 use crate::paths::Paths;
 use crate::shared::Shared;
 use crate::watching::shut_told;
-use site_book::{Amount, Group, Plan, Who};
+use site_book::Plan;
 use site_desk::SiteNaming;
 use site_file::{FileFault, SiteConfig, amount_text, read_config_again};
 use site_rules::{connections_within, plan_of_both};
@@ -39,27 +39,6 @@ impl From<AllocError> for Unread {
     fn from(_fault: AllocError) -> Unread {
         Unread::Memory
     }
-}
-
-/// A plan with the same budgets, of so many customers. `None` never, as its sums fit.
-pub(crate) fn copied(
-    alloc: Global,
-    plan: &Plan,
-    customers: usize,
-) -> Result<Option<Plan>, AllocError> {
-    let mut budgets: Vec<Amount> = Vec::new(alloc);
-    for place in 0..customers {
-        let number = u32::try_from(place).unwrap_or(u32::MAX);
-        budgets.push(plan.budget(Who::Named(number)))?;
-    }
-    let nobody = Who::V4(0);
-    Ok(Plan::new(
-        plan.totals(),
-        budgets,
-        plan.budget(nobody),
-        plan.limit(Group::Network(nobody)),
-        plan.limit(Group::Guests),
-    ))
 }
 
 /// Lowers the connections of a file to those that the process has descriptors for; false where there are none.
@@ -117,8 +96,7 @@ struct PlanChange {
 
 /// The change from one file to another: all memory that it takes.
 fn change_of(alloc: Global, now: &SiteConfig, config: &SiteConfig) -> Result<PlanChange, Unread> {
-    let customers = config.directory.customers.len();
-    let many = u32::try_from(customers).unwrap_or(u32::MAX);
+    let many = u32::try_from(config.directory.customers.len()).unwrap_or(u32::MAX);
     let mut change = PlanChange {
         between: Vec::new(alloc),
         then: Vec::new(alloc),
@@ -129,7 +107,7 @@ fn change_of(alloc: Global, now: &SiteConfig, config: &SiteConfig) -> Result<Pla
             return Err(Unread::Totals);
         }
         let both = plan_of_both(alloc, own, plan, many)?;
-        let then = copied(alloc, plan, customers)?;
+        let then = plan_of_both(alloc, plan, plan, many)?;
         match (both, then) {
             (Some(both), Some(then)) => {
                 let is_kept = change.between.push(both).is_ok() && change.then.push(then).is_ok();

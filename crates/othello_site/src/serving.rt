@@ -12,7 +12,6 @@ use crate::listening::take_all;
 use crate::logging::Log;
 use crate::paths::Paths;
 use crate::register::Register;
-use crate::reloading::copied;
 use crate::shared::Shared;
 use crate::visits::{HOSTS, Visits};
 use crate::watching::watch_all;
@@ -23,7 +22,7 @@ use sched_rules::Worker;
 use site_book::{CustomerBook, Plan};
 use site_desk::{SiteDesk, SiteNaming, SiteStock, desks_of};
 use site_file::SiteConfig;
-use site_rules::Port;
+use site_rules::{Port, plan_of_both};
 use std::alloc::{AllocError, Global};
 use std::io;
 use std::marker::Brand;
@@ -145,9 +144,10 @@ fn stock_of(
 /// What the desks of a site are made of, one for each plan; `None` where one's totals are beyond any hall's.
 fn stocks_of(alloc: Global, config: &SiteConfig) -> Result<Option<Vec<SiteStock>>, AllocError> {
     let mut stocks = Vec::new(alloc);
+    let customers = config.directory.customers.len();
+    let many = u32::try_from(customers).unwrap_or(u32::MAX);
     for plan in &config.halls {
-        let customers = config.directory.customers.len();
-        let Some(plan) = copied(alloc, plan, customers)? else {
+        let Some(plan) = plan_of_both(alloc, plan, plan, many)? else {
             return Ok(None);
         };
         match stock_of(alloc, plan, customers, config.workers.grain)? {

@@ -7,7 +7,7 @@ use site_book::{Group, Told, Who};
 use site_desk::SiteNaming;
 use site_file::Address;
 use site_office::{Cause, Environment, Identity, Note};
-use site_rules::HallRoom;
+use site_rules::{HallRoom, speaker};
 use std::alloc::Global;
 use std::net::{Shutdown, TcpStream};
 use std::sync::{Arc, Wait};
@@ -136,11 +136,7 @@ impl<J: SiteNaming, R: Clock + Wait> Environment for SiteEnvironment<'_, J, R> {
         self.asked = self.shared.micros(self.rt);
         let rooms = self.rooms(token);
         let mut register = self.shared.register(self.rt);
-        let who = match token {
-            None => Some(self.own),
-            Some(token) => register.config.directory.keys.by_token(token),
-        };
-        let Some(who) = who else {
+        let Some(who) = speaker(self.own, token, &register.config.directory.keys) else {
             return Identity::Nobody;
         };
         let is_draining = register.draining.is_some();

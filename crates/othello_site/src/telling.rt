@@ -93,7 +93,7 @@ pub(crate) fn stats_of<J: SiteNaming, R: AllocGlobal + Clock + Wait>(
     let mut out = String::new(rt.alloc());
     let (all, extra) = {
         let register = shared.register(rt);
-        (register.all, register.extra)
+        (register.connections.all(), register.connections.extra())
     };
     writeln!(out, "connections={all} heard={extra}")?;
     for hall in 0..shared.desks.len() {
@@ -217,7 +217,7 @@ pub(crate) fn metrics_of<J: SiteNaming, R: AllocGlobal + Clock + Wait>(
     let mut out = String::new(rt.alloc());
     let (counts, connections) = {
         let register = shared.register(rt);
-        (register.counts, register.all)
+        (register.counts, register.connections.all())
     };
     push_head(&mut out, "build_info", "The version that runs.", "gauge")?;
     writeln!(out, "othello_site_build_info{{version=\"1.0.0\"}} 1")?;

@@ -32,7 +32,6 @@ use desk::{DeskGuard, DeskLock, Kept};
 use hall::{Outcome, Refusal};
 use jamboree_rules::pool_rules::{Holding, Task};
 use othello_board::position_text::Position;
-use sched_rules::Worker;
 use site_book::{
     Amount, BookRefusal, Comer, Group, MOST, Overrun, Plan, Present, SessionMark, Told, Whom,
 };
@@ -40,7 +39,7 @@ use std::alloc::{Allocator, Global};
 use std::marker::Model;
 use std::sync::{Condvar, MutexGuard, Wait};
 use std::time::Duration;
-use steal_pool::{Gate, Tasks, Workplace, steps};
+use steal_pool::{Gate, Round, Tasks, Workplace, steps};
 use tenant_quota::{Left, Reserve};
 
 /// A hall with its book and its roll under a lock, and the conditions that workers, seats and comers wait for. `A` is the hall's
@@ -416,21 +415,12 @@ impl<J: SiteNaming, A: Allocator + Clone> Workplace for SiteDesk<J, A> {
     fn work<G: Gate, R: Wait>(
         &self,
         rt: &R,
-        worker: Worker,
         badge: &mut SiteBadge,
         tasks: &mut Tasks<'_>,
         gate: &G,
-        holding: Holding,
+        round: Round,
     ) -> Holding {
-        steps(
-            rt,
-            self.hold(rt, badge),
-            worker,
-            badge,
-            tasks,
-            gate,
-            holding,
-        )
+        steps(rt, self.hold(rt, badge), badge, tasks, gate, round)
     }
 
     fn pick<R: Wait>(&self, rt: &R) -> Option<Task> {

@@ -1,6 +1,7 @@
 //! A file's text as what a site can go by.
 ghost use Rattle.std.specs.Prelude.{◌≡◌, IfOk, None};
 ghost use Rattle.site_file.specs.Checks.{fault_of};
+ghost use Rattle.site_file.specs.Homes.{AreAtHome};
 
 use crate::again::{changed_word, renumber};
 use crate::checks::DirectoryFault;
@@ -13,9 +14,10 @@ use crate::section::Section;
 use site_book::Amount;
 use std::alloc::{AllocError, Global};
 
-/// Reads a file, and checks it whole. An error says the line and what is wrong there.
+/// Reads a file, and checks it whole. Each customer has its budget in one hall, its home. An error says the line and what is wrong there.
 pub fn read_config(alloc: Global, text: &str) -> Result<SiteConfig, FileFault>
-    ensures { IfOk result (λ config. fault_of config.directory.customers.items config.directory.guest config.directory.keys ≡ None) }
+    ensures homes { IfOk result (λ config. AreAtHome config.halls.items config.directory.customers.items) }
+    ensures faultless { IfOk result (λ config. fault_of config.directory.customers.items config.directory.guest config.directory.keys ≡ None) }
 {
     let told = told_of(alloc, text)?;
     let config = config_of(alloc, text, told)?;
@@ -29,7 +31,9 @@ pub fn read_config_again(
     alloc: Global,
     text: &str,
     now: &SiteConfig,
-) -> Result<SiteConfig, FileFault> {
+) -> Result<SiteConfig, FileFault>
+    ensures homes { IfOk result (λ config. AreAtHome config.halls.items config.directory.customers.items) }
+{
     let first = read_config(alloc, text)?;
     drop(first);
     let mut told = told_of(alloc, text)?;
@@ -57,7 +61,9 @@ fn changed(alloc: Global, text: &str, word: &str) -> FileFault {
 }
 
 /// What a site goes by, of what was told, with each customer at its home.
-fn config_of(alloc: Global, text: &str, told: FileContents) -> Result<SiteConfig, FileFault> {
+fn config_of(alloc: Global, text: &str, told: FileContents) -> Result<SiteConfig, FileFault>
+    ensures { IfOk result (λ config. AreAtHome config.halls.items config.directory.customers.items) }
+{
     let FileContents {
         entrances,
         control,
@@ -96,7 +102,8 @@ fn config_of(alloc: Global, text: &str, told: FileContents) -> Result<SiteConfig
 
 /// What a site goes by, where its directory has no fault.
 fn checked(alloc: Global, text: &str, config: SiteConfig) -> Result<SiteConfig, FileFault>
-    ensures { IfOk result (λ config. fault_of config.directory.customers.items config.directory.guest config.directory.keys ≡ None) }
+    ensures same { IfOk result (λ same. (same.halls ≡ config.halls) × (same.directory ≡ config.directory)) }
+    ensures faultless { IfOk result (λ config. fault_of config.directory.customers.items config.directory.guest config.directory.keys ≡ None) }
 {
     let SiteConfig {
         entrances,

@@ -1,4 +1,7 @@
 //! In which hall each customer is at home, and the plan of each hall.
+ghost use Rattle.std.specs.Prelude.{◌≡◌, IfOk};
+ghost use Rattle.site_file.specs.Homes.{budgets_at, first_budget, later_budgets, plans_from};
+
 use crate::directory::Terms;
 use crate::guests::Guests;
 use site_book::{Amount, Plan};
@@ -80,21 +83,38 @@ pub(crate) fn settle(
     Ok(())
 }
 
+/// The first of these budgets, or nothing where there is none, and those behind it.
+fn first_of(budgets: &[Amount]) -> (Amount, &[Amount])
+    ensures first { result.0 ≡ first_budget budgets.now }
+    ensures later { result.1.now ≡ later_budgets budgets.now }
+{
+    match budgets.split_first() {
+        Some((budget, later)) => (*budget, later),
+        None => (Amount::NOTHING, budgets),
+    }
+}
+
 /// The budgets that customers have in a hall: nothing where it isn't their home.
 fn budgets_at(
     alloc: Global,
     hall: u32,
     budgets: &[Amount],
     customers: &[Terms],
-) -> Result<Vec<Amount>, AllocError> {
+) -> Result<Vec<Amount>, AllocError>
+    ensures { IfOk result (λ there. there.items ≡ budgets_at hall budgets.now customers.now) }
+{
     let mut there = Vec::new(alloc);
-    for (place, terms) in customers.iter().enumerate() {
-        let budget = budgets.get(place).copied().unwrap_or(Amount::NOTHING);
+    let mut rest = customers;
+    let mut left = budgets;
+    while let Some((terms, later)) = rest.split_first() {
+        let (budget, others) = first_of(left);
         there.push(if terms.hall == hall {
             budget
         } else {
             Amount::NOTHING
         })?;
+        rest = later;
+        left = others;
     }
     Ok(there)
 }
@@ -106,7 +126,9 @@ pub(crate) fn plans_of(
     guests: &Guests,
     budgets: &[Amount],
     customers: &[Terms],
-) -> Result<Result<Vec<Plan>, u32>, AllocError> {
+) -> Result<Result<Vec<Plan>, u32>, AllocError>
+    ensures { IfOk result (λ found. IfOk found (λ plans. plans.items ≡ plans_from 0 count (record { totals = guests.now.totals; each = guests.now.each; network = guests.now.network; together = guests.now.together }) budgets.now customers.now)) }
+{
     let mut plans = Vec::new(alloc);
     for hall in 0..count {
         let there = budgets_at(alloc, hall, budgets, customers)?;

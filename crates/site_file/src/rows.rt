@@ -4,7 +4,10 @@ ghost use Rattle.site_book.specs.declared.who.Who.TheVariants.{Named, V4 as v4_g
 ghost use Rattle.site_file.specs.declared.address.Address.TheVariants.{V4, V6};
 ghost use Rattle.site_file.specs.declared.address.Network.TheVariants.{V4 as v4_network, V6 as v6_network};
 ghost use Rattle.site_file.specs.Addresses.{v6_of, guest_of, has, is_same_network};
+ghost use Rattle.site_book.specs.Amounts.{nothing};
+ghost use Rattle.site_file.specs.Homes.{amount_of, budgets_at};
 ghost use Rattle.site_file.specs.Keys.{by_address, by_connection};
+ghost use Rattle.site_file.specs.declared.directory.Terms.{Terms};
 ghost use Rattle.site_file.specs.Checks.{repeated_network, has_network, is_fit_rate};
 ghost use Rattle.site_file.specs.Rates.{paid_after, may_pass, passed};
 ghost use Rattle.site_file.specs.Counts.{count_within};
@@ -69,4 +72,12 @@ pub fn numbers_are_counts()
     ensures below { count_within (pos 0) 1 4096 ≡ None }
     ensures above { count_within (pos 4097) 1 4096 ≡ None }
     ensures negative { count_within (negsuc 0) 0 4096 ≡ None }
+{}
+
+/// Of two customers each has its budget at home, and nothing elsewhere; one without a budget has none.
+pub fn customers_have_homes()
+    ensures first { (one two : Terms) → one.hall ≡ 0 → two.hall ≡ 32 → budgets_at 0 ((amount_of 5) ∷ (amount_of 7) ∷ []) (one ∷ two ∷ []) ≡ (amount_of 5) ∷ nothing ∷ [] }
+    ensures second { (one two : Terms) → one.hall ≡ 0 → two.hall ≡ 32 → budgets_at 32 ((amount_of 5) ∷ (amount_of 7) ∷ []) (one ∷ two ∷ []) ≡ nothing ∷ (amount_of 7) ∷ [] }
+    ensures nobody { (one two : Terms) → one.hall ≡ 0 → two.hall ≡ 32 → budgets_at 1 ((amount_of 5) ∷ (amount_of 7) ∷ []) (one ∷ two ∷ []) ≡ nothing ∷ nothing ∷ [] }
+    ensures without { (one : Terms) → one.hall ≡ 3 → budgets_at 3 [] (one ∷ []) ≡ nothing ∷ [] }
 {}

@@ -1,3 +1,5 @@
 pub mod FieldLemmas
 pub mod HeaderLemmas
 pub mod ReloadLemmas
+pub mod ConnectionLemmas
+pub mod Rules

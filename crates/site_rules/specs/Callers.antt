@@ -10,6 +10,13 @@ use Rattle.site_rules.specs.Texts.{IsReading}
 use Rattle.site_file.specs.Addresses.{v6_of}
 use Rattle.site_file.specs.declared.address.Address.{Address}
 use Rattle.site_file.specs.declared.address.Address.TheVariants.{V4}
+use Rattle.site_file.specs.Keys.{by_connection, by_token}
+use Rattle.site_file.specs.declared.keys.CertificateKey.{CertificateKey}
+use Rattle.site_file.specs.declared.keys.NetworkKey.{NetworkKey}
+use Rattle.site_file.specs.declared.keys.TokenKey.{TokenKey}
+use Rattle.site_book.specs.declared.who.Who.{Who}
+use Rattle.site_rules.specs.declared.callers.Recognized.{Recognized}
+use Rattle.site_rules.specs.declared.callers.Recognized.TheVariants.{Known, Unfinished, Foreign}
 use Rattle.site_rules.specs.declared.callers.Port.{Port}
 use Rattle.site_rules.specs.declared.callers.Port.TheVariants.{Proxied, Plain}
 
@@ -36,3 +43,14 @@ caller_by (Ok (Some header)) peer = Comes (address_of header.origin peer) (field
 abbrev pub IsIdentified : Port → List ℕ → Address → CallerOf → Type 0
 IsIdentified Plain bytes peer caller = caller ≡ Comes peer None 0
 IsIdentified Proxied bytes peer caller = (read : Result (Option HeaderOf) HeaderFault) × IsReading bytes read × (caller ≡ caller_by read peer)
+
+-- a caller by the file's keys: the customer of its certificate's name, or else of its address
+abbrev pub recognized : List CertificateKey → List NetworkKey → CallerOf → Recognized
+recognized certificates networks (Comes address certificate used) = Known (record { who = by_connection certificates networks certificate address; address = address; used = used })
+recognized certificates networks Waiting = Unfinished
+recognized certificates networks Closed = Foreign
+
+-- whose a session is to be that a HELLO asks for on a connection of this customer: the customer's of the token, or else the connection's own
+abbrev pub speaker : Who → List TokenKey → Option (List ℕ) → Option Who
+speaker own tokens None = Some own
+speaker own tokens (Some token) = by_token tokens token

@@ -3,6 +3,7 @@ pub mod Texts
 pub mod Fields
 pub mod HeaderViews
 pub mod Arrivals
+pub mod Connections
 pub mod Paces
 pub mod Watches
 pub mod Callers

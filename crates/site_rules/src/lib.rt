@@ -2,10 +2,11 @@
 //! and what its operator asks. Pure values: whoever has the sockets and the clock asks here.
 //!
 //! - [`identify`]: whose a connection is by its first bytes, at a proxy's port by the header ([`read_header`]), which must be understood, and
-//!   else by its own address.
+//!   else by its own address; [`recognize`]: the customer, by a file's keys. [`speaker`]: whose a session is to be that a HELLO asks for.
 //! - [`read_header`]: what a proxy says in front of a connection's own bytes of where the connection comes from.
 //! - [`hall_of_guest`]: in which hall a guest's next session is. [`is_said`]: whether a line of the log is said that anybody can cause.
 //! - [`arrival_of`]: whether a connection counts as its customer's, is heard for its first line though its customer has too many, or is closed.
+//! - [`Connections`]: how many there are and as whose each counts, also once a token makes it another customer's.
 //! - [`connections_within`]: how many connections a process has descriptors for. [`plan_of_both`]: how a site changes from one file to another.
 //! - [`pause`]: how long a session sleeps whose lines come too fast.
 //! - [`Pace`]: until when a connection may be silent. [`Watch`]: when a client that can't be seen to speak is gone.
@@ -24,6 +25,7 @@
 mod arrivals;
 mod callers;
 mod commands;
+mod connections;
 mod descriptors;
 mod faults;
 mod fields;
@@ -38,8 +40,9 @@ mod texts;
 mod watches;
 
 pub use arrivals::{Arrival, Crowd, arrival_of};
-pub use callers::{Caller, Port, identify};
+pub use callers::{Caller, KnownClient, Port, Recognized, identify, recognize, speaker};
 pub use commands::{Command, Whose, read_command};
+pub use connections::{Connections, CustomerConnections};
 pub use descriptors::{KEPT_DESCRIPTORS, connections_within};
 pub use faults::HeaderFault;
 pub use fields::field_of;

@@ -1,6 +1,9 @@
 //! The definitions, tried on instances: each contract is computed from the definitions alone.
 ghost use Rattle.std.specs.Prelude.{◌≡◌, true, false, Some, None, [], ◌∷◌, ◌++◌, replicate, take, codes, Ok, Err};
 ghost use Rattle.site_rules.specs.Arrivals.{arrival};
+ghost use Rattle.site_rules.specs.Callers.{speaker};
+ghost use Rattle.site_rules.specs.Connections.{after_arrival, after_move, home_of, may_belong, with_home, with_one_less, with_one_more};
+ghost use Rattle.site_book.specs.declared.who.Who.TheVariants.{Named as NamedWho, V4 as V4Who, V6 as V6Who};
 ghost use Rattle.site_rules.specs.Descriptors.{connections_within};
 ghost use Rattle.site_rules.specs.Flows.{paid_with, pause};
 ghost use Rattle.site_rules.specs.Halls.{hall_of_guest};
@@ -21,6 +24,27 @@ pub fn connections_are_taken()
     ensures heard { arrival (record { own = 4; most_own = 4; extra = 24; all = 99; most_all = 100 }) ≡ Heard }
     ensures too_many_heard { arrival (record { own = 4; most_own = 4; extra = 25; all = 99; most_all = 100 }) ≡ Closed }
     ensures too_many { arrival (record { own = 0; most_own = 4; extra = 0; all = 100; most_all = 100 }) ≡ Closed }
+{}
+
+/// Connections count as a customer's, as nobody's, and as another customer's once a token says so. The first customer here has two.
+pub fn connections_are_counted()
+    ensures one_more { with_one_more (NamedWho 3) (record { who = V4Who 9; connections = 1; home = None } ∷ record { who = NamedWho 3; connections = 2; home = Some 1 } ∷ [])
+        ≡ record { who = V4Who 9; connections = 1; home = None } ∷ record { who = NamedWho 3; connections = 3; home = Some 1 } ∷ [] }
+    ensures first { with_one_more (V6Who 9) (record { who = V4Who 9; connections = 1; home = None } ∷ []) ≡ record { who = V4Who 9; connections = 1; home = None } ∷ record { who = V6Who 9; connections = 1; home = None } ∷ [] }
+    ensures one_less { with_one_less (NamedWho 3) (record { who = NamedWho 3; connections = 2; home = Some 1 } ∷ []) ≡ record { who = NamedWho 3; connections = 1; home = Some 1 } ∷ [] }
+    ensures last { with_one_less (V4Who 9) (record { who = V4Who 9; connections = 1; home = None } ∷ record { who = NamedWho 3; connections = 2; home = Some 1 } ∷ []) ≡ record { who = NamedWho 3; connections = 2; home = Some 1 } ∷ [] }
+    ensures nobodys { after_arrival (NamedWho 3) Heard (record { all = 5; extra = 1; customers = [] }) ≡ record { all = 5; extra = 2; customers = [] } }
+    ensures closed { after_arrival (NamedWho 3) Closed (record { all = 5; extra = 1; customers = [] }) ≡ record { all = 5; extra = 1; customers = [] } }
+    ensures moved { after_move None (NamedWho 3) (record { all = 5; extra = 1; customers = record { who = NamedWho 3; connections = 2; home = None } ∷ [] }) ≡ record { all = 5; extra = 0; customers = record { who = NamedWho 3; connections = 3; home = None } ∷ [] } }
+    ensures full { may_belong None (NamedWho 3) 2 (record { all = 5; extra = 1; customers = record { who = NamedWho 3; connections = 2; home = None } ∷ [] }) ≡ false }
+    ensures own { may_belong (Some (NamedWho 3)) (NamedWho 3) 2 (record { all = 5; extra = 1; customers = record { who = NamedWho 3; connections = 2; home = None } ∷ [] }) ≡ true }
+    ensures here { home_of (NamedWho 3) (with_home (NamedWho 3) 2 (record { who = V4Who 9; connections = 1; home = Some 0 } ∷ record { who = NamedWho 3; connections = 2; home = Some 1 } ∷ [])) ≡ Some 2 }
+{}
+
+/// Who speaks: the connection's customer, and nobody where no file has the token.
+pub fn tokens_speak()
+    ensures own { speaker (V4Who 9) [] None ≡ Some (V4Who 9) }
+    ensures nobody { speaker (V4Who 9) [] (Some (codes "a token that nobody has")) ≡ None }
 {}
 
 /// Descriptors at the edges.

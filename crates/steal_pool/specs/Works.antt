@@ -1,5 +1,5 @@
 -- Meaning: what one act of a worker comes to: its turn is the table's, its badge counts the steps that were taken, and the turn's task is pushed.
-use Rattle.std.specs.Prelude.{◌≡◌, ◌⊎◌, ℕ, ◌+◌, true, Option, Some, None, Result, Ok, Err}
+use Rattle.std.specs.Prelude.{◌≡◌, ◌⊎◌, ℕ, true, Option, Some, None, Result}
 use Rattle.frame_table.specs.declared.names.FrameId.{FrameId}
 use Rattle.sched_rules.specs.declared.refusal.Refusal.{Refusal}
 use Rattle.sched_rules.specs.declared.step.DidOf.{DidOf}
@@ -35,20 +35,25 @@ pub record IsTurn (worker : ℕ) (held next : Holding) (before after : ℕ) (sea
 abbrev pub IsTakenFromOwn : Task → WorkerSeats → WorkerSeats → Type 0
 IsTakenFromOwn task before after = after ≡ record before { own = with_taken task before.own }
 
+-- a worker's seats at the deques, and how many tasks it has begun since its last pick
+pub record Standing : Type 0 where
+  pub seats : WorkerSeats
+  pub since : ℕ
+
 -- what a worker without a frame that has the hall locked does next: a fair pick, only where one is due, after which it has begun no other
 -- task; or the newest task of its own deque, which is counted; or nothing
-abbrev pub BeginsHere : (Task → Type 0) → Order → Option Task → WorkerSeats → WorkerSeats → ℕ → ℕ → Type 0
-BeginsHere fair order None before after since_before since = (after ≡ before) × (since ≡ since_before)
-BeginsHere fair order (Some task) before after since_before since =
-    ((is_due order since_before ≡ true) × fair task × (after ≡ before) × (since ≡ 0))
-    ⊎ (IsTakenFromOwn task before after × (since ≡ since_after order since_before))
+abbrev pub BeginsHere : (Task → Type 0) → Order → Option Task → Standing → Standing → Type 0
+BeginsHere fair order None before after = after ≡ before
+BeginsHere fair order (Some task) before after =
+    ((is_due order before.since ≡ true) × fair task × (after ≡ record before { since = 0 }))
+    ⊎ (IsTakenFromOwn task before.seats after.seats × (after.since ≡ since_after order before.since))
 
 -- what a worker holds next under the same lock: what it held, and its seats haven't changed; or, where it was without a frame,
 -- a task that it begins there
-abbrev pub GoesOnHere : (Task → Type 0) → Order → Holding → Holding → WorkerSeats → WorkerSeats → ℕ → ℕ → Type 0
-GoesOnHere fair order held next before after since_before since =
-    ((next ≡ held) × (after ≡ before) × (since ≡ since_before))
-    ⊎ ((task : Task) × (held ≡ Nothing) × (next ≡ Next (Get task)) × BeginsHere fair order (Some task) before after since_before since)
+abbrev pub GoesOnHere : (Task → Type 0) → Order → Holding → Holding → Standing → Standing → Type 0
+GoesOnHere fair order held next before after =
+    ((next ≡ held) × (after ≡ before))
+    ⊎ ((task : Task) × (held ≡ Nothing) × (next ≡ Next (Get task)) × BeginsHere fair order (Some task) before after)
 
 -- a worker holds an answer to this frame, which it brings to the hall next, and which was computed from just this leaf
 abbrev pub BringsAnswerTo : FrameId → Leaf → Holding → Type 0

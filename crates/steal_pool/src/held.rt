@@ -16,6 +16,14 @@ use std::sync::Wait;
 /// The most steps that a worker takes under one lock.
 const HELD_STEPS: u32 = 32;
 
+/// What a worker comes to the lock with.
+pub struct Round {
+    /// Its number.
+    pub worker: Worker,
+    /// What it holds.
+    pub holding: Holding,
+}
+
 /// What one tenant was served under this lock, for which nobody was charged yet. A charge writes to accounts that all workers write to, so
 /// that tasks of one tenant that follow each other are charged together.
 #[derive(Drop)]
@@ -59,15 +67,15 @@ impl Owed {
 pub fn steps<T: UnderLock, G: Gate, R: Wait>(
     rt: &R,
     held: DeskGuard<'_, T>,
-    worker: Worker,
     badge: &mut T::Badge,
     tasks: &mut Tasks<'_>,
     gate: &G,
-    holding: Holding,
+    round: Round,
 ) -> Holding
     ensures ends { posts tasks.new.ends ≡ posts tasks.old.ends }
     ensures few { T.Badge.share badge.new ≤ T.Badge.share badge.old + 32 }
 {
+    let Round { worker, holding } = round;
     let mut held = held;
     let mut holding = holding;
     let mut owed = Owed::nothing();
@@ -139,7 +147,7 @@ fn gone_on<T: UnderLock, G: Gate>(
     owed: &mut Owed,
     holding: Holding,
 ) -> Holding
-    ensures next { GoesOnHere (T.is_fair held.new) tasks.old.rhythm.order holding result (worker_seats tasks.old.ends) (worker_seats tasks.new.ends) tasks.old.rhythm.since tasks.new.rhythm.since }
+    ensures next { GoesOnHere (T.is_fair held.new) tasks.old.rhythm.order holding result (record { seats = worker_seats tasks.old.ends; since = tasks.old.rhythm.since }) (record { seats = worker_seats tasks.new.ends; since = tasks.new.rhythm.since }) }
     ensures ends { posts tasks.new.ends ≡ posts tasks.old.ends }
 {
     match holding {
@@ -161,7 +169,7 @@ fn next_here<T: UnderLock>(
     tasks: &mut Tasks<'_>,
     owed: &mut Owed,
 ) -> Option<Task>
-    ensures next { BeginsHere (T.is_fair held.new) tasks.old.rhythm.order result (worker_seats tasks.old.ends) (worker_seats tasks.new.ends) tasks.old.rhythm.since tasks.new.rhythm.since }
+    ensures next { BeginsHere (T.is_fair held.new) tasks.old.rhythm.order result (record { seats = worker_seats tasks.old.ends; since = tasks.old.rhythm.since }) (record { seats = worker_seats tasks.new.ends; since = tasks.new.rhythm.since }) }
     ensures ends { posts tasks.new.ends ≡ posts tasks.old.ends }
 {
     if tasks.rhythm.is_due() {

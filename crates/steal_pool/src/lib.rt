@@ -61,7 +61,7 @@ mod workplace;
 
 pub use announce::{Announce, Quiet};
 pub use gate::{Gate, OpenGate};
-pub use held::steps;
+pub use held::{Round, steps};
 pub use jamboree_rules::pool_rules::Task;
 pub use order::{Order, Rhythm};
 pub use pool::{

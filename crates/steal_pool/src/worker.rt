@@ -10,6 +10,7 @@ ghost use Rattle.steal_pool.specs.task_deques.Deals.{posts};
 ghost use Rattle.steal_pool.specs.Works.{BringsAnswerTo};
 
 use crate::gate::Gate;
+use crate::held::Round;
 use crate::tasks::Tasks;
 use crate::workplace::Workplace;
 use desk::jamboree::{Leaf, LeafAnswer};
@@ -88,7 +89,7 @@ fn work_off<P: Workplace, G: Gate, R: Wait>(
                 tasks.cost = cost_of(leaf);
                 computed(worker, tasks.begin(rt), gate, frame, leaf)
             }
-            held => place.work(rt, worker, badge, tasks, gate, held),
+            holding => place.work(rt, badge, tasks, gate, Round { worker, holding }),
         };
     }
 }

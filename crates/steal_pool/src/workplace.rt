@@ -1,10 +1,9 @@
 //! Where workers work: a hall under a lock.
 use crate::gate::Gate;
-use crate::held::steps;
+use crate::held::{Round, steps};
 use crate::tasks::Tasks;
 use desk::{Badge, Desk, DeskLedger, WorkerBadge};
 use jamboree_rules::pool_rules::{Holding, Task};
-use sched_rules::Worker;
 use std::sync::Wait;
 
 /// What workers ask of the place that they work at: a hall under a lock, and, where its users share it by what each was served, who comes
@@ -27,11 +26,10 @@ pub trait Workplace {
     fn work<G: Gate, R: Wait>(
         &self,
         rt: &R,
-        worker: Worker,
         badge: &mut Self::Badge,
         tasks: &mut Tasks<'_>,
         gate: &G,
-        holding: Holding,
+        round: Round,
     ) -> Holding
         ensures ends { posts tasks.new.ends ≡ posts tasks.old.ends }
         ensures few { Self.Badge.share badge.new ≤ Self.Badge.share badge.old + 32 };
@@ -60,21 +58,12 @@ impl<L: DeskLedger> Workplace for Desk<L> {
     fn work<G: Gate, R: Wait>(
         &self,
         rt: &R,
-        worker: Worker,
         badge: &mut Badge<L>,
         tasks: &mut Tasks<'_>,
         gate: &G,
-        holding: Holding,
+        round: Round,
     ) -> Holding {
-        steps(
-            rt,
-            self.hold(rt, badge),
-            worker,
-            badge,
-            tasks,
-            gate,
-            holding,
-        )
+        steps(rt, self.hold(rt, badge), badge, tasks, gate, round)
     }
 
     fn pick<R: Wait>(&self, _rt: &R) -> Option<Task> {

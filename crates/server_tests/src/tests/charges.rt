@@ -10,7 +10,7 @@ use site_desk::{SiteDesk, SiteNaming, SiteSeat};
 use std::process::Abort;
 use std::sync::Wait;
 use steal_pool::task_deques::deal;
-use steal_pool::{OpenGate, SharedComputations, Workplace};
+use steal_pool::{OpenGate, Round, SharedComputations, Workplace};
 
 /// The seat of a guest of this number that has asked for two jobs of one frame.
 fn asked_twice<J: SiteNaming, R: Wait + Abort>(
@@ -47,15 +47,32 @@ pub(super) fn both_are_served<J: SiteNaming, R: Wait + Abort + AllocGlobal>(
     let _first = asked_twice(rt, desk, 1);
     let _second = asked_twice(rt, desk, 2);
     let begun = Holding::Next(Action::Get(picked(rt, desk, 1)));
-    let Holding::Computing(frame, leaf) = desk.work(rt, worker, badge, &mut tasks, gate, begun)
-    else {
+    let Holding::Computing(frame, leaf) = desk.work(
+        rt,
+        badge,
+        &mut tasks,
+        gate,
+        Round {
+            worker,
+            holding: begun,
+        },
+    ) else {
         return holds(rt, false);
     };
     let task = picked(rt, desk, 2);
     holds(rt, tasks.ends.push(task).is_ok());
     tasks.cost = 5;
     let brings = Holding::Next(Action::Bring(frame, LeafAnswer::compute(leaf)));
-    let Holding::Computing(next, _) = desk.work(rt, worker, badge, &mut tasks, gate, brings) else {
+    let Holding::Computing(next, _) = desk.work(
+        rt,
+        badge,
+        &mut tasks,
+        gate,
+        Round {
+            worker,
+            holding: brings,
+        },
+    ) else {
         return holds(rt, false);
     };
     holds(rt, next.tenant == 2 && tasks.cost == 0);
