@@ -5,6 +5,7 @@ use Rattle.std.specs.declared.net.SocketAddr.{SocketAddr}
 use Rattle.clap.specs.Words.{Text}
 use Rattle.line_io.specs.Streams.{ReadAnswer, WriteAnswer}
 use Rattle.line_io.specs.Writes.{IsWritten}
+use Rattle.hall.specs.Halls.{HallOf, empty_hall}
 use Rattle.commands.specs.declared.command_line.options.Options.{Options}
 use Rattle.commands.specs.declared.command_line.options.Options.TheVariants.{Serve, Solve, SolveOrdered}
 use Rattle.commands.specs.declared.command_line.faults.WordsFault.{WordsFault}
@@ -34,10 +35,16 @@ abbrev pub IsServed : {K : Type 0} → (K → WriteAnswer → K → Type 0) → 
 IsServed {K} takes sink sessions sink' =
     (address : SocketAddr) × (between : K) × IsWritten takes sink (listening_text address) between (Ok tt) × IsWritten takes between (ended_text sessions) sink' (Ok tt)
 
-module _ {S K : Type 0} (gives : S → ReadAnswer → S → Type 0) (takes : K → WriteAnswer → K → Type 0) (source : S) (sink : K) (source' : S) (sink' : K) where
+-- an audit was given the hall that a desk left which was made with this hall, and the share with all parts of the desk's ledger
+abbrev pub IsAudited : {A : Type 0} → (A → HallOf → HallOf → A → Type 0) → A → HallOf → A → Type 0
+IsAudited given audit begun audit' = (hall : HallOf) × given audit begun hall audit'
+
+module _ {S K A : Type 0} (gives : S → ReadAnswer → S → Type 0) (takes : K → WriteAnswer → K → Type 0) (given : A → HallOf → HallOf → A → Type 0) (source : S) (sink : K) (audit : A) (source' : S) (sink' : K) (audit' : A) where
   -- what is done for the words, and the exit status, 0 or 1 for a server: it reads nothing of the input, and where its
-  -- status is 0 the output was told when it listened and when its sessions had ended. All other words are followed as
-  -- those that ask for no server
+  -- status is 0 the output was told when it listened and when its sessions had ended, and the audit was given what is left by a desk
+  -- that was made with the empty hall of the options. All other words are followed as those that ask for no server
   abbrev pub IsFollowed : Result Options WordsFault → ℕ → Type 0
-  IsFollowed (Ok (Serve sessions port workers segments nodes grain)) status = (source' ≡ source) × (status ≤ 1) × (status ≡ 0 → IsServed takes sink sessions sink')
+  IsFollowed (Ok (Serve sessions port workers segments nodes grain)) status =
+      (source' ≡ source) × (status ≤ 1)
+      × (status ≡ 0 → IsServed takes sink sessions sink' × IsAudited given audit (empty_hall grain (record { segments = segments; nodes = nodes })) audit')
   IsFollowed asked status = IsSolvedAsAsked gives takes source sink source' sink' asked status

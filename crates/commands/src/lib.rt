@@ -4,17 +4,18 @@
 //! crates below it, whose contracts say what is written of what is read. Here is what is done with the words: [`run`] goes from them and
 //! three streams to the exit status. [`words_of`] gets the words, [`answer`] answers the lines of `solve`, [`Explained`] says what their
 //! faults mean, `serving` where a server listens and when it has ended, [`refuse`] why words are refused, and [`say`] what the program has to
-//! say of itself.
+//! say of itself. An [`Audit`] is given what a server's desk leaves: only then a server's status is 0.
 //!
 //! ```text
-//! run(rt, alloc, &["othello", "solve", "--visited"], &mut streams)    // "-4 d3 15\n", and status 0
-//! run(rt, alloc, &["othello", "solved"], &mut streams)                // status 2: no such command
-//! run(rt, alloc, &["othello", "serve", "--sessions", "2", "--port", "4711"], &mut streams)
+//! run(rt, alloc, &["othello", "solve", "--visited"], &mut streams, &mut Unaudited)    // "-4 d3 15\n", and status 0
+//! run(rt, alloc, &["othello", "solved"], &mut streams, &mut Unaudited)                // status 2: no such command
+//! run(rt, alloc, &["othello", "serve", "--sessions", "2", "--port", "4711"], &mut streams, &mut Unaudited)
 //! // "listening 127.0.0.1:4711\n", after two sessions "ended 2\n", and status 0
 //! ```
 #![tactic(auto)]
 
 mod answering;
+mod audit;
 pub mod command_line;
 mod explaining;
 mod running;
@@ -25,6 +26,7 @@ mod streams;
 mod words;
 
 pub use answering::{answer, answer_ordered};
+pub use audit::{Audit, Unaudited};
 pub use explaining::Explained;
 pub use running::run;
 pub use saying::{refuse, say};

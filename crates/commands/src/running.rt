@@ -6,6 +6,7 @@ ghost use Rattle.commands.specs.Answering.{IsReadOf};
 ghost use Rattle.commands.specs.Running.{IsFollowed};
 
 use crate::answering::{answer, answer_ordered};
+use crate::audit::Audit;
 use crate::command_line::Options;
 use crate::saying::refuse;
 use crate::service::Service;
@@ -24,18 +25,21 @@ use tcp_server::desk::{Opened, PARTS};
 /// Does what the words of the command line ask for, and returns the exit status: 0 where all went well, 1 where input,
 /// output or server failed or there was no memory to read the words, 2 where the words are refused. Answers, help, the
 /// version and a server's two lines go to the output, and all else that there is to say to the errors. The status stays
-/// the same where a text of help or of refusal can't be written.
-pub fn run<R, T: AsStr, S: ProgramInput, K: ProgramOutput, E: Sink>(
+/// the same where a text of help or of refusal can't be written. A server's status is 0 only where `audit` was given the hall that
+/// its desk left, with the share that has all parts of the desk's ledger: every step was made by a session or a worker that gave its
+/// share back.
+pub fn run<R, T: AsStr, S: ProgramInput, K: ProgramOutput, E: Sink, A: Audit>(
     rt: &R,
     alloc: Global,
     words: &[T],
     streams: &mut Streams<S, K, E>,
+    audit: &mut A,
 ) -> u8
 where
     R: Net<Stream = TcpStream> + Threads + Wait + Sync,
     R::Listener: Send,
     ensures { (asked : Result Options WordsFault) × IsReadOf (map T.text words.now) asked
-        × IsFollowed S.gives K.takes streams.old.source streams.old.sink streams.new.source streams.new.sink asked result }
+        × IsFollowed S.gives K.takes A.given streams.old.source streams.old.sink audit.old streams.new.source streams.new.sink audit.new asked result }
 {
     match Options::read(alloc, words) {
         Ok(Options::Solve { grain, visited }) => answer(alloc, grain, visited, streams),
@@ -48,7 +52,9 @@ where
                 Err(refused) => return failed(errors, Unserved::from(refused)),
             };
             let blank = Blank::new(PARTS);
-            serve_as_asked::<Brand, R, K, E>(rt, alloc, blank, opened, asked, sink, errors)
+            serve_as_asked::<Brand, R, K, E, A>(
+                rt, alloc, blank, opened, asked, sink, errors, audit,
+            )
         }
         Err(fault) => refuse(&fault, &mut streams.sink, &mut streams.errors),
     }

@@ -3,14 +3,15 @@
 //!
 //! When the last session has ended, the hall is taken out of the desk with the badge that the pool ended with. If that
 //! gives the share with all parts of the desk's ledger, every step in the hall is one that a seat or a badge counted:
-//! no accepted step was lost, and nobody else took one. Nobody can make such a share up, so `serve_at` gives it back,
-//! and only where it is there the status is 0.
-ghost use Rattle.std.specs.Prelude.{◌≡◌, ◌≤◌, true, IfErr, IfOk, Ok};
+//! no accepted step was lost, and nobody else took one. Nobody can make such a share up. An [`Audit`] is given it with the
+//! hall, and only where it was the status is 0: what that means to it is the audit's own, so nothing else gives the status.
+ghost use Rattle.std.specs.Prelude.{◌≡◌, ◌≤◌, true, IfErr, IfOk, Ok, OnOk};
 ghost use Rattle.line_io.specs.Writes.{IsWritten};
 ghost use Rattle.hall.specs.Halls.{empty_hall};
 ghost use Rattle.commands.specs.declared.serving.Unserved.TheVariants.{Uncounted};
-ghost use Rattle.commands.specs.Running.{IsServed, ended_text, listening_text};
+ghost use Rattle.commands.specs.Running.{IsAudited, IsServed, ended_text, listening_text};
 
+use crate::audit::Audit;
 use crate::command_line::Options;
 use crate::saying::say;
 use crate::service::Service;
@@ -21,7 +22,7 @@ use std::alloc::{AllocError, Global};
 use std::io;
 use std::net::{Ipv4Addr, Net, OpenListener, SocketAddr, TcpListener, TcpStream};
 use std::sync::Wait;
-use std::sync::ledger::{Blank, Share};
+use std::sync::ledger::Blank;
 use std::thread::Threads;
 use tcp_server::desk::{Badge, Config, Desk, DeskLedger, Hall, Jamboree, Opened, PARTS, Step};
 use tcp_server::steal_pool::{Announce, OpenGate};
@@ -116,8 +117,9 @@ impl<K: Sink> Announce for Listening<'_, K> {
 /// Runs the server that is asked for, and returns the exit status when all its sessions have ended or it has failed.
 /// The output gets `listening 127.0.0.1:port` once the listener listens and all workers were started, and `ended k`
 /// after the last of the k sessions. At status 0 both lines were written, and nothing else, and every step of the hall is
-/// accounted for; else the status is 1, and the reason is written on the errors.
-pub fn serve_as_asked<L, R, K: Sink, E: Sink>(
+/// accounted for: `audit` was given the hall, and the share that has all parts of the desk's ledger. Else the status is 1, and the
+/// reason is written on the errors.
+pub fn serve_as_asked<L, R, K: Sink, E: Sink, A: Audit>(
     rt: &R,
     alloc: Global,
     blank: Blank,
@@ -125,6 +127,7 @@ pub fn serve_as_asked<L, R, K: Sink, E: Sink>(
     asked: Service,
     sink: &mut K,
     errors: &mut E,
+    audit: &mut A,
 ) -> u8
 where
     L: DeskLedger + Send + Sync,
@@ -136,9 +139,10 @@ where
     requires begun { L.begun ≡ empty_hall asked.grain asked.config }
     ensures status { result ≤ 1 }
     ensures told { result ≡ 0 → IsServed K.takes sink.old asked.sessions sink.new }
+    ensures audited { result ≡ 0 → IsAudited A.given audit.old (empty_hall asked.grain asked.config) audit.new }
 {
-    match serve_at::<L, R, K>(rt, alloc, blank, opened, asked, sink) {
-        Ok(_whole) => EXIT_OK,
+    match serve_at::<L, R, K, A>(rt, alloc, blank, opened, asked, sink, audit) {
+        Ok(()) => EXIT_OK,
         Err(why) => failed(errors, why),
     }
 }
@@ -152,16 +156,17 @@ pub(crate) fn failed<E: Sink>(errors: &mut E, why: Unserved) -> u8
 }
 
 /// Listens at the port that is asked for, makes a hall and its desk, and serves there (`serve_from`). `Ok` where both
-/// lines `listening` and `ended` were written and every step of the hall is accounted for: with it comes the share that
-/// has all parts of the desk's ledger, which nobody can make up.
-fn serve_at<L, R, K: Sink>(
+/// lines `listening` and `ended` were written and every step of the hall is accounted for: `audit` was given the share that
+/// has all parts of the desk's ledger.
+fn serve_at<L, R, K: Sink, A: Audit>(
     rt: &R,
     alloc: Global,
     blank: Blank,
     opened: Opened<Step<Jamboree>>,
     asked: Service,
     sink: &mut K,
-) -> Result<Share<L>, Unserved>
+    audit: &mut A,
+) -> Result<(), Unserved>
 where
     L: DeskLedger + Send + Sync,
     R: Net<Stream = TcpStream> + Threads + Wait + Sync,
@@ -171,7 +176,7 @@ where
     requires history { opened ≡ L.table }
     requires begun { L.begun ≡ empty_hall asked.grain asked.config }
     ensures told { IfOk result (λ _. IsServed K.takes sink.old asked.sessions sink.new) }
-    ensures whole { IfOk result (λ whole. whole.parts ≡ L.parts) }
+    ensures audited { OnOk result (IsAudited A.given audit.old L.begun audit.new) }
 {
     let listener = match TcpListener::bind(rt, (Ipv4Addr::LOCALHOST, asked.port)) {
         Ok(listener) => listener,
@@ -179,40 +184,48 @@ where
     };
     let hall = Hall::new(alloc, asked.config, asked.grain)?;
     let desk: Desk<L> = Desk::new(hall, blank, opened);
-    serve_to_the_end(rt, alloc, desk, listener, asked, sink)
+    serve_to_the_end(rt, alloc, desk, listener, asked, sink, audit)
 }
 
 /// Serves at this desk (`serve_from`), and then takes the hall out of it. `Ok` as for `serve_at`.
-fn serve_to_the_end<L, R, N, K: Sink>(
+fn serve_to_the_end<L, R, N, K: Sink, A: Audit>(
     rt: &R,
     alloc: Global,
     desk: Desk<L>,
     listener: N,
     asked: Service,
     sink: &mut K,
-) -> Result<Share<L>, Unserved>
+    audit: &mut A,
+) -> Result<(), Unserved>
 where
     L: DeskLedger + Send + Sync,
     R: Net + Threads + Wait + Sync,
     N: OpenListener<Stream = TcpStream> + Drop + Send,
     requires { L.all ≡ L.parts }
     ensures told { IfOk result (λ _. IsServed K.takes sink.old asked.sessions sink.new) }
-    ensures whole { IfOk result (λ whole. whole.parts ≡ L.parts) }
+    ensures audited { OnOk result (IsAudited A.given audit.old L.begun audit.new) }
 {
     let badge = serve_from(rt, alloc, &desk, listener, asked, sink)?;
-    accounted(desk, badge)
+    account(desk, badge, audit)
 }
 
-/// The share that has all parts of the desk's ledger, where this badge has all that no seat and no other badge gave
-/// back: then every step of the hall is accounted for. Else `Uncounted`.
-fn accounted<L: DeskLedger>(desk: Desk<L>, badge: Badge<L>) -> Result<Share<L>, Unserved>
+/// Takes the hall out of the desk, and gives it to `audit` with the share that has all parts of the desk's ledger, where this badge
+/// has all that no seat and no other badge gave back: then every step of the hall is accounted for. Else `Uncounted`.
+fn account<L: DeskLedger, A: Audit>(
+    desk: Desk<L>,
+    badge: Badge<L>,
+    audit: &mut A,
+) -> Result<(), Unserved>
     requires { L.all ≡ L.parts }
-    ensures whole { IfOk result (λ whole. whole.parts ≡ L.parts) }
+    ensures audited { OnOk result (IsAudited A.given audit.old L.begun audit.new) }
     ensures uncounted { IfErr result (λ why. why ≡ Uncounted) }
 {
-    let (_hall, whole) = desk.into_hall(badge);
+    let (hall, whole) = desk.into_hall(badge);
     match whole {
-        Some(whole) => Ok(whole),
+        Some(whole) => {
+            audit.give(hall, whole);
+            Ok(())
+        }
         None => Err(Unserved::Uncounted),
     }
 }

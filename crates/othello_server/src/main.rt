@@ -13,14 +13,20 @@
 //! ```
 #![tactic(auto)]
 
-use commands::{Streams, run, words_of};
+use commands::{Streams, Unaudited, run, words_of};
 use std::env;
 use std::process::ExitCode;
 
 fn main(rt: HostRuntime) -> ExitCode {
     let mut streams = Streams::standard(&rt);
     let status = match words_of(rt.alloc(), env::args(&rt), &mut streams.errors) {
-        Ok(words) => run(&rt, rt.alloc(), words.as_slice(), &mut streams),
+        Ok(words) => run(
+            &rt,
+            rt.alloc(),
+            words.as_slice(),
+            &mut streams,
+            &mut Unaudited,
+        ),
         Err(status) => status,
     };
     ExitCode::from(status)

@@ -1,1 +1,3 @@
 pub mod tcp_door
+pub mod Tapes
+pub mod Connections

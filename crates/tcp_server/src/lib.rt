@@ -4,8 +4,8 @@
 //! thread of its own, in which `desk_office` answers its lines; the pool of `steal_pool` works beside them. When all
 //! sessions have ended it closes the desk, joins all, and gives what the pool ended with.
 //!
-//! A connection that is lost is a session that ended: its tenant leaves. A connection for which no thread or no
-//! descriptor can be had is closed, and counts too. The listener is closed with the last connection that is taken, so
+//! A connection that is lost is a session that ended: its tenant leaves. A connection for which no thread, no
+//! descriptor or no memory can be had is closed, and counts too. The listener is closed with the last connection that is taken, so
 //! that a client that comes later is refused at once and can try another server.
 //!
 //! Who runs where: one thread takes the connections and starts one for each in a scope of their own, so that it goes on
@@ -17,8 +17,11 @@
 //! LF, so a line is answered at once. A session that waits for a job doesn't read, so that its peer is gone is noticed
 //! when it writes the job's end.
 //!
-//! What a session answers is the contract of `desk_office::serve_desk`, whatever the threads do: a socket is a source
-//! and a sink of bytes. Here is only who runs where. Nothing is proved of when a thread runs.
+//! What a session answers is the contract of `desk_office::serve_desk_seen`, whatever the threads do: a socket is a source
+//! and a sink of bytes. What a socket gives no contract can say beforehand; a session's thread reads and writes it with a tape of
+//! each direction ([`TapedSource`], [`TapedSink`]), a list in proofs alone of what each call did. So [`converse`] can say that what
+//! passed on its connection is a session in the desk's history, and each thread's closure says it. Nothing is proved of when a
+//! thread runs.
 //!
 //! Why it is so:
 //!
@@ -42,7 +45,9 @@ pub use steal_pool::desk;
 
 mod faults;
 mod server;
+mod taped;
 pub mod tcp_door;
 
 pub use faults::ServeFault;
-pub use server::{ServerConfig, Sessions, serve, serve_announced};
+pub use server::{Passed, ServerConfig, Sessions, converse, serve, serve_announced, serve_taped};
+pub use taped::{Tape, TapedSink, TapedSource, calls_are_taped, each_call_is_on_its_tape};

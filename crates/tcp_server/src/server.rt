@@ -1,19 +1,25 @@
 //! The threads of a server: the pool in one, and one for each connection.
 ghost use Rattle.std.specs.Prelude.{◌≡◌, true, IfOk, None, Ok};
+ghost use Rattle.std.specs.Net.Tcp.{stream_raw_fd};
+ghost use Rattle.desk_office.specs.Answers.{SeenSession};
 ghost use Rattle.steal_pool.specs.Ends.{AreTasksOf};
+ghost use Rattle.tcp_server.specs.Connections.{IsSessionOn};
+ghost use Rattle.tcp_server.specs.Tapes.{Hears, Sends};
 
 use crate::faults::ServeFault;
+use crate::taped::{Tape, TapedSink, TapedSource};
 use crate::tcp_door::Door;
-use desk_office::serve_desk;
-use line_io::{FromReader, FromWriter};
+use desk_office::serve_desk_seen;
+use line_io::{Sink, Source};
 use sched_rules::Worker;
-use std::alloc::Global;
+use session::{End, SessionFault};
+use std::alloc::{AllocError, Global};
 use std::io;
 use std::net::{Net, OpenListener, SocketAddr, TcpStream};
 use std::sync::Wait;
 use std::sync::atomic::{AtomicBool, Ordering};
 use std::thread::{self, Builder, Scope, Threads};
-use steal_pool::desk::{Badge, Desk, DeskLedger};
+use steal_pool::desk::{Badge, Desk, DeskLedger, Jamboree, Step, Trace};
 use steal_pool::{Announce, BeginFault, Gate, PoolConfig, PoolEnd, Quiet, run_pool_announced};
 
 /// What a server is given.
@@ -28,7 +34,7 @@ pub struct ServerConfig {
 /// The sessions of a server.
 #[derive(Clone, Copy, Debug, PartialEq, Eq)]
 pub struct Sessions {
-    /// How many connections it takes before it ends, those included for which no thread or descriptor can be had.
+    /// How many connections it takes before it ends, those included for which no thread, descriptor or memory can be had.
     pub count: u16,
     /// The size of a session's stack in bytes; `None` for the usual size.
     pub stack: Option<usize>,
@@ -55,7 +61,7 @@ impl ServerConfig {
 /// Takes as many connections as `config` has sessions and serves each in a thread of its own, while a pool of workers
 /// runs. When all sessions have ended it closes the desk, waits for the workers, and returns what the pool ends with.
 ///
-/// At Ok so many connections were taken (each for which no thread or descriptor could be had was closed, unserved), and
+/// At Ok so many connections were taken (each for which no thread, descriptor or memory could be had was closed, unserved), and
 /// each tenant has left. At an error the sessions that were begun have ended too, and the desk is closed: `Listener`
 /// where no more connections could be taken, or the listener's address couldn't be had; `OutOfMemory` where there was
 /// no memory for the pool; `NoThread` where no thread could be had for a worker or for taking the connections, or no
@@ -108,6 +114,7 @@ pub fn serve_announced<
 {
     serve_beside(
         rt,
+        alloc,
         desk,
         listener,
         config.sessions,
@@ -141,7 +148,14 @@ fn serve_beside<
     N: OpenListener<Stream = TcpStream> + Drop + Send,
     T: Drop,
     P: FnOnce() -> Result<T, ServeFault>,
->(rt: &R, desk: &Desk<L>, listener: N, sessions: Sessions, pool: P) -> Result<T, ServeFault>
+>(
+    rt: &R,
+    alloc: Global,
+    desk: &Desk<L>,
+    listener: N,
+    sessions: Sessions,
+    pool: P,
+) -> Result<T, ServeFault>
     requires all { L.all ≡ L.parts }
     requires pool { P.pre pool }
     ensures { IfOk result (λ served. P.post pool (Ok served)) }
@@ -163,7 +177,7 @@ fn serve_beside<
             let started = scope.spawn(
                 move || -> io::Result<()>
                     requires { L.all ≡ L.parts }
-                { serve_and_close(rt, desk, listener, sessions, stop) },
+                { serve_and_close(rt, alloc, desk, listener, sessions, stop) },
             );
             let Ok(taking) = started else {
                 return Err(closing(rt, desk, ServeFault::NoThread));
@@ -207,7 +221,14 @@ fn serve_and_close<
     L: DeskLedger + Send + Sync,
     R: Threads + Wait + Sync,
     N: OpenListener<Stream = TcpStream> + Drop,
->(rt: &R, desk: &Desk<L>, listener: N, sessions: Sessions, stop: &AtomicBool) -> io::Result<()>
+>(
+    rt: &R,
+    alloc: Global,
+    desk: &Desk<L>,
+    listener: N,
+    sessions: Sessions,
+    stop: &AtomicBool,
+) -> io::Result<()>
     requires { L.all ≡ L.parts }
 {
     let taken = thread::scope(
@@ -215,14 +236,14 @@ fn serve_and_close<
         rt,
         |scope|
             requires { L.all ≡ L.parts }
-        { take_all(scope, rt, desk, listener, sessions, stop) },
+        { take_all(scope, rt, alloc, desk, listener, sessions, stop) },
     );
     desk.close(rt);
     taken
 }
 
 /// Takes so many connections, starts a session for each in a thread of `scope`, and closes the listener; it doesn't
-/// wait for the sessions. A connection for which no thread or descriptor can be had is closed, and counts as one of
+/// wait for the sessions. A connection for which no thread, descriptor or memory can be had is closed, and counts as one of
 /// them. Where `stop` is set when a connection was taken, that one is closed and no more are taken. `Err` where the
 /// listener fails.
 fn take_all<
@@ -234,6 +255,7 @@ fn take_all<
 >(
     scope: &'s Scope<'s, E>,
     rt: &'s R,
+    alloc: Global,
     desk: &'s Desk<L>,
     listener: N,
     sessions: Sessions,
@@ -248,17 +270,19 @@ fn take_all<
             break;
         }
         if let Some(stream) = taken {
-            start(scope, rt, desk, sessions.stack, stream);
+            start(scope, rt, alloc, desk, sessions.stack, stream);
         }
     }
     Ok(())
 }
 
 /// Starts a session on this connection in a thread of its own, with a stack of this size, or of the usual one at
-/// `None`. Where no thread can be had the connection is closed.
+/// `None`. Where no thread can be had the connection is closed. What passes on the connection is a session in the desk's history
+/// (`converse`).
 fn start<'s, E, L: DeskLedger + Send + Sync, R: Wait + Sync>(
     scope: &'s Scope<'s, E>,
     rt: &'s R,
+    alloc: Global,
     desk: &'s Desk<L>,
     stack: Option<usize>,
     stream: TcpStream,
@@ -271,19 +295,62 @@ fn start<'s, E, L: DeskLedger + Send + Sync, R: Wait + Sync>(
     };
     let _ = thread.spawn_scoped(
         scope,
-        move ||
+        move || -> Result<Passed<L>, AllocError>
             requires { L.all ≡ L.parts }
-        { converse(rt, desk, &stream) },
+            ensures { IfOk result (λ passed. IsSessionOn L.begun (stream_raw_fd stream) passed.read passed.written passed.ended passed.knew) }
+        { converse(rt, alloc, desk, &stream) },
     );
+}
+
+/// What passed on a connection, and what its session came to.
+#[derive(Drop)]
+pub struct Passed<L: DeskLedger> {
+    /// What each read gave, in proofs alone.
+    pub read: Tape,
+    /// What each write took, in proofs alone.
+    pub written: Tape,
+    /// How the session ended.
+    pub ended: Result<End, SessionFault>,
+    /// What the tenant's seat knew of the desk's history when it left; `None` where no tenant came.
+    pub knew: Option<Trace<Step<Jamboree>, L>>,
 }
 
 /// Serves one session on a connection, up to a line BYE, the end of the input, or a failure of the connection. In each
 /// case its tenant has left when it returns. Each answer is sent at once, without Nagle's delay.
-fn converse<L: DeskLedger, R: Wait>(rt: &R, desk: &Desk<L>, stream: &TcpStream)
+///
+/// What passed on the connection, by the tapes of all reads and writes there, is a session in the desk's history. An error means
+/// that there was no memory for a tape: then nothing was read and nothing written.
+pub fn converse<L: DeskLedger, R: Wait>(
+    rt: &R,
+    alloc: Global,
+    desk: &Desk<L>,
+    stream: &TcpStream,
+) -> Result<Passed<L>, AllocError>
     requires { L.all ≡ L.parts }
+    ensures { IfOk result (λ passed. IsSessionOn L.begun (stream_raw_fd stream.now) passed.read passed.written passed.ended passed.knew) }
 {
     let _ = stream.set_nodelay(true);
-    let mut source = FromReader { reader: stream };
-    let mut sink = FromWriter::new(stream);
-    let _ = serve_desk(rt, &mut source, &mut sink, desk);
+    let source = TapedSource::of_socket(alloc, stream)?;
+    let sink = TapedSink::of_socket(alloc, stream)?;
+    Ok(serve_taped(rt, desk, source, sink))
+}
+
+/// Serves one session over a source and a sink with tapes. It can reach them by their tapes alone, so each read and each write is
+/// on these: a session in the desk's history leads from what they were to what they are.
+pub fn serve_taped<L: DeskLedger, R: Wait, S: Source + Drop, K: Sink + Drop>(
+    rt: &R,
+    desk: &Desk<L>,
+    mut source: TapedSource<S>,
+    mut sink: TapedSink<K>,
+) -> Passed<L>
+    requires { L.all ≡ L.parts }
+    ensures { SeenSession L.begun Hears Sends source.tape sink.tape result.read result.written result.ended result.knew }
+{
+    let (ended, knew) = serve_desk_seen(rt, &mut source, &mut sink, desk);
+    Passed {
+        read: source.into_tape(),
+        written: sink.into_tape(),
+        ended,
+        knew,
+    }
 }

@@ -7,7 +7,7 @@ mod words;
 
 use super::{Host, holds};
 use crate::tests::spell;
-use commands::{Explained, ProgramInput, ProgramOutput, Streams, run};
+use commands::{Explained, ProgramInput, ProgramOutput, Streams, Unaudited, run};
 use line_io::{FromReader, FromWriter, Sink};
 use std::alloc::Global;
 use std::io::{self, Error, ErrorKind, IsTerminal, Read, Write};
@@ -94,7 +94,7 @@ where
     R: Net<Stream = TcpStream> + Threads + Wait + Sync,
     R::Listener: Send,
 {
-    run(rt, alloc, words, streams)
+    run(rt, alloc, words, streams, &mut Unaudited)
 }
 
 /// The exit status with these streams, the output then, and what was said on the errors.

@@ -1,0 +1,2 @@
+pub mod TapeLemmas
+pub mod OnTapes

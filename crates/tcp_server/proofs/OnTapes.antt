@@ -1,0 +1,46 @@
+-- A session over a source and a sink with tapes is one of the tapes.
+use Rattle.std.proofs.Common.{◌≡◌, ℤ, map, subst, ◌++◌, Option, Result}
+use Rattle.sched_rules.specs.declared.step.StepOf.{StepOf}
+use Rattle.line_io.specs.Runs.{write_result}
+use Rattle.line_io.specs.Streams.{ReadAnswer, Gave, WriteAnswer}
+use Rattle.line_io.specs.Writes.{writes_of}
+use Rattle.hall.specs.Halls.{HallOf}
+use Rattle.hall.specs.jamboree_rules.declared.leaf.LeafAnswer.{LeafAnswer}
+use Rattle.desk.specs.Traces.{Known}
+use Rattle.session.specs.Sessions.{talk_result}
+use Rattle.session.specs.declared.faults.End.{End}
+use Rattle.session.specs.declared.faults.SessionFault.{SessionFault}
+use Rattle.desk_office.specs.Answers.{SeenSession}
+use Rattle.tcp_server.specs.Connections.{IsSessionOn}
+use Rattle.tcp_server.specs.Tapes.{TapeOf, TapedOf, blank_tape, Hears, Sends, HearsFrom, SendsTo}
+use Rattle.tcp_server.proofs.TapeLemmas.{heard-on-tape, sent-on-tape}
+
+pub on-tapes : {S K : Type 0} (begun : HallOf) (gives : S → ReadAnswer → S → Type 0) (takes : K → WriteAnswer → K → Type 0) (s s' : TapedOf S) (k k' : TapedOf K) (ended : Result End SessionFault) (knew : Option (Known (StepOf LeafAnswer)))
+    → SeenSession begun (HearsFrom gives) (SendsTo takes) s k s' k' ended knew → SeenSession begun Hears Sends s.tape k.tape s'.tape k'.tape ended knew
+on-tapes begun gives takes s s' k k' ended knew seen =
+    let x = seen.session in
+    record {
+      asks = seen.asks;
+      session = record {
+        blocks = x.blocks;
+        last = x.last;
+        answered = x.answered;
+        replies = x.replies;
+        pieces = x.pieces;
+        reads = heard-on-tape gives s s' (map Gave x.blocks ++ x.last) x.reads;
+        ends = x.ends;
+        lines = x.lines;
+        made = x.made;
+        writes = sent-on-tape takes k k' (writes_of x.pieces (write_result (talk_result ended))) x.writes;
+        written = x.written;
+      };
+      dones = seen.dones;
+      tenant = seen.tenant;
+    }
+
+-- a session between new tapes of a socket and these is one on that socket
+pub from-blank : (begun : HallOf) (socket : ℤ) (s k read written : TapeOf) (ended : Result End SessionFault) (knew : Option (Known (StepOf LeafAnswer)))
+    → s ≡ blank_tape socket → k ≡ blank_tape socket → SeenSession begun Hears Sends s k read written ended knew → IsSessionOn begun socket read written ended knew
+from-blank begun socket s k read written ended knew s_new k_new seen =
+    subst (λ (t : TapeOf). SeenSession begun Hears Sends t (blank_tape socket) read written ended knew) s_new
+    (subst (λ (t : TapeOf). SeenSession begun Hears Sends s t read written ended knew) k_new seen)
