@@ -10,7 +10,7 @@ use line_io::{LineFault, TalkEnd};
 use site_book::{Told, Who};
 use site_desk::SiteNaming;
 use site_file::Address;
-use site_office::{SiteOffice, serve_connection};
+use site_office::{Connection, serve_connection};
 use site_rules::{Arrival, KnownClient, Port, Recognized, Times, recognize};
 use std::alloc::{AllocError, Global};
 use std::net::TcpStream;
@@ -199,16 +199,14 @@ fn receive<J: SiteNaming, R: Clock + Wait>(
         environment.leave();
         return;
     };
-    let mut office = SiteOffice::new(
-        rt,
-        shared.desks.as_slice(),
+    let connection = Connection {
+        desks: shared.desks.as_slice(),
         desk,
         environment,
-        known.who,
-        shared.grain,
-    );
-    let end = serve_connection(rt, source, sink, &mut office);
-    let environment = office.close();
+        own: known.who,
+        grain: shared.grain,
+    };
+    let (end, _knew, environment) = serve_connection(rt, source, sink, connection);
     environment.leave();
     tell_end(
         rt,

@@ -3,7 +3,7 @@ use crate::paths::Paths;
 use crate::shared::Shared;
 use crate::watching::shut_told;
 use site_book::Plan;
-use site_desk::SiteNaming;
+use site_desk::{BookTrace, SiteNaming};
 use site_file::{FileFault, SiteConfig, amount_text, read_config_again};
 use site_rules::{connections_within, plan_of_both};
 use std::alloc::{AllocError, Global};
@@ -177,9 +177,8 @@ fn go_between<J: SiteNaming, R: Wait>(
     let mut hall: usize = 0;
     for plan in plans {
         if let Some(desk) = shared.desks.get(hall) {
-            let old = desk.reload(rt, plan);
-            let is_kept = match old {
-                Ok(old) => was.push(old).is_ok(),
+            let is_kept = match desk.reload(rt, plan) {
+                Ok(came) => keep(&mut was, came),
                 Err(_) => false,
             };
             if !is_kept {
@@ -190,6 +189,12 @@ fn go_between<J: SiteNaming, R: Wait>(
         hall = hall.saturating_add(1);
     }
     None
+}
+
+/// Keeps the plan that a hall went by until another came in; false where there is no memory.
+fn keep<J: SiteNaming>(was: &mut Vec<Plan>, came: (Plan, BookTrace<J>)) -> bool {
+    let (plan, _trace) = came;
+    was.push(plan).is_ok()
 }
 
 /// Has the halls go by these plans, from the first on, within which all is that is out.

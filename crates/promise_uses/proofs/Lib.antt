@@ -6,3 +6,4 @@ mod Replied
 mod Solved
 mod Reserving
 mod SiteParts
+mod Connected

@@ -6,6 +6,10 @@ pub if-some : {T : Type 0} {P Q : T → Type 0} (o : Option T) → ((value : T) 
 if-some (Some value) make p = make value p
 if-some None make p = tt
 
+pub if-err : {T E : Type 0} {P Q : E → Type 0} (r : Result T E) → ((error : E) → P error → Q error) → IfErr r P → IfErr r Q
+if-err (Ok value) make p = tt
+if-err (Err error) make p = make error p
+
 abbrev pub SearchAnswer : Type 0
 SearchAnswer = Result (DidOf Leaf) Refusal
 

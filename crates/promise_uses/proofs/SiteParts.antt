@@ -1,13 +1,13 @@
 -- What the definitions of a site's desk come to, part by part.
-use Rattle.promise_uses.proofs.Common.{◌≡◌, sym, subst, ◌++◌, ◌∷◌, [], ℕ, List, Result, Ok, Err, OnOk, ap, ◌∙◌, own, Known, HallOf, SeatOf, AdmitMore, SearchStep, Quota}
+use Rattle.promise_uses.proofs.Common.{refl, ◌≡◌, sym, subst, ◌++◌, ◌∷◌, [], ℕ, List, Result, Ok, Err, OnOk, ap, ◌∙◌, own, Known, HallOf, SeatOf, AdmitMore, SearchStep, Quota}
 use Rattle.promise_uses.proofs.Parts.{taken-nine}
 use Rattle.site_book.specs.declared.refusal.BookRefusal.{BookRefusal}
 use Rattle.site_book.specs.Plans.{PlanOf}
 use Rattle.site_book.specs.declared.event.BookEvent.{BookEvent}
 use Rattle.site_book.specs.declared.who.Who.{Who}
 use Rattle.desk.specs.Histories.{Saw}
-use Rattle.std.proofs.lemmas.Bool.{eq-eqb}
-use Rattle.std.specs.Prelude.{Bool, true, ◌&&◌, ◌==◌}
+use Rattle.std.proofs.lemmas.Bool.{eq-eqb, false≢true, ne_eqb}
+use Rattle.std.specs.Prelude.{Bool, true, false, ◌&&◌, ◌==◌, ◌≢◌, Option, Some, None, is_some}
 use Rattle.site_desk.specs.Entries.{IsEntry, IsNewSeat}
 use Rattle.site_desk.specs.Seats.{IsRaiseTold, SiteSeatOf}
 use Rattle.site_desk.specs.declared.entry.SeatOutcome.{SeatOutcome}
@@ -44,3 +44,14 @@ both-here a b n r is one other = is ∙ (λ i. eq-eqb a n one i && (eq-eqb b n o
 -- a maker's events in what it has seen, by what it knew before
 pub book-seen-by : (before now : Known BookEvent) → Saw before now → own before.maker now.seen ≡ before.mine
 book-seen-by before now saw = ap (λ (m : ℕ). own m now.seen) (sym saw.3) ∙ saw.1 ∙ saw.2
+
+-- a session leaves exactly where the seat is one of the desk
+pub always-left : {X : Type 0} (left : Option X) (a b : ℕ) → is_some left ≡ (a == b) → a ≡ b → left ≢ None
+always-left left a b is here none = false≢true (sym (ap is_some none) ∙ is ∙ eq-eqb a b here)
+
+not-left : {X : Type 0} (left : Option X) → is_some left ≡ false → left ≡ None
+not-left None is = refl
+not-left (Some x) is = absurd (false≢true (sym is))
+
+pub never-left : {X : Type 0} (left : Option X) (a b : ℕ) → is_some left ≡ (a == b) → a ≢ b → left ≡ None
+never-left left a b is apart = not-left left (is ∙ ne_eqb a b apart)

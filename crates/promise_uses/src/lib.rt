@@ -10,6 +10,7 @@
 #![tactic(auto)]
 
 mod comings;
+mod connections;
 mod customers;
 mod desks;
 mod directories;
@@ -25,6 +26,7 @@ mod soundness;
 mod turns;
 
 pub use comings::{when_they_have_gone, who_enters, who_goes_for_another, who_has_no_room};
+pub use connections::ping_and_hello;
 pub use customers::{
     a_customer_and_the_guests, a_customer_at_its_limits, a_guest_at_its_limits, nobody_is_left,
     plans_that_come_in, room_for_all, within_all_budgets,
@@ -47,8 +49,8 @@ pub use seen::{a_spent_ask, hello_and_bye, quota_after_hello};
 pub use sessions::third_answer;
 pub use sites::{
     a_session_asks, a_session_asks_in_vain, a_session_cancels, a_session_comes, a_session_leaves,
-    a_session_reserves, budget_of_a_customer, customers_of_two_halls, job_of_a_session,
-    live_of_a_session, quota_of_a_session, two_customers,
+    a_session_reserves, another_plan, budget_at_another_desk, budget_of_a_customer,
+    customers_of_two_halls, job_of_a_session, live_of_a_session, quota_of_a_session, two_customers,
 };
 pub use solving::three_lines;
 pub use soundness::third_frame_of_nine;

@@ -15,10 +15,10 @@ ghost use Rattle.hall.specs.declared.desk_rules.asked.SeatAsked.{SeatAsked as Se
 ghost use Rattle.hall.specs.desk_rules.Asked.{seat_asked_at, IsToldBy, found_or_no_tenant};
 ghost use Rattle.desk.specs.Histories.{core_at, seat_steps, steps_of, AreTaken};
 ghost use Rattle.site_book.specs.declared.event.BookEvent.{BookEvent};
-ghost use Rattle.site_book.specs.declared.event.BookEvent.TheVariants.{Opens, Raises, Closes};
+ghost use Rattle.site_book.specs.declared.event.BookEvent.TheVariants.{Opens, Raises, Closes, Replans};
 ghost use Rattle.site_book.specs.declared.who.Who.TheVariants.{Named};
 ghost use Rattle.site_book.specs.Amounts.{IsAmountWithin};
-ghost use Rattle.site_book.specs.Books.{new_book};
+ghost use Rattle.site_book.specs.Books.{new_book, why_not_replan};
 ghost use Rattle.site_book.specs.Events.{answers, book_after_events, grants_of, names_granted, only_events, still_open};
 ghost use Rattle.site_book.specs.Names.{same_who};
 ghost use Rattle.site_book.specs.Plans.{budget_of};
@@ -32,8 +32,8 @@ ghost use Rattle.promises.specs.Replies.{SearchStep};
 use hall::{Outcome, Refusal};
 use othello_board::position_text::Position;
 use site_book::laws::{all_comes_back, no_customer_is_disturbed, nobody_is_over_budget};
-use site_book::{Amount, BookRefusal, Comer};
-use site_desk::{SeatOutcome, SiteDesk, SiteNaming, SiteSeat, SiteTrace, Turned};
+use site_book::{Amount, BookRefusal, Comer, Plan};
+use site_desk::{BookTrace, SeatOutcome, SiteDesk, SiteNaming, SiteSeat, SiteTrace, Turned};
 use std::alloc::Allocator;
 use std::sync::Wait;
 use tenant_quota::{Left, Reserve};
@@ -216,14 +216,16 @@ pub fn job_of_a_session<J: SiteNaming, A: Allocator + Clone, R: Wait>(
 }
 
 /// The session of tenant 9 leaves: the history of its own desk then ends with just its Leave, which is the last of the seat's own steps, and all
-/// seat steps of tenant 9 in it are the seat's own. What the book granted ends with its closing. Uses `site_desk::SiteDesk::leave` (`told`,
-/// `closed`).
+/// seat steps of tenant 9 in it are the seat's own. What the book granted ends with its closing. At its own desk it always leaves, and at another
+/// one never. Uses `site_desk::SiteDesk::leave` (`left`, `told`, `closed`).
 pub fn a_session_leaves<J: SiteNaming, A: Allocator + Clone, R: Wait>(
     rt: &R,
     desk: &SiteDesk<J, A>,
     seat: SiteSeat<J>,
 ) -> Option<SiteTrace<J>>
     requires nine { seat.seat.tenant ≡ 9 }
+    ensures here { seat.at ≡ desk.now → result ≢ None }
+    ensures elsewhere { seat.at ≢ desk.now → result ≡ None }
     ensures told { IfSome result (λ trace. (between : List (ℕ × SearchStep))
         × (trace.known.seen ≡ (seat.seat.known.seen ++ between) ++ (seat.seat.known.maker, Leave 9) ∷ [])
         × (own seat.seat.known.maker (seat.seat.known.seen ++ between) ≡ seat.seat.known.mine)
@@ -286,6 +288,44 @@ pub fn budget_of_a_customer<J: SiteNaming, A: Allocator + Clone, R: Wait>(
     nobody_is_over_budget();
     no_customer_is_disturbed();
     desk.budget(rt, seat)
+}
+
+/// What a seat of another desk is told of customer 3 is what that customer may have and has at this one, so it is within that; and the seat has
+/// seen nothing of it. Uses `site_desk::SiteDesk::budget` (`elsewhere`) and `site_book::nobody_is_over_budget` (`within`).
+pub fn budget_at_another_desk<J: SiteNaming, A: Allocator + Clone, R: Wait>(
+    rt: &R,
+    desk: &SiteDesk<J, A>,
+    seat: &mut SiteSeat<J>,
+) -> (Amount, Amount)
+    requires elsewhere { seat.old.at ≢ desk.now }
+    requires three { seat.old.who ≡ Named 3 }
+    ensures within { IsAmountWithin result.1 result.0 }
+    ensures may { (history : List (ℕ × BookEvent)) × AreGranted (new_book (J.plan desk.now)) (events_of history)
+        × (result.0 ≡ budget_of (book_at (J.plan desk.now) history).plan (Named 3)) }
+    ensures unseen { seat.new ≡ seat.old }
+{
+    nobody_is_over_budget();
+    desk.budget(rt, seat)
+}
+
+/// Another plan that comes in is the last event of the desk's history of what its book granted, and the only one of its maker; what was there is
+/// the plan to which the events before it lead. One that doesn't come in is given back, with the reason of the book at the end of a history.
+/// Uses `site_desk::SiteDesk::reload` (`came`, `refused`).
+pub fn another_plan<J: SiteNaming, A: Allocator + Clone, R: Wait>(
+    rt: &R,
+    desk: &SiteDesk<J, A>,
+    plan: Plan,
+) -> Result<(Plan, BookTrace<J>), (Plan, BookRefusal)>
+    ensures came { IfOk result (λ came. (before : List (ℕ × BookEvent))
+        × (came.1.books.seen ≡ before ++ (came.1.books.maker, Replans plan) ∷ [])
+        × (own came.1.books.maker before ≡ []) × (came.1.books.mine ≡ Replans plan ∷ [])
+        × (came.0 ≡ (book_at (J.plan desk.now) before).plan)) }
+    ensures granted { IfOk result (λ came. AreGranted (new_book (J.plan desk.now)) (events_of came.1.books.seen)) }
+    ensures here { IfOk result (λ came. came.1.at ≡ desk.now) }
+    ensures refused { IfErr result (λ refused. (refused.0 ≡ plan) × (history : List (ℕ × BookEvent))
+        × AreGranted (new_book (J.plan desk.now)) (events_of history) × (why_not_replan (book_at (J.plan desk.now) history) plan ≡ Some refused.1)) }
+{
+    desk.reload(rt, plan)
 }
 
 /// The traces of two desks aren't compared: the answer is false, and neither changes. Uses `site_desk::SiteDesk::compare` (`own`, `elsewhere`).

@@ -59,7 +59,7 @@ pub use Rattle.tenant_quota.specs.Accounts.{reserved_nodes, reserved_segments}
 pub use Rattle.tenant_quota.specs.Quota.{Quota}
 pub use Rattle.tenant_quota.specs.declared.account.Account.{Account}
 pub use Rattle.desk.specs.Traces.{Known}
-pub use Rattle.site_desk.specs.Granted.{AreGranted, IsBookBy, IsBookLook, IsGrantedFrom, IsOpened, book_at, events_of}
+pub use Rattle.site_desk.specs.Granted.{AreGranted, AreHeld, IsBookBy, IsBookLook, IsFirstOf, IsGrantedFrom, IsNotReplanned, IsOpened, IsPartOnce, IsReplannedBy, are_raisings, book_at, events_of, is_open_by, is_opening, is_raising}
 pub use Rattle.site_desk.specs.Booked.{BookedOf, IsBooked, IsRaise, IsTurnedAway, TookInHall, is_within_seat, turned_by}
 pub use Rattle.site_desk.specs.BookedSeats.{BookedSeat, number_of, seats_in_book, seats_in_hall}
 pub use Rattle.site_desk.specs.Sites.{IsCame, IsListed, IsNextTask, IsSessionGone, IsSitePick, SiteOf, met, overruns_of, stays_in}

@@ -1,12 +1,16 @@
 -- A book's history goes on by an event that is granted.
-use Rattle.site_desk.proofs.Common.{◌≡◌, ℕ, List, [], ◌∷◌, ◌++◌, None, Option, refl, ap, sym, ◌∙◌, subst, BookOf, PlanOf, BookEvent, taken}
-use Rattle.site_book.specs.Books.{answer_of_book, book_after, book_after_answer, new_book}
+use Rattle.site_desk.proofs.Common.{◌≡◌, ℕ, List, [], ◌∷◌, ◌++◌, None, Some, Option, refl, ap, sym, ◌∙◌, subst, BookOf, PlanOf, BookEvent, taken}
+use Rattle.site_book.specs.Books.{answer_of_book, book_after, book_after_answer, new_book, why_not_replan}
+use Rattle.site_book.specs.Grants.{used}
+use Rattle.site_book.specs.Plans.{limit_of}
+use Rattle.site_book.specs.declared.amount.Amount.{Amount}
+use Rattle.site_book.specs.declared.held.Group.{Group}
 use Rattle.site_book.specs.Events.{book_after_events}
 use Rattle.site_book.specs.declared.refusal.BookRefusal.{BookRefusal}
 use Rattle.desk.specs.Histories.{Took}
 use Rattle.desk.specs.Traces.{own, Known}
 use mathlib.Core.List.{IsPrefix}
-use Rattle.site_desk.specs.Granted.{events_of, book_at, AreGranted, IsBookBy, IsBookLook, IsGrantedFrom}
+use Rattle.site_desk.specs.Granted.{events_of, book_at, AreGranted, IsBookBy, IsBookLook, IsGrantedFrom, IsNotReplanned, IsPartOnce}
 
 events-more : (history : List (ℕ × BookEvent)) (maker : ℕ) (event : BookEvent) → events_of (history ++ (maker, event) ∷ []) ≡ events_of history ++ event ∷ []
 events-more [] maker event = refl
@@ -46,3 +50,12 @@ added history after before now event begins mine is more = (
   ap (λ (k : Known BookEvent). k.mine) is,
   ap (λ (k : Known BookEvent). k.maker) is,
 )
+
+-- what a part may have and has by a book that has come from a new one by its history
+pub part_once : (plan : PlanOf) (history : List (ℕ × BookEvent)) (book : BookOf) (part : Group) (amounts : Amount × Amount) → IsBookBy plan history book → amounts.0 ≡ limit_of book.plan part → amounts.1 ≡ used part book.grants → IsPartOnce plan part amounts
+part_once plan history book part amounts by may has =
+    (history, by.1, may ∙ ap (λ (b : BookOf). limit_of b.plan part) by.0, has ∙ ap (λ (b : BookOf). used part b.grants) by.0)
+
+-- another plan that such a book refuses
+pub not_replanned : (plan : PlanOf) (history : List (ℕ × BookEvent)) (book : BookOf) (next : PlanOf) (refusal : BookRefusal) → IsBookBy plan history book → why_not_replan book next ≡ Some refusal → IsNotReplanned plan next refusal
+not_replanned plan history book next refusal by why = (history, by.1, sym (ap (λ (b : BookOf). why_not_replan b next) by.0) ∙ why)

@@ -62,6 +62,17 @@ pub tenant-of : (hall : HallOf) (book : BookOf) (who : Who) (n : ℕ) (held : Gr
 tenant-of hall book who n held is found =
     hall-at n held.ask hall.shared.tenants (ap (seat_at n) (sym is.seated) ∙ book-at who n book.grants held found (rising-book hall book is))
 
+-- a new number has no grant
+pub not-granted : (hall : HallOf) (book : BookOf) (who : Who) (n : ℕ) → IsBooked hall book → n ≡ hall.shared.newest + 1 → grant_of who n book.grants ≡ None
+not-granted hall book who n is next = by (grant_of who n book.grants) refl
+  where
+    by : (o : Option Grant) → grant_of who n book.grants ≡ o → o ≡ None
+    by None found = refl
+    by (Some held) found =
+        let less : hall.shared.newest < n = omega (arith, next) in
+        let none = tenant_in-new hall.shared.newest n hall.shared.tenants less is.given in
+        let there = (tenant-of hall book who n held is found).at in absurd (cc (sym there ∙ none))
+
 -- a tenant raised
 
 pub booked-raise : (hall hall' : HallOf) (book book' : BookOf) (who : Who) (n : ℕ) (q : Quota) (held : Grant) → IsBooked hall book → grant_of who n book.grants ≡ Some held → TookInHall hall (AdmitMore n q) hall' → book' ≡ taken book (Raises who n q) → IsBooked hall' book'

@@ -5,5 +5,7 @@ mod Keepings
 pub mod Lists
 pub mod Comings
 mod Tasks
-mod Granting
+pub mod Granting
+pub mod Holding
+mod RowLemmas
 pub mod Stocks

@@ -70,10 +70,9 @@ IsRaise before who number ask (Err OldTenant) after = ⊥
 IsRaise before who number ask (Err OutOfMemory) after =
     (why_no_raise before.book.plan who number ask before.book.grants (grant_of who number before.book.grants) ≡ None) × (after ≡ before) × RanOut before.hall (AdmitMore number ask) after.hall
 
--- what comes of a session's end: both give back what it had; where the book has no such session nothing changes
-abbrev pub IsEnd : BookedOf → Who → ℕ → Bool → BookedOf → Type 0
-IsEnd before who number true after = IsSome (grant_of who number before.book.grants) × (after.book ≡ taken before.book (Closes who number)) × TookInHall before.hall (Leave number) after.hall
-IsEnd before who number false after = (grant_of who number before.book.grants ≡ None) × (after ≡ before)
+-- what comes of a session's end: the book has it, and both give back what it had
+abbrev pub IsEnd : BookedOf → Who → ℕ → BookedOf → Type 0
+IsEnd before who number after = IsSome (grant_of who number before.book.grants) × (after.book ≡ taken before.book (Closes who number)) × TookInHall before.hall (Leave number) after.hall
 
 -- a step that neither begins nor ends a tenant, nor raises what it reserves
 abbrev pub is_within_seat : {A : Type 0} → StepOf A → Bool

@@ -28,6 +28,11 @@ pub record SiteTraceOf : Type 0 where
   pub known : Known (StepOf LeafAnswer)
   pub books : Known BookEvent
 
+-- what one knew of what the book of the desk of this number granted
+pub record BookTraceOf : Type 0 where
+  pub at : ℕ
+  pub books : Known BookEvent
+
 -- how a raise of what a seat reserves is answered, by the history: the raise was taken, and the history ends with it; or the book refused it,
 -- and nobody was asked; or memory ran out
 abbrev pub IsRaiseTold : HallOf → SeatOf → Quota → Result (Unit {0}) Turned → SeatOf → Type 0

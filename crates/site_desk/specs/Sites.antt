@@ -65,12 +65,10 @@ IsCame before comer (Turned (ByBook refusal)) after = (met before comer ≡ Refu
 IsCame before comer (Turned OldTenant) after = (met before comer ≡ Enters) × (after ≡ before) × IsTurnedAway before.booked comer.who comer.ask OldTenant after.booked
 IsCame before comer (Turned OutOfMemory) after = (met before comer ≡ Enters) × (after ≡ before) × IsTurnedAway before.booked comer.who comer.ask OutOfMemory after.booked
 
--- what is done where a session leaves: its tenant leaves, its grant is taken back, it is listed no more and shares no more, all at once; nothing
--- where it isn't there
-abbrev pub IsSessionGone : SiteOf → SiteSeatOf → Bool → SiteOf → Type 0
-IsSessionGone before seat true after =
-    IsEnd before.booked seat.who seat.seat.tenant true after.booked × (after ≡ record before { booked = after.booked; events = before.events ++ (seat.books.maker, Closes seat.who seat.seat.tenant) ∷ []; roll = without_present seat.who seat.seat.tenant before.roll; shares = unshared seat.seat.tenant before.shares; left = (before.left + 1) % 2 ^ 64 })
-IsSessionGone before seat false after = IsEnd before.booked seat.who seat.seat.tenant false after.booked × (after ≡ before)
+-- what is done where a session leaves: its tenant leaves, its grant is taken back, it is listed no more and shares no more, all at once
+abbrev pub IsSessionGone : SiteOf → SiteSeatOf → SiteOf → Type 0
+IsSessionGone before seat after =
+    IsEnd before.booked seat.who seat.seat.tenant after.booked × (after ≡ record before { booked = after.booked; events = before.events ++ (seat.books.maker, Closes seat.who seat.seat.tenant) ∷ []; roll = without_present seat.who seat.seat.tenant before.roll; shares = unshared seat.seat.tenant before.shares; left = (before.left + 1) % 2 ^ 64 })
 
 -- one step was offered to the hall, and nothing else was done
 abbrev pub IsSiteStep : SiteOf → StepOf LeafAnswer → Result (DidOf Leaf) Refusal → SiteOf → Type 0

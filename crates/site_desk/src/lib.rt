@@ -10,13 +10,15 @@
 //! `specs/Sharing.antt`). Its invariant is that the seat is the grant (`IsBooked`), that those listed are those who have a grant, in the
 //! same order (`IsListed`), that the hall has come by its history from the one that the desk was made with, and the book by its own from a new
 //! one (`IsBookBy` of `specs/Granted.antt`): that history has what the book granted, each session that was opened, raised or closed and each
-//! plan that came in. What a call did to the roll the contract of the method of the same name says (`specs/Sites.antt`), and that the call calls
+//! plan that came in. And whoever's events in it open a session and don't close it has a grant, and nobody else has the same one (`AreHeld`);
+//! a seat's maker is such a one, so each seat has its grant. What a call did to the roll the contract of the method of the same name says (`specs/Sites.antt`), and that the call calls
 //! that method is read.
 //!
 //! What a seat's call did to the hall is said of that history, as at the server's desk (`desk`): a step that was taken is the last of what
 //! the seat has then seen, and the only new one of its own; a refusal is the one that the core at its end gives; what is told of a job,
 //! QUOTA and LIVE is the tenant's at its end. The same of the book's history: a session that comes, is raised or leaves has an event in it, and
-//! what its customer may have and has is told as at its end ([`SiteDesk::budget`]); so what `site_book::laws` says of all lists of events holds of
+//! what its customer may have and has is told as at its end ([`SiteDesk::budget`]), and a plan that comes in is its last event
+//! ([`SiteDesk::reload`]); so what `site_book::laws` says of all lists of events holds of
 //! a running desk's own. All desks of a site are of one type, so the type names a family of histories
 //! ([`SiteNaming`]), and a desk, a seat and what lies under a lock have a number, which says whose of them is meant. A seat of another desk
 //! is refused here as one that isn't there.
@@ -56,7 +58,7 @@ pub use badge::SiteBadge;
 pub use entry::SeatOutcome;
 pub use locked_site::LockedSite;
 pub use naming::SiteNaming;
-pub use seat::{SiteSeat, SiteTrace};
+pub use seat::{BookTrace, SiteSeat, SiteTrace};
 pub use site_desk::SiteDesk;
 pub use stock::{SiteStock, desks_of};
 pub use turned::Turned;

@@ -15,10 +15,12 @@
 //!   the same seats, so the hall's own test for room can't fail.
 //! - The hall is asked between the book's two calls, since it alone may run out of memory: the book has nothing to undo then.
 //! - The numbers of tenants rise, so a number means one seat, though the hall removes by number and the book by customer and number.
+//! - A session's end is never refused. A seat's events in the book's history are its opening and raises, which its type says; and whose
+//!   events are those has a grant, and nobody else has the same one (`AreHeld` of `specs/Granted.antt`).
 //!
 //! All halls of a site are of one type. So the type names the histories of all of them, and a number says which one is this hall's
 //! ([`SiteNaming`]): the hall has come from the one that its desk was made with by the steps of that one (`HasCome`).
-ghost use Rattle.std.specs.Prelude.{◌≡◌, ◌≢◌, ◌≤◌, ◌++◌, ◌∷◌, [], ℕ, if◌then◌else◌, is_ok, length, Err, Some, None, Contains, IfErr, IfSome, MatchResult, is_some};
+ghost use Rattle.std.specs.Prelude.{◌≡◌, ◌≢◌, ◌≤◌, ◌++◌, ◌∷◌, [], ℕ, if◌then◌else◌, is_ok, length, Err, Some, None, Contains, IfErr, IfOk, MatchResult};
 ghost use Rattle.sched_rules.specs.declared.refusal.Refusal.TheVariants.{NoJob};
 ghost use Rattle.sched_rules.specs.declared.step.StepOf.TheVariants.{Submit, Cancel, Leave};
 ghost use Rattle.site_desk.specs.Booked.{IsRaise};
@@ -35,27 +37,29 @@ ghost use Rattle.site_book.specs.declared.coming.Coming.TheVariants.{Enters};
 ghost use Rattle.site_book.specs.Rolls.{marked_all};
 ghost use Rattle.fair_share.specs.Picks.{charged_to};
 ghost use Rattle.site_desk.specs.Entries.{IsEntry};
-ghost use Rattle.site_desk.specs.Granted.{book_at, IsBookLook, IsGrantedFrom};
+ghost use Rattle.site_book.specs.Grants.{used};
+ghost use Rattle.site_book.specs.Plans.{limit_of};
+ghost use Rattle.site_desk.specs.Granted.{book_at, AreHeld, IsBookBy, IsBookLook, IsGrantedFrom, IsNotReplanned, IsPartOnce, IsReplannedBy};
 ghost use Rattle.site_desk.specs.Seats.{IsRaiseTold};
 ghost use Rattle.site_desk.specs.Sites.{IsCame, IsSeatStep, IsSessionGone, IsSitePick, met, overruns_of, stays_in};
 
 use crate::badge::SiteBadge;
 use crate::entry::SeatOutcome;
 use crate::naming::SiteNaming;
-use crate::seat::{SiteSeat, SiteTrace};
+use crate::seat::{BookTrace, SiteSeat, SiteTrace};
 use crate::sharing::{share, unshare};
 use crate::stock::SiteStock;
 use crate::turned::{Turned, turned_by};
 use arrayvec::ArrayVec;
 use desk::reading::{has_ready, is_awaited, next_ready, told_of};
-use desk::{NotedHall, StepLog, Token, UnderLock};
+use desk::{NotedHall, Opened, StepLog, Token, UnderLock};
 use fair_share::{FairShare, charge, fair_task};
 use hall::{Hall, Jamboree, Outcome, Refusal, Step, StepAnswer};
 use jamboree_rules::pool_rules::Task;
 use othello_board::position_text::Position;
 use site_book::{
-    BookEvent, BookRefusal, Comer, Coming, CustomerBook, MOST, Overrun, Plan, Present, Roll,
-    SessionMark, Told, Whom, what_comes_of,
+    Amount, BookEvent, BookRefusal, Comer, Coming, CustomerBook, Group, MOST, Overrun, Plan,
+    Present, Roll, SessionMark, Told, Whom, what_comes_of,
 };
 use std::alloc::{Allocator, Global};
 use std::marker::{Model, PhantomData};
@@ -71,8 +75,6 @@ pub struct LockedSite<J: SiteNaming, A: Allocator = Global> {
     book: CustomerBook,
     /// What the book granted since it was made. It takes a word.
     events: StepLog<BookEvent>,
-    /// What other plans come by. It takes no bytes.
-    plans: Token<BookEvent>,
     roll: Roll,
     /// Who shares the workers, and what each was served.
     shares: FairShare,
@@ -87,14 +89,14 @@ impl<J: SiteNaming, A: Allocator> Model for LockedSite<J, A> {
     ghost use Rattle.std.specs.Prelude.{◌≡◌};
     ghost use Rattle.desk.specs.Noted.{HasCome};
     ghost use Rattle.site_desk.specs.Booked.{IsBooked};
-    ghost use Rattle.site_desk.specs.Granted.{IsBookBy};
+    ghost use Rattle.site_desk.specs.Granted.{AreHeld, IsBookBy};
     ghost use Rattle.site_desk.specs.Sites.{SiteOf, IsListed};
 
     ghost Value = { SiteOf };
 
     ghost view = { λ k. record { at = k.at; booked = record { hall = k.noted.hall; book = k.book }; events = k.events.entries; roll = k.roll; shares = k.shares; left = k.left } };
 
-    ghost invariant = { λ k. IsBooked k.noted.hall k.book × IsListed k.book k.roll × HasCome (J.begun k.at) k.noted × (k.noted.id ≡ J.table k.at) × (k.workers.id ≡ J.table k.at) × IsBookBy (J.plan k.at) k.events.entries k.book × (k.events.id ≡ J.granted k.at) × (k.plans.id ≡ J.granted k.at) };
+    ghost invariant = { λ k. IsBooked k.noted.hall k.book × IsListed k.book k.roll × HasCome (J.begun k.at) k.noted × (k.noted.id ≡ J.table k.at) × (k.workers.id ≡ J.table k.at) × IsBookBy (J.plan k.at) k.events.entries k.book × (k.events.id ≡ J.granted k.at) × AreHeld k.events.entries k.book };
 }
 
 impl<J: SiteNaming, A: Allocator + Clone> LockedSite<J, A> {
@@ -115,15 +117,13 @@ impl<J: SiteNaming, A: Allocator + Clone> LockedSite<J, A> {
         } = stock;
         let mut noted = NotedHall::new(hall, opened);
         let workers = noted.begin();
-        let mut events = granted.into_log();
-        let plans = events.begin();
+        let events = first_events(granted, &book);
         LockedSite {
             at,
             noted,
             workers,
             book,
             events,
-            plans,
             roll: Roll::new(),
             shares,
             left: 0,
@@ -227,13 +227,13 @@ impl<J: SiteNaming, A: Allocator + Clone> LockedSite<J, A> {
     }
 
     /// A session leaves: its tenant leaves the hall, its grant is taken back, it is listed no more, and shares no more. Gives back what
-    /// its seat then knows of the history, which ends with the tenant's Leave. `None` where the book has no such session: then nothing
-    /// has changed.
-    pub fn leave(&mut self, seat: SiteSeat<J>) -> Option<SiteTrace<J>>
+    /// its seat then knows of the history, which ends with the tenant's Leave. The book always has the session, as its seat opened it and
+    /// hasn't closed it.
+    pub fn leave(&mut self, seat: SiteSeat<J>) -> SiteTrace<J>
         requires { seat.at ≡ self.old.at }
-        ensures gone { IsSessionGone self.old seat (is_some result) self.new }
-        ensures told { IfSome result (λ trace. (trace.at ≡ seat.at) × Took seat.seat.known (Leave seat.seat.tenant) trace.known × IsTrueTo (J.begun seat.at) seat.seat.tenant trace.known) }
-        ensures closed { IfSome result (λ trace. Took seat.books (Closes seat.who seat.seat.tenant) trace.books × IsGrantedFrom (J.plan seat.at) trace.books.seen) }
+        ensures gone { IsSessionGone self.old seat self.new }
+        ensures told { (result.at ≡ seat.at) × Took seat.seat.known (Leave seat.seat.tenant) result.known × IsTrueTo (J.begun seat.at) seat.seat.tenant result.known }
+        ensures closed { Took seat.books (Closes seat.who seat.seat.tenant) result.books × IsGrantedFrom (J.plan seat.at) result.books.seen }
     {
         let SiteSeat {
             who,
@@ -244,21 +244,18 @@ impl<J: SiteNaming, A: Allocator + Clone> LockedSite<J, A> {
         } = seat;
         let mut books = books;
         let number = core.tenant();
-        if !self.book.has(who, number) {
-            return None;
-        }
         let token = self.noted.leave(core);
         self.book.close(who, number);
         self.events.add(&mut books, &BookEvent::Closes(who, number));
         self.roll.leave(who, number);
         unshare(&mut self.shares, number);
         self.left = self.left.wrapping_add(1);
-        Some(SiteTrace {
+        SiteTrace {
             at,
             token,
             books,
             of: PhantomData,
-        })
+        }
     }
 
     /// Notes something of these sessions.
@@ -278,12 +275,14 @@ impl<J: SiteNaming, A: Allocator + Clone> LockedSite<J, A> {
         self.roll.tell_by(plan, grants);
     }
 
-    /// Goes on by another plan where nothing forbids it, and returns the one that was there; else returns the plan and why it
-    /// doesn't come in.
-    pub fn replan(&mut self, plan: Plan) -> Result<Plan, (Plan, BookRefusal)>
-        ensures { MatchResult result
-            (λ was. (why_not_replan self.old.booked.book plan ≡ None) × (was ≡ self.old.booked.book.plan) × (maker : ℕ) × (self.new ≡ record self.old { booked = record self.old.booked { book = taken self.old.booked.book (Replans plan) }; events = self.old.events ++ (maker, Replans plan) ∷ [] }))
+    /// Goes on by another plan where nothing forbids it, and returns the one that was there, and what is then known of what the book granted,
+    /// which ends with this; else returns the plan and why it doesn't come in.
+    pub fn replan(&mut self, plan: Plan) -> Result<(Plan, BookTrace<J>), (Plan, BookRefusal)>
+        ensures plan { MatchResult result
+            (λ came. (why_not_replan self.old.booked.book plan ≡ None) × (came.0 ≡ self.old.booked.book.plan) × (self.new ≡ record self.old { booked = record self.old.booked { book = taken self.old.booked.book (Replans plan) }; events = self.old.events ++ (came.1.books.maker, Replans plan) ∷ [] }))
             (λ refused. (why_not_replan self.old.booked.book plan ≡ Some refused.1) × (refused.0 ≡ plan) × (self.new ≡ self.old)) }
+        ensures came { IfOk result (λ came. (came.1.at ≡ self.old.at) × IsReplannedBy (J.plan self.old.at) plan came.0 came.1.books) }
+        ensures refused { IfErr result (λ refused. (refused.0 ≡ plan) × IsNotReplanned (J.plan self.old.at) plan refused.1) }
     {
         match self.book.why_not_replan(&plan) {
             None => Ok(self.go_by(plan)),
@@ -291,22 +290,23 @@ impl<J: SiteNaming, A: Allocator + Clone> LockedSite<J, A> {
         }
     }
 
-    /// Goes on by another plan, which nothing forbids, and returns the one that was there.
-    fn go_by(&mut self, plan: Plan) -> Plan
+    /// Goes on by another plan, which nothing forbids, and returns the one that was there, and what is then known of what the book granted.
+    fn go_by(&mut self, plan: Plan) -> (Plan, BookTrace<J>)
         requires { why_not_replan self.old.booked.book plan ≡ None }
-        ensures was { result ≡ self.old.booked.book.plan }
-        ensures taken { (maker : ℕ) × (self.new ≡ record self.old { booked = record self.old.booked { book = taken self.old.booked.book (Replans plan) }; events = self.old.events ++ (maker, Replans plan) ∷ [] }) }
+        ensures was { result.0 ≡ self.old.booked.book.plan }
+        ensures taken { self.new ≡ record self.old { booked = record self.old.booked { book = taken self.old.booked.book (Replans plan) }; events = self.old.events ++ (result.1.books.maker, Replans plan) ∷ [] } }
+        ensures told { (result.1.at ≡ self.old.at) × IsReplannedBy (J.plan self.old.at) plan result.0 result.1.books }
     {
-        let LockedSite {
-            book,
-            events,
-            plans,
-            ..
-        } = self;
+        let mut books = self.events.begin();
         let event = BookEvent::Replans(plan);
-        events.add(plans, &event);
+        self.events.add(&mut books, &event);
+        let trace = BookTrace {
+            at: self.at,
+            books,
+            of: PhantomData,
+        };
         match event {
-            BookEvent::Replans(plan) => book.replan(plan),
+            BookEvent::Replans(plan) => (self.book.replan(plan), trace),
             _ => unreachable!(),
         }
     }
@@ -441,9 +441,20 @@ impl<J: SiteNaming, A: Allocator + Clone> LockedSite<J, A> {
 
     /// The book, for reading.
     pub(crate) fn book(&self) -> &CustomerBook
-        ensures { result.now ≡ self.now.booked.book }
+        ensures book { result.now ≡ self.now.booked.book }
+        ensures by { IsBookBy (J.plan self.now.at) self.now.events result.now }
     {
         &self.book
+    }
+
+    /// What some of the sessions may have together, and what they have.
+    #[tactic(auto, using(crate::proofs::Granting::part_once))]
+    pub(crate) fn part(&self, part: Group) -> (Amount, Amount)
+        ensures amounts { (result.0 ≡ limit_of self.now.booked.book.plan part) × (result.1 ≡ used part self.now.booked.book.grants) }
+        ensures once { IsPartOnce (J.plan self.now.at) part result }
+    {
+        let book = self.book();
+        (book.plan().limit(part), book.used(part))
     }
 
     /// By how much each grant's part has more than a plan allows, in the order of the grants.
@@ -518,6 +529,16 @@ impl<J: SiteNaming, A: Allocator + Clone> UnderLock for LockedSite<J, A> {
     fn charge(&mut self, tenant: u64, amount: u64) {
         self.charge(tenant, amount);
     }
+}
+
+/// The history of what a book granted, where that is nothing so far.
+#[tactic(auto, using(crate::proofs::Holding::none_held))]
+fn first_events(granted: Opened<BookEvent>, book: &CustomerBook) -> StepLog<BookEvent>
+    ensures log { result ≡ record { id = granted; entries = [] } }
+    ensures held { AreHeld result.entries book.now }
+{
+    let _book = book;
+    granted.into_log()
 }
 
 /// Whether one of these sessions has this number and wasn't told to end.

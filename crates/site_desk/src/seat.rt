@@ -22,16 +22,18 @@ pub struct SiteSeat<J: SiteNaming> {
     pub(crate) of: PhantomData<J>,
 }
 
-// Clauses see whose it is, the desk's number, the seat, and what it knows of the book's history. The tenant wasn't there before the desk was.
+// Clauses see whose it is, the desk's number, the seat, and what it knows of the book's history. The tenant wasn't there before the desk was,
+// and the events of its maker are those of a session that is open.
 impl<J: SiteNaming> Model for SiteSeat<J> {
-    ghost use Rattle.std.specs.Prelude.{◌≡◌, ◌<◌};
+    ghost use Rattle.std.specs.Prelude.{◌≡◌, ◌<◌, true};
+    ghost use Rattle.site_desk.specs.Granted.{is_open_by};
     ghost use Rattle.site_desk.specs.Seats.{SiteSeatOf};
 
     ghost Value = { SiteSeatOf };
 
     ghost view = { λ s. record { who = s.who; at = s.at; seat = s.core.seat; books = s.books.known } };
 
-    ghost invariant = { λ s. (s.core.id ≡ J.table s.at) × ((J.begun s.at).shared.newest < s.core.seat.tenant) × (s.books.id ≡ J.granted s.at) };
+    ghost invariant = { λ s. (s.core.id ≡ J.table s.at) × ((J.begun s.at).shared.newest < s.core.seat.tenant) × (s.books.id ≡ J.granted s.at) × (is_open_by s.who s.core.seat.tenant s.books.known.mine ≡ true) };
 }
 
 impl<J: SiteNaming> SiteSeat<J> {
@@ -110,4 +112,24 @@ impl<J: SiteNaming> Model for SiteTrace<J> {
     ghost view = { λ t. record { at = t.at; known = t.token.known; books = t.books.known } };
 
     ghost invariant = { λ t. (t.token.id ≡ J.table t.at) × (t.books.id ≡ J.granted t.at) };
+}
+
+/// What the maker of an event knew of what its desk's book granted. Contracts see the number of the desk, and what the maker knew. It takes a
+/// word.
+#[derive(Drop)]
+pub struct BookTrace<J: SiteNaming> {
+    pub(crate) at: u64,
+    pub(crate) books: Token<BookEvent>,
+    pub(crate) of: PhantomData<J>,
+}
+
+impl<J: SiteNaming> Model for BookTrace<J> {
+    ghost use Rattle.std.specs.Prelude.{◌≡◌};
+    ghost use Rattle.site_desk.specs.Seats.{BookTraceOf};
+
+    ghost Value = { BookTraceOf };
+
+    ghost view = { λ t. record { at = t.at; books = t.books.known } };
+
+    ghost invariant = { λ t. t.books.id ≡ J.granted t.at };
 }

@@ -1,5 +1,5 @@
 //! The desk.
-ghost use Rattle.std.specs.Prelude.{◌≡◌, ◌≢◌, ◌≤◌, length, Err, None, Contains, IfErr, IfSome, MatchResult, true, false, ◌==◌, ◌&&◌};
+ghost use Rattle.std.specs.Prelude.{◌≡◌, ◌≢◌, ◌≤◌, length, Err, None, Contains, IfErr, IfOk, IfSome, MatchResult, is_some, true, false, ◌==◌, ◌&&◌};
 ghost use Rattle.std.specs.Sync.Mutex.{mutex_guard_value};
 ghost use Rattle.sched_rules.specs.declared.refusal.Refusal.TheVariants.{NoJob, NoTenant};
 ghost use Rattle.sched_rules.specs.declared.step.StepOf.TheVariants.{Submit, Cancel, Leave};
@@ -16,14 +16,14 @@ ghost use Rattle.site_book.specs.declared.held.Group.TheVariants.{Own};
 ghost use Rattle.site_book.specs.Grants.{used};
 ghost use Rattle.site_book.specs.Plans.{limit_of};
 ghost use Rattle.site_desk.specs.Entries.{IsEntry};
-ghost use Rattle.site_desk.specs.Granted.{book_at, IsBookLook, IsGrantedFrom};
+ghost use Rattle.site_desk.specs.Granted.{book_at, IsBookLook, IsGrantedFrom, IsNotReplanned, IsPartOnce, IsReplannedBy};
 ghost use Rattle.site_desk.specs.Seats.{IsRaiseTold};
 
 use crate::badge::SiteBadge;
 use crate::entry::SeatOutcome;
 use crate::locked_site::LockedSite;
 use crate::naming::SiteNaming;
-use crate::seat::{SiteSeat, SiteTrace};
+use crate::seat::{BookTrace, SiteSeat, SiteTrace};
 use crate::stock::SiteStock;
 use crate::turned::Turned;
 use arrayvec::ArrayVec;
@@ -272,12 +272,14 @@ impl<J: SiteNaming, A: Allocator + Clone> SiteDesk<J, A> {
         live_of(kept.value.hall(), seat.number())
     }
 
-    /// What the seat's customer may have, and what it has. The seat has then seen what the book granted so far, and the amounts are its
-    /// customer's at the end of that, where the seat is one of this desk.
+    /// What the seat's customer may have at this desk, and what it has there. Where the seat is one of this desk it has then seen what the book
+    /// granted so far, and the amounts are its customer's at the end of that. A seat of another desk sees nothing, and the amounts are as `part`
+    /// tells them.
     pub fn budget<R: Wait>(&self, rt: &R, seat: &mut SiteSeat<J>) -> (Amount, Amount)
         ensures look { seat.old.at ≡ self.now → IsBookLook (J.plan self.now) seat.old.books seat.new.books }
         ensures may { seat.old.at ≡ self.now → result.0 ≡ limit_of (book_at (J.plan self.now) seat.new.books.seen).plan (Own seat.old.who) }
         ensures has { seat.old.at ≡ self.now → result.1 ≡ used (Own seat.old.who) (book_at (J.plan self.now) seat.new.books.seen).grants }
+        ensures elsewhere { seat.old.at ≢ self.now → (seat.new ≡ seat.old) × IsPartOnce (J.plan self.now) (Own seat.old.who) result }
         ensures seat { seat.new ≡ record seat.old { books = seat.new.books } }
     {
         let part = Group::Own(seat.who());
@@ -286,22 +288,23 @@ impl<J: SiteNaming, A: Allocator + Clone> SiteDesk<J, A> {
         }
         let mut kept = self.enter(rt);
         kept.value.show_book(seat);
-        let book = kept.value.book();
-        (book.plan().limit(part), book.used(part))
+        kept.value.part(part)
     }
 
-    /// What some of the sessions may have together, and what they have.
-    pub fn part<R: Wait>(&self, rt: &R, part: Group) -> (Amount, Amount) {
-        let kept = self.lock.enter(rt);
-        let book = kept.value.book();
-        (book.plan().limit(part), book.used(part))
+    /// What some of the sessions may have together, and what they have: as at the end of a history of what this desk's book granted, which
+    /// no seat has seen.
+    pub fn part<R: Wait>(&self, rt: &R, part: Group) -> (Amount, Amount)
+        ensures { IsPartOnce (J.plan self.now) part result }
+    {
+        self.enter(rt).value.part(part)
     }
 
     /// The session leaves, and the seat is used up: its tenant with its jobs and frames is gone, its grant is taken back, and it is
     /// listed no more. All who wait for one to leave are woken. Gives back what the seat then knows of the history, which ends with its
     /// tenant's Leave, the last step of its own: each step of it was taken, and those of the tenant that workers didn't make are just its
-    /// own. `None` where the book has no such session, or the seat is another desk's: then it leaves nothing.
+    /// own. `None` exactly where the seat is another desk's: then it leaves nothing.
     pub fn leave<R: Wait>(&self, rt: &R, seat: SiteSeat<J>) -> Option<SiteTrace<J>>
+        ensures left { is_some result ≡ (seat.at == self.now) }
         ensures told { IfSome result (λ trace. (trace.at ≡ seat.at) × Took seat.seat.known (Leave seat.seat.tenant) trace.known × IsTrueTo (J.begun seat.at) seat.seat.tenant trace.known) }
         ensures closed { IfSome result (λ trace. Took seat.books (Closes seat.who seat.seat.tenant) trace.books × IsGrantedFrom (J.plan seat.at) trace.books.seen) }
     {
@@ -310,7 +313,7 @@ impl<J: SiteNaming, A: Allocator + Clone> SiteDesk<J, A> {
         }
         let trace = self.enter(rt).value.leave(seat);
         self.left.notify_all();
-        trace
+        Some(trace)
     }
 
     /// Lets two makers see the history so far, as what two sessions knew when they left this desk: both speak of one history. What each
@@ -354,12 +357,19 @@ impl<J: SiteNaming, A: Allocator + Clone> SiteDesk<J, A> {
         seat.at == self.at && self.lock.enter(rt).value.stays(seat.number())
     }
 
-    /// Goes on by another plan where nothing forbids it, and returns the one that was there; else returns the plan and why it
-    /// doesn't come in. Neither is dropped under the lock.
-    pub fn reload<R: Wait>(&self, rt: &R, plan: Plan) -> Result<Plan, (Plan, BookRefusal)>
-        ensures { IfErr result (λ refused. refused.0 ≡ plan) }
+    /// Goes on by another plan where nothing forbids it, and returns the one that was there, with what is then known of what the book granted:
+    /// the history so far, each event of which was granted, and this plan, which is its last event and the only one of its maker. Else returns
+    /// the plan, and why it doesn't come in: that is why the book at the end of the history so far refuses it. No plan is dropped under the
+    /// lock.
+    pub fn reload<R: Wait>(
+        &self,
+        rt: &R,
+        plan: Plan,
+    ) -> Result<(Plan, BookTrace<J>), (Plan, BookRefusal)>
+        ensures came { IfOk result (λ came. (came.1.at ≡ self.now) × IsReplannedBy (J.plan self.now) plan came.0 came.1.books) }
+        ensures refused { IfErr result (λ refused. (refused.0 ≡ plan) × IsNotReplanned (J.plan self.now) plan refused.1) }
     {
-        self.lock.enter(rt).value.replan(plan)
+        self.enter(rt).value.replan(plan)
     }
 
     /// By how much each session's customer has more than a plan allows, in the order of the sessions; `None` where it hasn't.

@@ -50,7 +50,7 @@ pub use Rattle.site_office.specs.Lines.{Greets, Informs, Pings, Plain, Raises, S
 pub use Rattle.site_office.specs.Moments.{IsSiteTurn, IsTracedAt, IsRefusedByBook, Stays}
 pub use Rattle.site_office.specs.Offices.{IsSameSeat, SiteOfficeOf, at_site, office_of, place_of}
 pub use Rattle.site_office.specs.Refusing.{comer_refusals, live_answer, raise_refusal}
-pub use Rattle.site_office.specs.Sessions.{AnyText, AreMixed, IsBeside, IsTenantAt, SeenSiteSession, tokenless, seated_by}
+pub use Rattle.site_office.specs.Sessions.{AnyText, AreMixed, IsBeside, IsTenantAt, MayBeOwn, SeenSiteSession, tokenless, seated_by}
 pub use Rattle.site_office.specs.Tokens.{is_token, last_word, less_token, token_after, token_by, token_of, without_token, word_after, word_after_two}
 pub use Rattle.site_office.specs.Turns.{IsGreeted, IsRaised, IsRefused, IsWelcomed, SiteTurned}
 pub use Rattle.site_office.specs.declared.access.Greeted.{Greeted}

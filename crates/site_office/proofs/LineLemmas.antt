@@ -1,5 +1,5 @@
 -- What comes of one line of a site's session: it is answered beside the session, or is a line of the session's own.
-use Rattle.site_office.proofs.Common.{◌≡◌, ◌⊎◌, ℕ, List, Bool, true, false, refl, sym, ap, ◌∙◌, inl, inr, Option, codes, bytes_eq, if◌then◌else◌, LineText, Whole, TooLong, HallOf, Quota, Call, Hello, Reserve, Get, Leave, OfficeReply, Gone, reply_text, Request, Fault, Makes, Tabulates, Ends, request, LeavesIf, Turned, seated_after, IsTurnAt, Greeted, Known, Unknown, Crowded, Info, SiteRequest, Pings, asked_by, info_request, site_request, IsGreeted, IsRaised, SiteTurned, token_of, without_token, SiteOfficeOf, office_of, IsSiteTurn, IsTracedAt, IsRefusedByBook, Stays, IsBeside, tokenless, is_some}
+use Rattle.site_office.proofs.Common.{◌≡◌, ◌⊎◌, ℕ, List, Bool, true, false, refl, sym, ap, ◌∙◌, inl, inr, Option, codes, bytes_eq, if◌then◌else◌, LineText, Whole, TooLong, HallOf, Quota, Call, Hello, Reserve, Get, Leave, OfficeReply, Gone, reply_text, Request, Fault, Makes, Tabulates, Ends, request, LeavesIf, Turned, seated_after, IsTurnAt, Greeted, Known, Unknown, Crowded, Info, SiteRequest, Pings, asked_by, info_request, site_request, IsGreeted, IsRaised, SiteTurned, token_of, without_token, SiteOfficeOf, office_of, IsSiteTurn, IsTracedAt, IsRefusedByBook, Stays, IsBeside, MayBeOwn, tokenless, is_some}
 
 pub stays-same : (from to : SiteOfficeOf) → from ≡ to → Stays from to
 stays-same from to e = record { seat = ap (λ (o : SiteOfficeOf). (office_of o).seat) (sym e); there = ap (λ (o : SiteOfficeOf). is_some o.seat) (sym e); knew = ap (λ (o : SiteOfficeOf). o.knew) (sym e); place = λ h. ap (λ (o : SiteOfficeOf). o.at) (sym e) }
@@ -18,7 +18,7 @@ module _ (begun : ℕ → HallOf) where
   -- a line is answered beside the session, or, as it asks for this of any session, in it
   abbrev pub Came : SiteRequest → Request → SiteOfficeOf → Bool → List ℕ → SiteOfficeOf → Bool → Type 0
   Came asked q from seated text to seated' =
-      (IsBeside asked text × Stays from to × (seated' ≡ seated)) ⊎ ((met : SiteOfficeOf) × Stays from met × Turned IsOwn q met seated text to seated')
+      (IsBeside asked text × Stays from to × (seated' ≡ seated)) ⊎ ((met : SiteOfficeOf) × Stays from met × Turned IsOwn q met seated text to seated' × MayBeOwn asked)
 
   as-own : (from to : SiteOfficeOf) (call : Call) (reply : OfficeReply) → IsSiteTurn begun from call reply to → (IsRefusedByBook call reply → ⊥) → IsOwn from call reply to
   as-own from to call reply t other = own t.came
@@ -38,12 +38,12 @@ module _ (begun : ℕ → HallOf) where
       (paid : (from : O) (passes : Bool) (to : O) → pays from passes to → Stays (seen from) (seen to))
       (informed : (from : O) (info : Info) (to : O) → informs from info to → Stays (seen from) (seen to)) where
     -- a call that the book may not refuse
-    made : (asked : SiteRequest) (call : Call) (start from to : O) (seated : Bool) (text : List ℕ) (seated' : Bool) → ((reply : OfficeReply) → IsRefusedByBook call reply → ⊥) → Stays (seen start) (seen from) → Turned does (Makes call) from seated text to seated' → Came asked (Makes call) (seen start) seated text (seen to) seated'
-    made asked call start from to seated text seated' other s h = inr (seen from, s, (h.0, as-own (seen from) (seen to) call h.0 (called from call h.0 to h.1) (other h.0), h.2, h.3))
+    made : (asked : SiteRequest) (call : Call) → MayBeOwn asked → (start from to : O) (seated : Bool) (text : List ℕ) (seated' : Bool) → ((reply : OfficeReply) → IsRefusedByBook call reply → ⊥) → Stays (seen start) (seen from) → Turned does (Makes call) from seated text to seated' → Came asked (Makes call) (seen start) seated text (seen to) seated'
+    made asked call may start from to seated text seated' other s h = inr (seen from, s, (h.0, as-own (seen from) (seen to) call h.0 (called from call h.0 to h.1) (other h.0), h.2, h.3), may)
 
     greeted-so : (token : Option (List ℕ)) (quota : Quota) (passes : Bool) (greeted : Greeted) (start from to : O) (seated : Bool) (text : List ℕ) (seated' : Bool) → Stays (seen start) (seen from) → IsGreeted does greeted passes quota from seated text to seated'
         → Came (asked_by token (Makes (Hello quota))) (Makes (Hello quota)) (seen start) seated text (seen to) seated'
-    greeted-so token quota true Known start from to seated text seated' s h = made (asked_by token (Makes (Hello quota))) (Hello quota) start from to seated text seated' (λ reply away. away) s h
+    greeted-so token quota true Known start from to seated text seated' s h = made (asked_by token (Makes (Hello quota))) (Hello quota) tt start from to seated text seated' (λ reply away. away) s h
     greeted-so token quota true Unknown start from to seated text seated' s h = inl (inr (inl h.2), stays-on (seen start) (seen from) (seen to) s (stays-same (seen from) (seen to) (ap seen h.0)), h.1)
     greeted-so token quota true Crowded start from to seated text seated' s h = inl (inr (inr h.2), stays-on (seen start) (seen from) (seen to) s (stays-same (seen from) (seen to) (ap seen h.0)), h.1)
     greeted-so token quota false greeted start from to seated text seated' s h = inl (inl h.2, stays-on (seen start) (seen from) (seen to) s (stays-same (seen from) (seen to) (ap seen h.0)), h.1)
@@ -57,7 +57,7 @@ module _ (begun : ℕ → HallOf) where
         turn = called from (Reserve quota) h.0 to h.1
 
         by : IsTurnAt (begun (seen from).at) (office_of (seen from)) (Reserve quota) h.0 (office_of (seen to)) ⊎ ((seen to ≡ seen from) × IsRefusedByBook (Reserve quota) h.0) → Came (asked_by token (Makes (Reserve quota))) (Makes (Reserve quota)) (seen start) seated text (seen to) seated'
-        by (inl own) = inr (seen from, s, (h.0, record { place = turn.place; knew = turn.knew; there = turn.there; turn = own }, h.2, h.3))
+        by (inl own) = inr (seen from, s, (h.0, record { place = turn.place; knew = turn.knew; there = turn.there; turn = own }, h.2, h.3), tt)
         by (inr away) =
             let said = away.1.1 in
             inl (inr (away.1.0, h.3 ∙ ap reply_text said), stays-on (seen start) (seen from) (seen to) s (stays-same (seen from) (seen to) (sym away.0)), h.2 ∙ ap (seated_after seated) said)
@@ -66,11 +66,11 @@ module _ (begun : ℕ → HallOf) where
     plain token (Makes (Hello quota)) from to seated text seated' h =
         greeted-so token quota h.2 h.0 from h.3 to seated text seated' (stays-on (seen from) (seen h.1) (seen h.3) (met from token h.0 h.1 h.4) (paid h.1 h.2 h.3 h.5)) h.6
     plain token (Makes (Reserve quota)) from to seated text seated' h = raised token quota h.0 from h.1 to seated text seated' (paid from h.0 h.1 h.2) h.3
-    plain token (Makes call) from to seated text seated' h = made (asked_by token (Makes call)) call from from to seated text seated' (λ reply away. away) (stays-same (seen from) (seen from) refl) h
+    plain token (Makes call) from to seated text seated' h = made (asked_by token (Makes call)) call tt from from to seated text seated' (λ reply away. away) (stays-same (seen from) (seen from) refl) h
     plain token (Fault fault) from to seated text seated' h = inl (h.2, stays-same (seen from) (seen to) (ap seen h.0), h.1)
     plain token (Tabulates job) from to seated text seated' h =
-        inr (seen from, stays-same (seen from) (seen from) refl, (h.0, as-own (seen from) (seen to) (Get job) h.0 (called from (Get job) h.0 to h.1) (λ away. away), h.2, h.3))
-    plain token Ends from to seated text seated' h = inr (seen from, stays-same (seen from) (seen from) refl, (leaves-own seen does called seated from to h.0, h.1, h.2))
+        inr (seen from, stays-same (seen from) (seen from) refl, (h.0, as-own (seen from) (seen to) (Get job) h.0 (called from (Get job) h.0 to h.1) (λ away. away), h.2, h.3), tt)
+    plain token Ends from to seated text seated' h = inr (seen from, stays-same (seen from) (seen from) refl, (leaves-own seen does called seated from to h.0, h.1, h.2), tt)
 
     by-word : (info ping : Bool) (token : Option (List ℕ)) (q : Request) (from to : O) (seated : Bool) (text : List ℕ) (seated' : Bool) → SiteTurned does greets pays informs (if info then info_request seated else (if ping then Pings else asked_by token q)) from seated text to seated'
         → Came (if info then info_request seated else (if ping then Pings else asked_by token q)) q (seen from) seated text (seen to) seated'

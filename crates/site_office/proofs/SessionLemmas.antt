@@ -1,5 +1,5 @@
 -- A site's session in the history of its desk.
-use Rattle.site_office.proofs.Common.{◌≡◌, ℕ, List, [], ◌∷◌, ◌++◌, Bool, true, false, refl, sym, ap, subst, ◌∙◌, inl, inr, Option, Some, None, Result, Ok, Err, concat, is_some, option_map, LineText, Answers, Leads, WriteFailed, LineFault, TalkEnd, IsAnswered, ReadAnswer, WriteAnswer, Talk, bytes_due, write_result, HallOf, SeatOf, Call, Hello, Get, Leave, OfficeReply, Gone, Request, Fault, Makes, Tabulates, Ends, request, LineTurn, Faulted, Made, Tabulated, Closed, turns, calls_in, leaving, calls_for, seated_after, turn_text, Called, LeavesIf, Turned, session_lines, is_bye, Bye, Write, next_turns, each-done, all-true, IsOneTenancy, IsTenantOf, OfficeOf, vacant, asks_of, is_stay, IsHello, IsTurnAt, IsTurnOf, answered-ends, ends-is_bye, one-tenant, seated-stays, stays-seated, EndsAtBye, kept, Greeted, Info, SiteTurned, site_request, SiteSeatOf, SiteTraceOf, SiteOfficeOf, office_of, IsSiteTurn, IsTracedAt, Stays, AnyText, AreMixed, IsBeside, IsTenantAt, SeenSiteSession, tokenless, seated_by}
+use Rattle.site_office.proofs.Common.{◌≡◌, ℕ, List, [], ◌∷◌, ◌++◌, Bool, true, false, refl, sym, ap, subst, ◌∙◌, inl, inr, Option, Some, None, Result, Ok, Err, concat, is_some, option_map, LineText, Answers, Leads, WriteFailed, LineFault, TalkEnd, IsAnswered, ReadAnswer, WriteAnswer, Talk, bytes_due, write_result, HallOf, SeatOf, Call, Hello, Get, Leave, OfficeReply, Gone, Request, Fault, Makes, Tabulates, Ends, request, LineTurn, Faulted, Made, Tabulated, Closed, turns, calls_in, leaving, calls_for, seated_after, turn_text, Called, LeavesIf, Turned, session_lines, is_bye, Bye, Write, next_turns, each-done, all-true, IsOneTenancy, IsTenantOf, OfficeOf, vacant, asks_of, is_stay, IsHello, IsTurnAt, IsTurnOf, answered-ends, ends-is_bye, one-tenant, seated-stays, stays-seated, EndsAtBye, kept, Greeted, Info, SiteTurned, site_request, SiteSeatOf, SiteTraceOf, SiteOfficeOf, office_of, IsSiteTurn, IsTracedAt, Stays, AnyText, AreMixed, IsBeside, IsTenantAt, MayBeOwn, SeenSiteSession, tokenless, seated_by}
 use Rattle.site_office.proofs.BareLines.{bye-bare}
 use Rattle.site_office.proofs.LineLemmas.{leaves-own, line-came, Came, IsOwn}
 use Rattle.site_office.proofs.SeatLemmas.{none-of}
@@ -87,7 +87,7 @@ module _ (begun : ℕ → HallOf) where
         }
 
     -- a line of the session's own
-    module _ (met next : SiteOfficeOf) (s : Stays from met) (last : EndsAtBye (line ∷ lines)) where
+    module _ (met next : SiteOfficeOf) (s : Stays from met) (may : MayBeOwn (site_request seated line)) (last : EndsAtBye (line ∷ lines)) where
       own-line : (turn : LineTurn) → text ≡ turn_text turn → (r : Lines n next (seated_by seated turn) lines texts to seated'') (replies : List OfficeReply) → turns seated (tokenless line ∷ r.own) replies ≡ turn ∷ r.turned
           → ((end : SiteOfficeOf) → Leads (Called (IsTurnAt (begun n))) (office_of next) (calls_in (seated_by seated turn) r.turned) (office_of end) → Leads (Called (IsTurnAt (begun n))) (office_of met) (calls_in seated (turn ∷ r.turned)) (office_of end))
           → (IsOf n met.knew → IsOf n next.knew) → Lines n from seated (line ∷ lines) (text ∷ texts) to seated''
@@ -98,7 +98,7 @@ module _ (begun : ℕ → HallOf) where
         are = are;
         ends = (λ bye. r.none (last.0 (bye-bare line bye)), r.ends);
         none = λ e. absurd (cc e);
-        mixed = inr (r.own, turn, r.turned, refl, refl, said, r.mixed);
+        mixed = inr (r.own, turn, r.turned, may, refl, refl, said, r.mixed);
         last = r.last;
         made = λ end left. let m = r.made end left in (subst (λ (o : OfficeOf). Leads (Called (IsTurnAt (begun n))) o (calls_in seated (turn ∷ r.turned)) (office_of end)) (same-office from met s) (leads end m.0), λ k. m.1 (knew (subst (IsOf n) (sym s.knew) k)));
       }
@@ -135,7 +135,7 @@ module _ (begun : ℕ → HallOf) where
   line-walk line lines text texts from next to s s' s'' last here (inl h) again after =
       let w = again (h.1.there ∙ here ∙ sym h.2) in
       (w.0, λ there. sym (h.1.place (here ∙ there)) ∙ w.1 (h.2 ∙ there), beside w.0 line lines text texts s from to s'' next s' h.0 h.1 h.2 w.2)
-  line-walk line lines text texts from next to s s' s'' last here (inr came) again after = by s here (request s (tokenless line)) refl came.2
+  line-walk line lines text texts from next to s s' s'' last here (inr came) again after = by s here came.3 (request s (tokenless line)) refl came.2
     where
       met : SiteOfficeOf
       met = came.0
@@ -146,25 +146,25 @@ module _ (begun : ℕ → HallOf) where
       met-there : (b : Bool) → is_some from.seat ≡ b → is_some met.seat ≡ b
       met-there b e = stays.there ∙ e
 
-      by-call : (b : Bool) → is_some from.seat ≡ b → (q : Request) (call : Call) (reply : OfficeReply) → request b (tokenless line) ≡ q → (b ≡ true → is_stay call ≡ true) → IsOwn begun met call reply next → s' ≡ seated_after b reply →
+      by-call : (b : Bool) → is_some from.seat ≡ b → MayBeOwn (site_request b line) → (q : Request) (call : Call) (reply : OfficeReply) → request b (tokenless line) ≡ q → (b ≡ true → is_stay call ≡ true) → IsOwn begun met call reply next → s' ≡ seated_after b reply →
           ((n : ℕ) → IsOwnAt n met call reply next → Turned (IsOwnAt n) q met b text next s') → Walk from b (line ∷ lines) (text ∷ texts) to s''
-      by-call b e q call reply is stay t new turned =
+      by-call b e may q call reply is stay t new turned =
           let w = again (t.there ∙ ap (λ z. seated_after z reply) (met-there b e) ∙ sym new) in
           let o = own-at w.0 met next call reply b s' (met-there b e) new stay t w.1 in
-          (w.0, λ there. sym (stays.place (e ∙ there)) ∙ o.1 there, in-session w.0 line lines text texts b from to s'' met next stays last q is s' (turned w.0 o.0) w.2)
+          (w.0, λ there. sym (stays.place (e ∙ there)) ∙ o.1 there, in-session w.0 line lines text texts b from to s'' met next stays may last q is s' (turned w.0 o.0) w.2)
 
-      by : (b : Bool) → is_some from.seat ≡ b → (q : Request) → request b (tokenless line) ≡ q → Turned (IsOwn begun) q met b text next s' → Walk from b (line ∷ lines) (text ∷ texts) to s''
-      by b e (Fault fault) is h =
+      by : (b : Bool) → is_some from.seat ≡ b → MayBeOwn (site_request b line) → (q : Request) → request b (tokenless line) ≡ q → Turned (IsOwn begun) q met b text next s' → Walk from b (line ∷ lines) (text ∷ texts) to s''
+      by b e may (Fault fault) is h =
           let w = again (ap (λ (o : SiteOfficeOf). is_some o.seat) (sym h.0) ∙ met-there b e ∙ sym h.1) in
-          (w.0, λ there. sym (stays.place (e ∙ there)) ∙ ap (λ (o : SiteOfficeOf). o.at) h.0 ∙ w.1 (h.1 ∙ there), in-session w.0 line lines text texts b from to s'' met next stays last (Fault fault) is s' h w.2)
-      by b e (Makes call) is h = by-call b e (Makes call) call h.0 is (λ there. seated-stays (tokenless line) call (ap (λ z. request z (tokenless line)) (sym there) ∙ is)) h.1 h.2 (λ n t. (h.0, t, h.2, h.3))
-      by b e (Tabulates job) is h = by-call b e (Tabulates job) (Get job) h.0 is (λ there. refl) h.1 h.2 (λ n t. (h.0, t, h.2, h.3))
-      by true e Ends is h =
+          (w.0, λ there. sym (stays.place (e ∙ there)) ∙ ap (λ (o : SiteOfficeOf). o.at) h.0 ∙ w.1 (h.1 ∙ there), in-session w.0 line lines text texts b from to s'' met next stays may last (Fault fault) is s' h w.2)
+      by b e may (Makes call) is h = by-call b e may (Makes call) call h.0 is (λ there. seated-stays (tokenless line) call (ap (λ z. request z (tokenless line)) (sym there) ∙ is)) h.1 h.2 (λ n t. (h.0, t, h.2, h.3))
+      by b e may (Tabulates job) is h = by-call b e may (Tabulates job) (Get job) h.0 is (λ there. refl) h.1 h.2 (λ n t. (h.0, t, h.2, h.3))
+      by true e may Ends is h =
           let none = last.0 (bye-bare line (ends-is_bye (tokenless line) is)) in
-          (met.at, λ there. sym (stays.place e), in-session met.at line lines text texts true from to s'' met next stays last Ends is s' (own-here met.at met next Leave Gone refl h.0, h.1, h.2) (after none met.at h.1))
-      by false e Ends is h =
+          (met.at, λ there. sym (stays.place e), in-session met.at line lines text texts true from to s'' met next stays may last Ends is s' (own-here met.at met next Leave Gone refl h.0, h.1, h.2) (after none met.at h.1))
+      by false e may Ends is h =
           let w = again (ap (λ (o : SiteOfficeOf). is_some o.seat) (sym h.0) ∙ met-there false e ∙ sym h.1) in
-          (w.0, λ there. absurd (cc there), in-session w.0 line lines text texts false from to s'' met next stays last Ends is s' h w.2)
+          (w.0, λ there. absurd (cc there), in-session w.0 line lines text texts false from to s'' met next stays may last Ends is s' h w.2)
 
   tenant-at : (n : ℕ) (calls : List (Call × OfficeReply)) (knew : Option SiteTraceOf) → IsOf n knew → IsTenantOf (begun n) calls (option_map (λ (t : SiteTraceOf). t.known) knew) → IsTenantAt begun calls knew
   tenant-at n calls None is t = t

@@ -44,6 +44,13 @@ IsBeside Pings text = text ≡ codes "PONG"
 IsBeside (Plain (Fault fault)) text = text ≡ error_text (fault_number fault)
 IsBeside (Plain _) text = ⊥
 
+-- a line that asks for this may be the next of a session's own: INFO, PING and a line with a fault never are
+abbrev pub MayBeOwn : SiteRequest → Type 0
+MayBeOwn Informs = ⊥
+MayBeOwn Pings = ⊥
+MayBeOwn (Plain (Fault fault)) = ⊥
+MayBeOwn _ = Unit {0}
+
 -- whether a tenant is there after what came of a line
 abbrev pub seated_by : Bool → LineTurn → Bool
 seated_by seated (Faulted fault) = seated
@@ -57,7 +64,7 @@ abbrev pub AreMixed : Bool → List LineText → List (List ℕ) → List LineTe
 AreMixed seated [] [] own turned = (own ≡ []) × (turned ≡ [])
 AreMixed seated (line ∷ lines) (text ∷ texts) own turned =
     (IsBeside (site_request seated line) text × AreMixed seated lines texts own turned)
-    ⊎ ((later : List LineText) × (turn : LineTurn) × (rest : List LineTurn) × (own ≡ tokenless line ∷ later) × (turned ≡ turn ∷ rest) × (text ≡ turn_text turn)
+    ⊎ ((later : List LineText) × (turn : LineTurn) × (rest : List LineTurn) × MayBeOwn (site_request seated line) × (own ≡ tokenless line ∷ later) × (turned ≡ turn ∷ rest) × (text ≡ turn_text turn)
     × AreMixed (seated_by seated turn) lines texts later rest)
 AreMixed seated _ _ own turned = ⊥
 

@@ -6,18 +6,18 @@
 //! one line: who says HELLO, the rate and INFO are asked of an [`AccessControl`], all else of the session's office, by the session's own
 //! code. So a line is read once, by one grammar.
 //!
-//! A [`SiteOffice`] is what a [`SiteHandler`] asks for a connection (`session::Office` and [`AccessControl`]). It has the desk by
+//! A `SiteOffice` is what a [`SiteHandler`] asks for a connection (`session::Office` and [`AccessControl`]). It has the desk by
 //! reference, the seat of its session once HELLO was welcomed, whose the next session is to be, and an [`Environment`]: the clock, the
 //! keys, the rates, and who can shut another's connection. Whoever is told that there is room once others have left waits for one of them,
 //! 2 seconds at most.
 //!
 //! What stands for what: an [`AccessControl`] is a state with relations of its own, as an `Office` is; what comes of a line is `SiteTurned`
 //! of `specs/Turns.antt`. A [`SiteHandler`] is an office with its access control, whether its tenant is there, and the last answer. A
-//! [`SiteOffice`] is its desk's number, its seat, and what that knew when its tenant left (`specs/Offices.antt`): each call is one of an
+//! `SiteOffice` is its desk's number, its seat, and what that knew when its tenant left (`specs/Offices.antt`): each call is one of an
 //! office at that desk (`IsTurnAt` of `desk_office`), or a raise that the book refuses (`specs/Moments.antt`). Its invariant is that the
 //! seat is that of the customer who was greeted, and at the office's desk.
 //!
-//! [`serve_connection`] serves a session of bytes in and bytes out, and promises of it what `desk_office::serve_desk_seen` does
+//! [`serve_connection`] serves a connection's session of bytes in and bytes out, and promises of it what `desk_office::serve_desk_seen` does
 //! (`specs/Sessions.antt`). Some lines are answered beside the session: by INFO, PONG, or a refusal for which no desk's history is asked.
 //! The others, less their tokens, are the lines of a session as any other: each `DONE`, `JOB` and `TABLE` is true by them, and the one
 //! tenant that they made was answered by its own part of its desk's history. Nothing in it knows a socket, so rows and tests play whole
@@ -42,8 +42,8 @@
 //! INFO                  INFO 4 16384 1048576 4 8 1.0.0
 //! PING                  PONG
 //!
-//! let mut office = SiteOffice::new(rt, &desk, environment, own, 4);
-//! serve_connection(rt, &mut source, &mut sink, &mut office)?;
+//! let connection = Connection { desks: &desks, desk: &desks[0], environment, own, grain: 4 };
+//! let (end, knew, environment) = serve_connection(rt, &mut source, &mut sink, connection);
 //! ```
 #![tactic(auto)]
 
@@ -63,8 +63,7 @@ pub use access::{AccessControl, Greeted, Info};
 pub use environment::{Cause, Environment, Identity, Note};
 pub use handler::{SiteHandler, serve_site};
 pub use laws::nobody_stays;
-pub use office::SiteOffice;
 pub use requests::{SiteRequest, read_site_request};
-pub use serving::serve_connection;
+pub use serving::{Connection, serve_connection};
 pub use tokens::{token_of, without_token};
 pub use turns::take_site_turn;

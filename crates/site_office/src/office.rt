@@ -32,7 +32,13 @@ const BETWEEN_NOTES: u64 = 1_000;
 
 /// The office of one connection at a site's desk. It has a seat from a HELLO that was welcomed until the tenant leaves; without a seat all
 /// calls but `hello` and `leave` are refused.
-pub struct SiteOffice<'a, J: SiteNaming, H: Environment, R: Wait + Clock, A: Allocator = Global> {
+pub(crate) struct SiteOffice<
+    'a,
+    J: SiteNaming,
+    H: Environment,
+    R: Wait + Clock,
+    A: Allocator = Global,
+> {
     rt: &'a R,
     /// The desks of all halls.
     desks: &'a [SiteDesk<J, A>],
@@ -65,7 +71,7 @@ impl<'a, J: SiteNaming, H: Environment, R: Wait + Clock, A: Allocator + Clone> S
     ghost use Rattle.std.specs.Prelude.{None};
 
     /// The office of a connection that is this customer's, at one of these desks, where no tenant is there.
-    pub fn new(
+    pub(crate) fn new(
         rt: &'a R,
         desks: &'a [SiteDesk<J, A>],
         desk: &'a SiteDesk<J, A>,
@@ -91,9 +97,10 @@ impl<'a, J: SiteNaming, H: Environment, R: Wait + Clock, A: Allocator + Clone> S
         }
     }
 
-    /// Ends the office, and gives the environment back. Where a tenant is still there its seat is dropped, and the tenant doesn't leave.
-    pub fn close(self) -> H
-        ensures { result ≡ self.entry.environment }
+    /// Ends the office, and gives back what its seat knew when its tenant left, and the environment. Where a tenant is still there its seat is
+    /// dropped, and the tenant doesn't leave.
+    pub(crate) fn close(self) -> (Option<SiteTrace<J>>, H)
+        ensures { result.0 ≡ self.entry.knew }
     {
         let SiteOffice {
             rt: _,
@@ -103,11 +110,11 @@ impl<'a, J: SiteNaming, H: Environment, R: Wait + Clock, A: Allocator + Clone> S
             who: _,
             own: _,
             seat: _seat,
-            knew: _knew,
+            knew,
             noted: _,
             grain: _,
         } = self;
-        environment
+        (knew, environment)
     }
 
     /// A seat for a session of the customer, for which it waits while others are to leave.
@@ -273,16 +280,12 @@ impl<'a, J: SiteNaming, H: Environment, R: Wait + Clock, A: Allocator + Clone> S
         }
     }
 
-    /// The seat's tenant leaves. Gives back what the seat then knows of the history, which ends with that. The desk has a grant for each of
-    /// its seats, so it gives this; it is looked at, and where it didn't the call would never return.
+    /// The tenant of a seat at the office's desk leaves. Gives back what the seat then knows of the history, which ends with that.
     fn left(&self, seat: SiteSeat<J>) -> SiteTrace<J>
+        requires { seat.at ≡ self.now.desk.now }
         ensures { (result.at ≡ seat.at) × Took seat.seat.known (Leave seat.seat.tenant) result.known × IsTrueTo (J.begun seat.at) seat.seat.tenant result.known }
     {
-        if let Some(trace) = self.desk.leave(self.rt, seat) {
-            return trace;
-        }
-        for _ in self.rt.forever() {}
-        unreachable!()
+        self.desk.leave(self.rt, seat).unwrap()
     }
 
     /// What the session's customer may have and has.

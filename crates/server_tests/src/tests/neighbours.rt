@@ -188,7 +188,7 @@ pub(super) fn a_plan_comes<J: SiteNaming, R: Wait + Abort + AllocGlobal>(
         return holds(rt, false);
     };
     let _trace = desk.leave(rt, tenth);
-    let Ok(old) = desk.reload(rt, plan) else {
+    let Ok((old, _known)) = desk.reload(rt, plan) else {
         return holds(rt, false);
     };
     holds(rt, old.budget(Who::Named(9)) == amount(1, 8, 80));

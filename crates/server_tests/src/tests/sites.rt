@@ -8,7 +8,7 @@ use hall::{Config, Hall};
 use line_io::{FromReader, FromWriter};
 use site_book::{Amount, Comer, CustomerBook, Plan, Who};
 use site_desk::{SeatOutcome, SiteDesk, SiteNaming, SiteSeat, SiteStock};
-use site_office::{Cause, Environment, Identity, Note, SiteOffice, serve_connection};
+use site_office::{Cause, Connection, Environment, Identity, Note, serve_connection};
 use std::alloc::Global;
 use std::process::Abort;
 use std::sync::Wait;
@@ -185,10 +185,16 @@ fn plays<J: SiteNaming, R: Wait + Clock + Abort + AllocGlobal>(
         reader: said.as_bytes(),
     };
     let mut sink = FromWriter::new(Vec::new(rt.alloc()));
-    let mut office = SiteOffice::new(rt, desks, desk, environment, own, 4);
-    let end = serve_connection(rt, &mut source, &mut sink, &mut office);
+    let connection = Connection {
+        desks,
+        desk,
+        environment,
+        own,
+        grain: 4,
+    };
+    let (end, _knew, environment) = serve_connection(rt, &mut source, &mut sink, connection);
     holds(rt, end.is_ok());
-    let TestEnvironment { told: noted, .. } = office.close();
+    let TestEnvironment { told: noted, .. } = environment;
     holds(rt, spell(&sink.writer, answered));
     holds(rt, spell(&noted, told));
 }

@@ -1,10 +1,14 @@
 use Rattle.promise_uses.proofs.Parts.{if-some}
+use Rattle.promise_uses.proofs.SiteParts.{always-left, never-left}
 use Rattle.promise_uses.proofs.sites.a_session_leaves.Goals as goal
 
 pub returns : goal.returns
 returns g c =
     let e = c.leave.ensures in
+    let at = c.args.seat.at in
     record {
+      here = always-left c.leave.result at c.args.desk.now e.left;
+      elsewhere = never-left c.leave.result at c.args.desk.now e.left;
       told = if-some c.leave.result (λ trace told. rw (← c.requires.nine) told.1) e.told;
       closed = if-some c.leave.result (λ trace closed. rw (← c.requires.nine) closed.0) e.closed;
       granted = if-some c.leave.result (λ trace closed. closed.1.1) e.closed;

@@ -3,4 +3,4 @@ use Rattle.site_office.proofs.rows.what_is_beside_a_session.Goals as goal
 
 pub returns-clause-mixed : goal.returns-clause-mixed
 unfolding digits
-returns-clause-mixed c = let quota : Quota = record { segments = 4; nodes = 8 } in inl (refl, inr ([], Made (Hello quota) (Welcome quota), [], refl, refl, refl, (refl, refl)))
+returns-clause-mixed c = let quota : Quota = record { segments = 4; nodes = 8 } in inl (refl, inr ([], Made (Hello quota) (Welcome quota), [], tt, refl, refl, refl, (refl, refl)))

@@ -1,6 +1,7 @@
-use Rattle.site_desk.proofs.Common.{◌≡◌, ◌+◌, ◌≤◌, ◌++◌, ◌∷◌, [], List, length, refl, sym, ◌∙◌, subst, Some, ap, why_over, Admit, BookEvent, IsBookBy, IsOpened, Known, Opens, TookInHall, IsCame, IsListed, IsTurnedAway, SiteOf, turned_by}
+use Rattle.site_desk.proofs.Common.{◌≡◌, ◌+◌, ◌≤◌, ◌++◌, ◌∷◌, [], ℕ, true, List, length, rules, is_open_by, refl, sym, ◌∙◌, subst, Some, ap, why_over, Admit, AreHeld, BookEvent, IsBookBy, IsOpened, Known, Opens, TookInHall, IsCame, IsListed, IsTurnedAway, SiteOf, turned_by}
 use Rattle.site_desk.proofs.Granting.{one-more}
-use Rattle.site_desk.proofs.Keepings.{booked-admit, has-room, not-admitted}
+use Rattle.site_desk.proofs.Holding.{held-open, open-first}
+use Rattle.site_desk.proofs.Keepings.{booked-admit, has-room, not-admitted, not-granted}
 use Rattle.site_desk.proofs.Lists.{has-place, listed-open}
 use Rattle.site_desk.proofs.Comings.{not-refused, turned-away}
 use Rattle.site_desk.specs.declared.entry.SeatOutcome.TheVariants.{Turned as turned_away_as}
@@ -37,8 +38,18 @@ invariant_of-self g c =
       i.4,
       subst (λ es. IsBookBy (g.J.SiteNaming.plan was.at) es c.open.new.self) (sym entries) (one-more _ _ _ _ m event i.5 (sym c.why_not_open.ensures.why ∙ c.in_default.is) c.open.ensures),
       ap (λ l. l.id) c.add.ensures.history ∙ (ap (λ l. l.id) c.begin-books.ensures.history ∙ i.6),
-      i.7,
+      subst (λ es. AreHeld es c.open.new.self) (sym entries) (held-open _ _ _ m i.7 comer.who n comer.ask (not-granted was.noted.hall was.book comer.who n i.0 number) c.open.ensures),
     )
+
+pub invariant_of-result : goal.invariant_of-result
+invariant_of-result g c =
+    let comer = c.args.comer.now in
+    let n = c.tenant-number.result in
+    let event = Opens comer.who n comer.ask in
+    let mine : c.add.new.token.known.mine ≡ event ∷ [] = ap (λ (k : Known BookEvent). k.mine) c.add.ensures.token ∙ ap (λ (l : List BookEvent). l ++ event ∷ []) c.begin-books.ensures.seen.1 in
+    let open_now : is_open_by comer.who c.in-Ok.core.seat.tenant c.add.new.token.known.mine ≡ true =
+    subst (λ (x : ℕ × List BookEvent). is_open_by comer.who x.0 x.1 ≡ true) (λ i. (c.tenant-number.ensures i, sym mine i)) (open-first comer.who n comer.ask) in
+    search rules
 
 pub returns-in-Ok-clause-entry : goal.returns-in-Ok-clause-entry
 returns-in-Ok-clause-entry g c =

@@ -1,6 +1,8 @@
-use Rattle.site_desk.proofs.Common.{Ok, Err, ap, Took, Raises, sym, ◌∙◌, subst, AdmitMore, IsBookBy, TookInHall, BookedOf, IsDecided, IsRaise, IsRaiseTold, SiteOf, SiteSeatOf, turned_by}
+use Rattle.site_desk.proofs.Common.{◌≡◌, ◌++◌, ◌∷◌, [], ℕ, List, true, rules, BookEvent, Known, is_open_by, Ok, Err, ap, Took, Raises, sym, ◌∙◌, subst, AdmitMore, AreHeld, IsBookBy, TookInHall, BookedOf, IsDecided, IsRaise, IsRaiseTold, SiteOf, SiteSeatOf, turned_by}
+use Rattle.desk.specs.Seats.{SeatOf}
 use Rattle.site_desk.proofs.Keepings.{MayRaise, may-raise, booked-raise, not-raised, not-raised-told}
 use Rattle.site_desk.proofs.Granting.{added, one-more}
+use Rattle.site_desk.proofs.Holding.{held-raise, open-raised}
 use Rattle.site_desk.proofs.Lists.{listed-raise}
 use Rattle.site_desk.proofs.locked_site.LockedSite.raise.Goals as goal
 
@@ -21,8 +23,21 @@ invariant_of-self g c =
       i.4,
       subst (λ es. IsBookBy (g.J.SiteNaming.plan was.at) es c.raise.new.self) (sym (ap (λ l. l.entries) c.add.ensures.history)) (one-more _ _ _ _ _ _ i.5 (sym c.why_not_raise.ensures.why ∙ c.in_default.is) c.raise.ensures),
       ap (λ l. l.id) c.add.ensures.history ∙ i.6,
-      i.7,
+      subst (λ es. AreHeld es c.raise.new.self) (sym (ap (λ l. l.entries) c.add.ensures.history)) (held-raise _ _ _ _ i.7 who n ask c.raise.ensures),
     )
+
+pub invariant_of-seat : goal.invariant_of-seat
+invariant_of-seat g c =
+    let seat = c.seat.inside in
+    let n = c.tenant-number.result in
+    let ask = c.args.ask in
+    let was = seat.books.known.mine in
+    let mine : c.add.new.token.known.mine ≡ was ++ Raises seat.who n ask ∷ [] = ap (λ (k : Known BookEvent). k.mine) c.add.ensures.token in
+    let same = c.tenant-number.ensures ∙ sym (ap (λ (s : SeatOf). s.tenant) c.in-Ok.ensures.share) in
+    let raised = open-raised seat.who n ask was (subst (λ k. is_open_by seat.who k was ≡ true) (sym c.tenant-number.ensures) c.seat.invariant.3) in
+    let open_now : is_open_by seat.who c.reserve.new.seat.seat.tenant c.add.new.token.known.mine ≡ true =
+    subst (λ (x : ℕ × List BookEvent). is_open_by seat.who x.0 x.1 ≡ true) (λ i. (same i, sym mine i)) raised in
+    search rules
 
 pub returns-in-Ok-clause-raise : goal.returns-in-Ok-clause-raise
 returns-in-Ok-clause-raise g c =

@@ -2,6 +2,12 @@ use Rattle.site_office.proofs.Common.{sym, subst, ◌∙◌, ◌≡◌, Some, Go
 use Rattle.site_office.proofs.TurnLemmas.{left-turn, placed}
 use Rattle.site_office.proofs.office.SiteOfficeOffice.leave.Goals as goal
 
+pub left-requires : goal.left-requires
+left-requires g c =
+    let was = c.args.self.now in
+    let here = c.in-Some.seat in
+    placed was.desk.now was.seat here (sym c.take.ensures.value ∙ c.in-Some.is) was.placed
+
 pub returns-in-Some : goal.returns-in-Some
 returns-in-Some g c =
     let was = c.args.self.now in
