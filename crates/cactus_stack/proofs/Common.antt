@@ -1,4 +1,4 @@
--- The names that the proofs take of the library, of the crates below and of this crate's definitions, from one place.
+-- The names that the cactus stack's proofs use, imported in one place.
 pub use Rattle.std.proofs.Common.{AllPairs, Contains, IsSome, List, None, Option, Some, [], ap, arith, drop, get_or, get_or-set_other, get_or-set_same, inl}
 pub use Rattle.std.proofs.Common.{inr, length, map, min, refl, replicate, rules, slice_get, subst, suc, sum_by, sym, take, zero, zero-add, ℕ, ◌%◌, ◌*◌, ◌++◌}
 pub use Rattle.std.proofs.Common.{◌+◌, ◌-◌, ◌/◌, ◌<◌, ◌∙◌, ◌∷◌, ◌≡◌, ◌≢◌, ◌≤◌}

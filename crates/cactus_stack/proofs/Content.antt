@@ -1,4 +1,4 @@
--- Chains and their words in regions that agree on them.
+-- A node's chain of segments and its words, in two regions of memory that agree on that chain: they hold the same.
 use Rattle.cactus_stack.proofs.Common.{◌≡◌, ℕ, zero, suc, ◌≤◌, List, [], ◌∷◌, take, Option, None, Some, refl, ap, arith, get_or-set_other, ◌≢◌, ◌<◌, ◌++◌, length, get_or, sym, ◌+◌, ◌-◌, ◌*◌, ◌∙◌, get_or-set_same, zero-add, ◌/◌, ◌%◌, IsSome, slice_get, drop, min, subst, set, get_or-append, Segment, Segments, segment_at, link_at, link_of, words_of_segment, set-holds, set-keeps, IsTaken, words_at, with_segment_words, with_link, chain, content, Lacks, AreApart, AllBlocks, AllFree, AgreesOn, IsOnce, IsChain, length-append, append_assoc, set-append_left, set-append_right, get_or-append_right, get_or-take, length-take-le, length-take, length-drop, get_or-drop, ext_get_or, lt-of-IsTaken, slice_get-get_or, charge, charge_of, node_in, words_in_chain, segments_of, IsSoundList}
 
 pub chain-agrees : (count : ℕ) (old new : Segments) (head : Option ℕ) → AgreesOn old new (chain count old head) → chain count new head ≡ chain count old head

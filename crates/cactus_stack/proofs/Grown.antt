@@ -1,4 +1,4 @@
--- A chain of new segments, made from its end to its front.
+-- A chain of new segments for a node of the cactus stack, made from its end to its front.
 use Rattle.cactus_stack.proofs.Common.{◌≡◌, ℕ, zero, suc, ◌-◌, ◌*◌, ◌<◌, ◌≤◌, min, List, [], ◌∷◌, ◌++◌, length, take, drop, replicate, Option, None, Some, IsSome, refl, ap, ◌∙◌, arith, get_or-set_other, get_or-set_same, ◌≢◌, ◌+◌, get_or, sym, subst, set, length-append, append_assoc, length-set, set-set, length-replicate, drop-replicate, replicate-append-replicate, take_all, take-append-drop, length-take-le, length-drop, drop_all, append-nil, Segment, Segments, segment_at, words_at, link_at, link_of, IsTaken, IsFree, blank, with_entry, with_segment_words, with_link, taken_count-take, lt-of-IsTaken, taken_count-write, taken_count-give, chain, Lacks, AgreesOn, IsFreshChain, filled, content, AreApart, AllBlocks, IsChain, IsGrownChain, IsGivenBack}
 use Rattle.cactus_stack.proofs.Content.{chain-agrees, content-agrees, blocks-agrees, agrees-set, lacks-taken, lacks-get_or, apart-get_or, apart-sym, once-append, agrees-taken, apart-free, content-append, blocks-append, blocks-get_or, content-link, blocks-link}
 

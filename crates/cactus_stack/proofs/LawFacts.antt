@@ -1,4 +1,5 @@
--- What the laws say, by induction; and how many words a new node has.
+-- The facts behind the cactus stack's laws, by induction: what a node sees, what nodes are charged, how many words a new
+-- node has, and what the tree of nodes keeps.
 use Rattle.cactus_stack.proofs.Common.{◌≡◌, ◌≢◌, ℕ, zero, suc, ◌+◌, ◌<◌, List, [], ◌∷◌, length, map, sum_by, AllPairs, Option, None, Some, Contains, get_or, refl, sym, ap, ◌∙◌, arith, get_or-set_other, IsSome, ◌-◌, ◌≤◌, min, take, drop, inl, inr, get_or-set_same, set, sum_by-cons, Node, Nodes, charge_of, total_charge, node_at, node_words, node_parent, IsSight, IsPath, with_node, without, parent_of_node, IsOpen, HasNoChild, HasAllChildren, with_node_words, get_or-take, length-take-le, cases_eq, place_at, IsUnder, IsForest, sight_within, IsWholeSight, Place, set-holds, replicate, length-append, length-replicate, padded}
 
 none-at : (nodes : Nodes) (n : ℕ) → node_at (set nodes n None) n ≡ None

@@ -1,4 +1,5 @@
--- One place changes, and all others stay.
+-- One place of the cactus stack's list of nodes changes, and all others stay: what follows for the nodes that the list
+-- stands for.
 use Rattle.cactus_stack.proofs.Common.{◌≡◌, ◌≢◌, ℕ, zero, suc, ◌+◌, ◌<◌, List, [], ◌∷◌, length, sum_by, Option, None, Some, get_or, refl, sym, ap, ◌∙◌, arith, inl, inr, get_or-set_other, get_or-set_same, ◌-◌, ◌*◌, ◌/◌, ◌%◌, ◌≤◌, ◌++◌, take, drop, replicate, set, length-set, ext_get_or, append_assoc, take-append-drop, take-replicate, drop-replicate, replicate-append-replicate, drop-set-lt, length-replicate, get_or_default, set-get_or, sum_by-set, sum_by-cons, cases_eq, Segments, taken_count, Segment, words_at, link_at, IsTaken, IsFree, with_segment_words, Node, Nodes, charge, node_at, total_charge, charge_of, padded, node_words, IsOpen, IsUnused, HasAllChildren, free_segments, with_node, with_node_words, without, AreApart, AgreesOn, chain, content, AllBlocks, AllFree, IsFreshChain, IsGrownChain, IsGivenBack, node_in, nodes_from, nowhere, place_at, len_at, charge_of_place, segments_of, IsSoundList, AreStored, resized, with_len, set-keeps, get_or-blanks, words_in_chain, IsUnder, IsForest, IsStack, IsWholeSight, Place, take-append-add, drop-append-add, take-set-lt, sum_by-replicate, taken_count-write, taken_count-replicate}
 use Rattle.cactus_stack.proofs.Content.{apart-sym, chain-agrees, content-agrees, blocks-agrees, charge_of-node_in, apart-append, apart-get_or, agrees-apart, agrees-taken, agrees-set, apart-free, content-write, chain-write, blocks-write, blocks-get_or, charge-some, charge-room, charge-below, length-words_in, len-of-node, node_in-some, place-of-sound}
 use Rattle.cactus_stack.proofs.LawFacts.{tree-write, tree-open, tree-without, depth-le-length, sight-open}
@@ -192,7 +193,7 @@ module _ {region : Segments} {places : List Place} (stored : AreStored region pl
         is_apart = λ m other. apart-nil (segments_at m);
       }
 
-  -- a growth
+  -- a node that is made longer
 
   pub grow-change : {new : Segments} {n : ℕ} (more added : ℕ) → 0 < len_at places n → len_at places n + more ≤ 128 → charge (len_at places n) + added ≡ charge (len_at places n + more) →
       IsGrownChain region new (segments_at n) (segments_of new n (len_at places n + more)) added →

@@ -1,4 +1,5 @@
--- Representation: how the words of a node lie in a region: in a chain of segments, each linked to the next.
+-- Representation: how the words of a stack's node lie in a region of memory: in a chain of segments, each linked to
+-- the next.
 use Rattle.std.specs.Prelude.{◌≡◌, ◌≢◌, ℕ, zero, suc, ◌+◌, ◌-◌, ◌*◌, List, [], ◌∷◌, ◌++◌, length, Option, Some, None, replicate}
 use Rattle.segment_region.specs.Segments.{Segment, Segments, segment_at, words_at, link_at, IsTaken, IsFree, taken_count}
 
@@ -8,12 +9,12 @@ chain zero region head = []
 chain (suc count) region None = []
 chain (suc count) region (Some segment) = segment ∷ chain count region (link_at region segment)
 
--- the words of segments, one after another
+-- the words of these segments of a region, one segment after another
 abbrev pub content : Segments → List ℕ → List ℕ
 content region [] = []
 content region (segment ∷ segments) = words_at region segment ++ content region segments
 
--- the number isn't in the list
+-- the number isn't in the list of numbers
 abbrev pub Lacks : List ℕ → ℕ → Type 0
 Lacks [] n = Unit {0}
 Lacks (x ∷ xs) n = (x ≢ n) × Lacks xs n
@@ -33,7 +34,7 @@ abbrev pub AllBlocks : Segments → List ℕ → Type 0
 AllBlocks region [] = Unit {0}
 AllBlocks region (segment ∷ segments) = IsTaken region segment × (length (words_at region segment) ≡ 16) × AllBlocks region segments
 
--- each of the segments is free
+-- each of these segments of a region is free
 abbrev pub AllFree : Segments → List ℕ → Type 0
 AllFree region [] = Unit {0}
 AllFree region (segment ∷ segments) = IsFree region segment × AllFree region segments

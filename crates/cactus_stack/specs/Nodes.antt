@@ -1,7 +1,8 @@
--- Meaning: what a cactus stack is to its users: an entry under each number below the count, where a node is open.
+-- Meaning: what a cactus stack is to its users: a list with an entry under each node's number below the count, None
+-- where no node is open.
 use Rattle.std.specs.Prelude.{◌≡◌, ◌≢◌, ℕ, ◌+◌, ◌-◌, ◌/◌, ◌<◌, List, [], ◌∷◌, ◌++◌, length, Option, Some, None, IsSome, slice_index_or, slice_set, replicate, Contains, sum_by}
 
--- a node that is open: the node that it was opened under, if there is one, and its words
+-- an open node: the node that it was opened under, if there is one, and its words
 pub record Node : Type 0 where
   pub parent : Option ℕ
   pub words : List ℕ
@@ -23,11 +24,11 @@ abbrev pub charge_of : Option Node → ℕ
 charge_of None = 0
 charge_of (Some node) = charge (length node.words)
 
--- the segments that all open nodes take
+-- how many segments all open nodes of a stack take together
 abbrev pub total_charge : Nodes → ℕ
 total_charge nodes = sum_by charge_of nodes
 
--- the segments that no node takes
+-- how many segments of a stack no open node takes
 abbrev pub free_segments : Nodes → ℕ
 free_segments nodes = segment_count nodes - total_charge nodes
 
@@ -39,7 +40,7 @@ growth_charge words more = charge (words + more) - charge words
 abbrev pub node_at : Nodes → ℕ → Option Node
 node_at nodes number = slice_index_or nodes number None
 
--- a node of this number is open
+-- a node of this number is open in the stack
 abbrev pub IsOpen : Nodes → ℕ → Type 0
 IsOpen nodes number = IsSome (node_at nodes number)
 
@@ -77,7 +78,7 @@ with_node_words nodes number words = with_node nodes number (Some (record { pare
 abbrev pub padded : List ℕ → ℕ → List ℕ
 padded words size = words ++ replicate (size - length words) 0
 
--- no open node has this one as its parent
+-- no open node of the stack has this one as its parent
 abbrev pub HasNoChild : Nodes → ℕ → Type 0
 HasNoChild nodes number = (child : ℕ) → node_parent nodes child ≢ Some number
 

@@ -1,11 +1,12 @@
--- Representation: how a stack keeps its nodes: a place for each number, and a chain of segments for each node that begins with the segment of its number.
+-- Representation: how a cactus stack keeps its nodes: a place for each number, and a chain of segments for each node
+-- that begins with the segment of its number.
 use Rattle.std.specs.Prelude.{◌≡◌, ◌≢◌, ℕ, zero, suc, ◌+◌, ◌-◌, ◌*◌, ◌≤◌, List, [], ◌∷◌, length, take, drop, Option, Some, None, replicate, slice_index_or, slice_set, sum_by}
 use Rattle.segment_region.specs.Segments.{Segments, taken_count}
 use Rattle.cactus_stack.specs.Nodes.{Node, Nodes, charge, node_words, node_parent, IsOpen, IsSight}
 use Rattle.cactus_stack.specs.Chains.{chain, content, AreApart, IsChain}
 use Rattle.cactus_stack.specs.declared.place.Place.{Place}
 
--- what stands for the place of a number that is too high
+-- the place (length 0, no parent, depth 0) that stands for a node whose number is too high
 abbrev pub nowhere : Place
 nowhere = record { len = 0; parent = None; depth = 0 }
 
@@ -17,7 +18,7 @@ place_at places number = slice_index_or places number nowhere
 abbrev pub len_at : List Place → ℕ → ℕ
 len_at places number = (place_at places number).len
 
--- the place with this length
+-- a node's place, with another number of words
 abbrev pub resized : Place → ℕ → Place
 resized place len = record { len = len; parent = place.parent; depth = place.depth }
 
@@ -25,7 +26,7 @@ resized place len = record { len = len; parent = place.parent; depth = place.dep
 abbrev pub with_len : List Place → ℕ → ℕ → List Place
 with_len places number len = slice_set places number (resized (place_at places number) len)
 
--- the segments that a place is charged
+-- how many segments the node at a place takes
 abbrev pub charge_of_place : Place → ℕ
 charge_of_place place = charge place.len
 
@@ -72,7 +73,7 @@ IsUnder nodes places (Some parent) depth = IsOpen nodes parent × (depth ≡ (pl
 abbrev pub IsForest : Nodes → List Place → Type 0
 IsForest nodes places = (n : ℕ) → IsOpen nodes n → IsUnder nodes places (node_parent nodes n) (place_at places n).depth
 
--- the invariant of a stack
+-- the invariant of a cactus stack: its places and its region's segments keep the nodes that it stands for
 pub record IsStack (region : Segments) (places : List Place) : Type 0 where
   pub stored : AreStored region places
   pub tree : IsForest (nodes_from region 0 places) places

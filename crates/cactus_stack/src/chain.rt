@@ -1,4 +1,4 @@
-//! Chains of segments: made, followed, made longer and given back.
+//! The chains of segments that hold the words of a stack's nodes: made, followed, made longer and given back.
 ghost use Rattle.std.specs.Prelude.{◌≡◌, ◌+◌, ◌-◌, ◌*◌, ◌<◌, ◌≤◌, ℕ, suc, [], ◌++◌, length, drop, replicate, Option, Some, None, slice_index, IsSome};
 ghost use Rattle.segment_region.specs.Segments.{Segments, IsFree, IsTaken, with_entry, taken_count, segment_count};
 ghost use Rattle.cactus_stack.specs.Chains.{chain, filled, IsChain, IsFreshChain, IsGrownChain, IsGivenBack};

@@ -1,4 +1,4 @@
-//! What words take of the segments.
+//! How many segments of 16 words a node with so many words takes.
 ghost use Rattle.std.specs.Prelude.{◌≡◌, ◌+◌, ◌≤◌};
 ghost use Rattle.cactus_stack.specs.Nodes.{charge as charge_of_words, growth_charge as growth_of_words};
 

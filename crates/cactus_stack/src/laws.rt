@@ -1,4 +1,4 @@
-//! What the words of the contracts mean, as laws: calls that do nothing, with the law as their contract.
+//! What the words of the cactus stack's contracts mean, as laws: calls that do nothing, with the law as their contract.
 ghost use Rattle.std.specs.Prelude.{◌≡◌, ◌≢◌, ◌+◌, ◌<◌, ℕ, List, [], ◌∷◌, ◌++◌, length, map, Option, None, Some, Contains, AllPairs, sum_by, replicate};
 ghost use Rattle.cactus_stack.specs.Nodes.{Nodes, Node, node_at, node_words, node_parent, with_node, with_node_words, without, padded, charge, charge_of, growth_charge, total_charge, free_segments, segment_count, IsSight, IsPath};
 
@@ -45,7 +45,7 @@ pub fn sights_follow_paths()
         IsPath nodes node numbers → ¬ Contains numbers other → IsSight nodes node levels → IsSight (with_node nodes other entry) node levels }
 {}
 
-/// Charges of some numbers of words.
+/// How many segments of 16 words some numbers of words take: examples.
 pub fn worked_charges()
     ensures one { charge 1 ≡ 1 }
     ensures sixteen { charge 16 ≡ 1 }

@@ -1,4 +1,4 @@
-//! The numbers of nodes, and the only refusal of a stack.
+//! The numbers of a cactus stack's nodes, and the stack's only refusal.
 use segment_region::SegNo;
 use std::marker::Model;
 

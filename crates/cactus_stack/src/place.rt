@@ -1,4 +1,4 @@
-//! What a stack keeps of each number.
+//! What a cactus stack keeps of each node's number: how many words the node has, its parent and its depth.
 use crate::node::NodeNo;
 
 /// The place of a number: the length of the node that has it, 1 to 128, that node's parent (None for a root), and how

@@ -1,4 +1,4 @@
-//! What a node sees of the stack.
+//! What a node sees of its cactus stack: its own words and those of each parent above it.
 ghost use Rattle.std.specs.Prelude.{◌≡◌, length, slice_get, Some};
 ghost use Rattle.cactus_stack.specs.Nodes.{IsSight};
 ghost use Rattle.cactus_stack.specs.Places.{sight_within, IsWholeSight};

@@ -1,4 +1,4 @@
-//! The stack: nodes that are opened under one another, grown, written and closed.
+//! The cactus stack: nodes with words, opened under one another, grown, written and closed.
 ghost use Rattle.std.specs.Prelude.{◌≡◌, ◌≢◌, ◌↔◌, ◌+◌, ◌<◌, ◌≤◌, ℕ, ◌++◌, length, replicate, Some, None, IfSome, IfOk, OnOk, OnErr, IsErr, slice_set, All, AllPairs};
 ghost use Rattle.cactus_stack.specs.Nodes.{Node, IsOpen, IsUnused, HasNoChild, HasAllChildren, IsSight, with_node, with_node_words, without, node_words, node_parent, padded, charge, growth_charge, total_charge, free_segments, segment_count};
 ghost use Rattle.cactus_stack.specs.Places.{nodes_from, with_len, AreStored};
@@ -134,7 +134,7 @@ impl<A: Allocator> Stack<A> {
         self.region.words_mut(segment)[at % 16] = word;
     }
 
-    /// The words of a node.
+    /// The words of one of the stack's open nodes.
     pub fn own(&self, node: NodeNo) -> Words<'_>
         requires { IsOpen self.now node }
         ensures { result ≡ node_words self.now node }

@@ -1,4 +1,4 @@
-//! What is read of a stack through a `&` to it, whatever allocator it has.
+//! What is read of a cactus stack through a `&` to it, whatever allocator it has.
 ghost use Rattle.std.specs.Prelude.{◌≡◌};
 ghost use Rattle.cactus_stack.specs.Nodes.{IsOpen, node_words, node_parent};
 ghost use Rattle.cactus_stack.specs.Places.{nodes_from, IsStack};
@@ -29,7 +29,7 @@ impl<'a> Model for StackView<'a> {
 }
 
 impl<'a> StackView<'a> {
-    /// The nodes whose places these are, in a region.
+    /// A view for reading of a stack of nodes: its words are in this region, and these are the places of its nodes.
     pub fn of(region: RegionView<'a>, places: &'a [Place]) -> StackView<'a>
         requires { IsStack region places.now }
         ensures { result ≡ nodes_from region.entry 0 places.now }
@@ -37,7 +37,7 @@ impl<'a> StackView<'a> {
         StackView { region, places }
     }
 
-    /// The words of a node.
+    /// The words of one of the stack's open nodes.
     pub fn own(&self, node: NodeNo) -> Words<'a>
         requires { IsOpen self.now node }
         ensures { result ≡ node_words self.now node }

@@ -1,4 +1,4 @@
-//! The words of one node, read in place.
+//! The words of one node of a cactus stack, read in place.
 ghost use Rattle.std.specs.Prelude.{◌≡◌, ◌≤◌, ◌*◌, drop, length, slice_get, take};
 
 use crate::chain::segment_after;
@@ -29,7 +29,7 @@ impl<'a> Model for Words<'a> {
 impl<'a> Words<'a> {
     ghost use Rattle.cactus_stack.specs.Places.{words_in_chain, IsSoundList};
 
-    /// The words of the list of this number and length.
+    /// The words of one node, read in place: so many words, from this segment of the region on.
     pub(crate) fn of(region: RegionView<'a>, first: SegNo, len: usize) -> Words<'a>
         requires { IsSoundList region first len }
         ensures { result ≡ words_in_chain region.entry first len }

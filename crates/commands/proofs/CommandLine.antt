@@ -1,1 +1,2 @@
+-- The proofs' lemmas on the words of `othello`'s command line.
 pub mod FaultLemmas

@@ -1,4 +1,4 @@
--- Meaning: what is done for the words of a command line whose command is solve, and the exit status.
+-- Meaning: what the program `othello` does for a command line whose command is solve, and its exit status.
 use Rattle.std.specs.Prelude.{◌≡◌, ℕ, List, Bool, true, false, [], Option, Some, Result, Ok, Err}
 use Rattle.clap.specs.Words.{Text, fault_of}
 use Rattle.clap.specs.declared.error.kind.ErrorKind.{ErrorKind}
@@ -11,8 +11,8 @@ use Rattle.commands.specs.declared.command_line.faults.WordsFault.{WordsFault}
 use Rattle.commands.specs.command_line.CommandLine.{options_asked, program}
 use Rattle.commands.specs.command_line.Faults.{IsRefusalOf, exit_status}
 
--- what the words of a command line are read as, by the faults that are found in them and what they ask for: that,
--- where they have no fault; or they are refused, for a fault that they have or for want of memory
+-- what the words of a command line are read as: what they ask for, where they have no fault; else a refusal, for a
+-- fault that they have or for want of memory
 abbrev pub IsReadBy : List ErrorKind → Option Options → Result Options WordsFault → Type 0
 IsReadBy found asked (Ok options) = (asked ≡ Some options) × (found ≡ [])
 IsReadBy found asked (Err fault) = IsRefusalOf found asked fault

@@ -1,4 +1,4 @@
--- Meaning: what the program does.
+-- Meaning: what the program `othello` does for the words of its command line.
 use Rattle.std.specs.Prelude.{◌≡◌, ◌≤◌, ℕ, ◌∷◌, [], ◌++◌, Option, Some, None, Result, Ok, codes, decimal}
 use Rattle.std.specs.Net.Text.{socket_text}
 use Rattle.std.specs.declared.net.SocketAddr.{SocketAddr}

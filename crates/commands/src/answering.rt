@@ -1,4 +1,4 @@
-//! The lines of an input, answered as `solve` answers them.
+//! The lines of an input of the program `othello`, answered as `solve` answers them.
 ghost use Rattle.std.specs.Prelude.{◌≡◌, ◌≤◌, Result};
 ghost use Rattle.line_io.specs.declared.faults.LineFault.{LineFault};
 ghost use Rattle.commands.specs.Answering.{IsAnsweredRun, status_of_run};
@@ -42,7 +42,8 @@ pub fn answer<S: ProgramInput, K: ProgramOutput, E: Sink>(
     ended(result, streams)
 }
 
-/// As [`answer`], each line by one ordered search.
+/// Answers the lines of the input until it ends, each by one ordered search, and returns the exit status; in all else
+/// as [`answer`].
 pub fn answer_ordered<S: ProgramInput, K: ProgramOutput, E: Sink>(
     streams: &mut Streams<S, K, E>,
 ) -> u8

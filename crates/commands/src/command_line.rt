@@ -1,4 +1,4 @@
-//! The words of the command line: what `othello` is asked to do.
+//! The words of `othello`'s command line: what the program is asked to do.
 //!
 //! Words stand for [`Options`], or for a fault ([`WordsFault`]). Which values the words give is `clap`'s own
 //! definition; what they ask for is `specs/CommandLine.antt`: each option has the value that the words give it, or

@@ -1,4 +1,5 @@
-//! An output whose faults are explained.
+//! The output of `othello`, which explains answers: where the input is a terminal, each answer that is a fault is said
+//! in words on the standard error.
 use crate::saying::say;
 use crate::streams::ProgramOutput;
 use line_io::{Sink, WriteFailed};
@@ -31,6 +32,7 @@ pub struct Explained<K, E> {
 impl<K: Sink, E: Sink> Sink for Explained<K, E> {
     ghost takes = { λ s answer t. K.takes s.sink answer t.sink };
 
+    /// Writes to the output; an answer that went out whole is explained on the errors, if it is a fault.
     fn put(&mut self, bytes: &[u8]) -> Result<usize, WriteFailed> {
         let count = self.sink.put(bytes)?;
         if self.explains && count == bytes.len() {
@@ -41,6 +43,7 @@ impl<K: Sink, E: Sink> Sink for Explained<K, E> {
 }
 
 impl<K: ProgramOutput, E: Sink> ProgramOutput for Explained<K, E> {
+    /// Whether nobody reads the output any more.
     fn is_closed(&self) -> bool {
         self.sink.is_closed()
     }

@@ -1,4 +1,4 @@
-//! What the program does, over any streams: from the words of the command line to the exit status.
+//! What the program `othello` does, over any streams: from the words of the command line to the exit status.
 ghost use Rattle.std.specs.Prelude.{map, Result};
 ghost use Rattle.commands.specs.declared.command_line.options.Options.{Options};
 ghost use Rattle.commands.specs.declared.command_line.faults.WordsFault.{WordsFault};

@@ -1,4 +1,4 @@
-//! What a program says of itself, and of words that it can't follow.
+//! What the program `othello` says of itself, and of words that it can't follow.
 ghost use Rattle.std.specs.Prelude.{◌≡◌};
 ghost use Rattle.commands.specs.command_line.Faults.{exit_status};
 
@@ -35,6 +35,7 @@ fn put<K: Sink, D: Display + Drop>(sink: &mut K, text: D) {
 struct Pen<'a, K>(&'a mut K);
 
 impl<K: Sink> fmt::Write for Pen<'_, K> {
+    /// Writes a text to the sink; an error where a write failed.
     fn write_str(&mut self, text: &str) -> fmt::Result {
         match write_text(self.0, text.as_bytes()) {
             Ok(()) => Ok(()),

@@ -1,4 +1,5 @@
-//! What a server runs with.
+//! What `othello serve` runs with: how many sessions, its port, its workers, the segments and nodes of all tenants, and
+//! the grain.
 ghost use Rattle.std.specs.Prelude.{◌≤◌};
 
 use sched_rules::Worker;

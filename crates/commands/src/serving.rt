@@ -53,12 +53,15 @@ pub enum Unserved {
 }
 
 impl From<AllocError> for Unserved {
+    /// Why nobody was served: there was no memory to serve with.
     fn from(_refused: AllocError) -> Unserved {
         Unserved::OutOfMemory
     }
 }
 
 impl From<ServeFault> for Unserved {
+    /// Why nobody was served, by the fault of the server: the announcement couldn't be written, or another fault ended
+    /// the server.
     fn from(fault: ServeFault) -> Unserved {
         match fault {
             ServeFault::Unsaid => Unserved::Unwritten,
@@ -109,6 +112,7 @@ impl<K: Sink> Announce for Listening<'_, K> {
     ghost says = { λ before is_said after. (after.sink.ghost_name ≡ before.sink.ghost_name)
         × (is_said ≡ true → IsWritten K.takes before.sink.now (listening_text before.address) after.sink.now (Ok tt)) };
 
+    /// Says at which address the server listens, once its workers have begun; false where that can't be written.
     fn announce(&mut self) -> bool {
         is_begun(self.alloc, self.sink, self.address)
     }

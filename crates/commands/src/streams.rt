@@ -1,4 +1,4 @@
-//! The streams of a program, and what it has to know of them beside their bytes.
+//! The streams of the program `othello`, and what it has to know of them beside their bytes.
 use crate::explaining::Explained;
 use line_io::{FromReader, FromWriter, Sink, Source};
 use std::io::{ErrorKind, IsTerminal, Read, Write};
@@ -48,11 +48,12 @@ impl Streams<FromReader<Stdin>, StandardOutput, FromWriter<Stderr>> {
 
 /// An input of the program, which knows whether it is a terminal.
 pub trait ProgramInput: Source {
-    /// Whether it is a terminal.
+    /// Whether the input is a terminal, at which somebody types.
     fn is_typed(&self) -> bool;
 }
 
 impl<R: Read + IsTerminal> ProgramInput for FromReader<R> {
+    /// Whether the input is a terminal, at which somebody types.
     fn is_typed(&self) -> bool {
         self.reader.is_terminal()
     }
@@ -65,6 +66,7 @@ pub trait ProgramOutput: Sink {
 }
 
 impl<W: Write> ProgramOutput for FromWriter<W> {
+    /// Whether the last write failed because nobody reads any more.
     fn is_closed(&self) -> bool {
         self.failure == Some(ErrorKind::BrokenPipe)
     }

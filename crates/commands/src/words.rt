@@ -1,4 +1,4 @@
-//! The words that a process was started with.
+//! The words that the process of `othello` was started with.
 ghost use Rattle.std.specs.Prelude.{◌≡◌, ◌⊎◌, IfErr};
 
 use crate::command_line::WordsFault;

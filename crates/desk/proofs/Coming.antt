@@ -1,4 +1,4 @@
--- What lies under the lock has come by the steps of the history, one after the other.
+-- The hall under a desk's lock has come by the steps of the desk's history, one after the other.
 use Rattle.desk.proofs.Common.{◌≡◌, ℕ, ◌+◌, ◌<◌, ◌≤◌, List, [], ◌∷◌, ◌++◌, true, false, refl, sym, ap, ◌∙◌, subst, arith, None, Result, Ok, Err, OnOk, OnErr, IsPrefix, Quota, Refusal, Admit, Leave, DidOf, Left, refusal_in, tenant_of, only, alone_from, CoreState, tenant_in, shared_run, newest_after, IsOneStep, AreNumbersGiven, step-taken, known-number, tenant_in-new, Leaf, LeafAnswer, jamboree, HallOf, hall_after, IsExplained, own, Known, SeatOf, seeing, steps_of, core_at, is_admit, with_taken, is_leave, AreStepsOfSeat, HasNoLeave, HasOwners, IsAtEndOf, IsComeBy, IsThere, IsLook, IsToldOf}
 use Rattle.desk.proofs.Judged.{run-more, taken-more, no-first, newest-stays, Rights, Headlines, isolated}
 use Rattle.desk.proofs.Staying.{there-more, seat-stays, leaves}

@@ -1,4 +1,4 @@
--- The names that the proofs take of the library, of the crates below and of this crate's definitions, from one place.
+-- The names that the desk's proofs use, imported in one place.
 pub use Rattle.std.proofs.Common.{Bool, Contains, Err, IfErr, List, None, Ok, Option, Result, Some, [], ap, append-nil, append_assoc, arith, false, if◌then◌else◌, inl, inr}
 pub use Rattle.std.proofs.Common.{length, length-append, lit<, refl, rules, set, subst, suc, sym, true, true≢false, zero, ℕ, ⊎_elim, ◌++◌, ◌+◌, ◌<◌, ◌==◌, ◌∙◌, ◌∷◌, ◌≡◌}
 pub use Rattle.std.proofs.Common.{◌≢◌, ◌≤◌, ◌⊎◌}

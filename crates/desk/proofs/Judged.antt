@@ -1,4 +1,4 @@
--- Lists of steps that a core takes, for any procedure: that each tenant is what its own steps make of it.
+-- Lists of steps that a core takes, for any procedure: each tenant is what its own steps make of it.
 use Rattle.desk.proofs.Common.{◌≡◌, ℕ, List, [], ◌∷◌, ◌++◌, false, refl, sym, ap, ◌∙◌, arith, None, Result, Ok, Err, Refusal, StepOf, DidOf, Functions, Outcome, lone, refusal_in, only, answer_of, alone_from, CoreState, tenant_in, step_result, shared_refusal, shared_after, shared_run, newest_after, IsAnswerTo, IsHeadline, AreAnswersTo, AreNumbersGiven, after_answers, taken_steps, is_admit, AreTaken}
 
 -- a step that is no Admit leaves the greatest number as it was

@@ -1,4 +1,4 @@
--- What the numbers of a hall, of a seat and of a ledger say after a step.
+-- What the numbers of a hall, of a desk's seat and of a ledger say after a step is taken.
 use Rattle.desk.proofs.Common.{◌≡◌, ℕ, ◌+◌, ◌≤◌, List, [], ◌∷◌, sym, ap, ◌∙◌, subst, arith, length, length-append, Result, Ok, Err, OnOk, OnErr, MatchResult, Refusal, Leave, DidOf, Left, Leaf, HallOf, IsDecided, IsExplained, IsLeft, IsMoved, count_of, hall_after, Known, SeatOf, IsAsked, seeing, stepped, with_taken}
 use Rattle.desk.proofs.Owners.{Step}
 use Rattle.hall.specs.declared.desk_rules.asked.SeatAsked.{SeatAsked}

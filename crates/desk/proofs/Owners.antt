@@ -1,4 +1,4 @@
--- A seat's steps are all the seat steps of its tenant.
+-- Of a desk's history: the steps that a seat made are all the seat steps of its tenant.
 use Rattle.desk.proofs.Common.{◌≡◌, ℕ, ◌<◌, ◌≤◌, ◌==◌, List, [], ◌∷◌, ◌++◌, true, refl, sym, ap, ◌∙◌, subst, arith, if◌then◌else◌, Result, Ok, Err, nat_tests, Quota, Refusal, StepOf, Admit, tenant_of, only, LeafAnswer, own as own_by, steps_of, is_seat_step, seat_steps, with_taken, Owned, HasOwners, AllOwn, AreStepsOfSeat, AreStepsUpTo}
 
 abbrev pub Step : Type 0

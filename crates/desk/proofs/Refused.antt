@@ -1,4 +1,4 @@
--- As what an ask, a cancel, and a raise of what is reserved can be refused.
+-- By which refusals a seat's ask, cancel and raise of its reservation can be refused at a desk.
 use Rattle.desk.proofs.Common.{◌≡◌, ℕ, Bool, true, false, Option, Some, None, refl, lit<, inl, inr, Result, Ok, Err, Refusal, OutOfMemory, Lower, AdmitMore, Cancel, Submit, DidOf, Quota, tenant_in, step_result, is_beyond, unless_beyond, reserved_by, reservations_in, Functions, Outcome, is_lower, cancelled, lone, raised, refusal_in, answer_of, Tenant, Leaf, LeafAnswer, root_words, frame_size, jamboree, HallOf, IsDecided, reserve_refusals, ask_refusals, cancel_refusals, ask-refused as offered_refused}
 use Rattle.sched_rules.specs.declared.job.Job.{Job}
 use Rattle.sched_rules.specs.declared.job.Job.TheVariants.{Live, Done, Spent, Cancelled}

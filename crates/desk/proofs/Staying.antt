@@ -1,4 +1,4 @@
--- A tenant that was admitted and hasn't left is there.
+-- Of a desk's history: a tenant that was admitted and hasn't left is there.
 use Rattle.desk.proofs.Common.{◌≡◌, ◌≢◌, ℕ, ◌==◌, List, [], ◌∷◌, ◌++◌, Bool, true, false, refl, sym, ap, ◌∙◌, subst, arith, if◌then◌else◌, Option, Some, None, Result, Ok, ◌⊎◌, inl, inr, nat_tests, not, Refusal, StepOf, Leave, DidOf, Left, Functions, Tenant, Outcome, lone, tenant_of, CoreState, tenant_in, with_outcome, IsAnswerTo, IsTaken, tenant_in-with_outcome, tenant_in-other-with_outcome, by-kinds, is_leave, is_seat_step, seat_steps, stays_by, HasNoLeave, IsThere}
 use Rattle.std.specs.Prelude.{◌&&◌}
 use Rattle.desk.proofs.Judged.{next}

@@ -1,4 +1,5 @@
--- Meaning: what contracts see of what lies under the lock, what one call does to the hall there, and for what is waited.
+-- Meaning: what contracts see of what lies under a desk's lock, what one call does to the hall there, and what callers
+-- wait for.
 use Rattle.std.specs.Prelude.{◌≡◌, ℕ, ◌+◌, ◌==◌, Bool, false, not, List, Option, Some, None, Result, Ok, Err}
 use Rattle.frame_table.specs.Frames.{IsReadyAt}
 use Rattle.jamboree_rules.specs.declared.pool_rules.task.Task.{Task}
@@ -22,7 +23,8 @@ pub record LockedHallOf : Type 0 where
   pub badges : ℕ
   pub history : List (ℕ × StepOf LeafAnswer)
 
--- the hall took a Leave of the seat's tenant, and then keeps the seat's share too, and 1 more for the Leave
+-- the hall took the Leave of the seat's tenant, and then keeps as many more steps as the seat's share says, and 1 more
+-- for the Leave
 pub record IsLeft (before : HallOf) (seat : SeatOf) (after : HallOf) : Type 0 where
   pub step : IsDecided before (Leave seat.tenant) (Ok Left) (record after { kept = before.kept })
   pub kept : after.kept ≡ before.kept + seat.share + 1
@@ -40,7 +42,7 @@ share_after share (Err refusal) = share
 abbrev pub is_awaited : CoreState → ℕ → ℕ → Bool
 is_awaited shared tenant job = is_some_live (job_of shared tenant job)
 
--- whether some frame is ready
+-- whether some frame of some tenant is ready
 abbrev pub has_ready : CoreState → Bool
 has_ready shared = not (ready_count shared.tenants == 0)
 

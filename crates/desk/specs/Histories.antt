@@ -22,7 +22,7 @@ use Rattle.hall.specs.jamboree_core.Outcomes.{IsOutcomeIn}
 use Rattle.desk.specs.Seats.{SeatOf, seeing}
 use Rattle.hall.specs.desk_rules.Asked.{seat_asked_at, IsToldBy}
 
--- the steps of a history, in order
+-- the steps of a desk's history, in order, without who made them
 abbrev pub steps_of : List (ℕ × StepOf LeafAnswer) → List (StepOf LeafAnswer)
 steps_of [] = []
 steps_of (entry ∷ entries) = entry.1 ∷ steps_of entries
@@ -31,7 +31,7 @@ steps_of (entry ∷ entries) = entry.1 ∷ steps_of entries
 abbrev pub core_at : HallOf → List (ℕ × StepOf LeafAnswer) → CoreState
 core_at begun history = shared_run (jamboree begun.grain) begun.shared (steps_of history)
 
--- what its own steps in a history make of a tenant that wasn't there before, as if no other tenant were there
+-- what a tenant, which wasn't there before, is after its own steps of a history, run as if no other tenant were there
 abbrev pub lone_tenant : HallOf → List (ℕ × StepOf LeafAnswer) → ℕ → Option Tenant
 lone_tenant begun history number = alone (jamboree begun.grain) (only number (steps_of history))
 
@@ -55,7 +55,7 @@ abbrev pub is_leave : {A : Type 0} → StepOf A → Bool
 is_leave (Leave number) = true
 is_leave _ = false
 
--- the steps of this tenant that its seat made, in order
+-- the steps that a tenant's seat made, in order, among those of all tenants
 abbrev pub seat_steps : {A : Type 0} → ℕ → List (StepOf A) → List (StepOf A)
 seat_steps number steps = filter (λ step. is_seat_step step && (tenant_of step == number)) steps
 
@@ -79,8 +79,8 @@ abbrev pub IsToldOf : {X : Type 0} → HallOf → Known (StepOf LeafAnswer) → 
 IsToldOf begun before step (Ok value) now = Took before step now
 IsToldOf begun before step (Err refusal) now = Saw before now × IsAnswerTo (jamboree begun.grain) (core_at begun now.seen) step (Err refusal)
 
--- a new seat: the history that it has seen ends with its tenant's Admit, no step before that is of this tenant or by this
--- maker, and the Admit is all that its maker made
+-- a new seat: the history that it has seen ends with its tenant's Admit; no step before that is of this tenant or by
+-- this maker; and the Admit is the maker's only step
 pub record IsSeated (reserve : Quota) (seat : SeatOf) : Type 0 where
   pub before : List (ℕ × StepOf LeafAnswer)
   pub seen : seat.known.seen ≡ before ++ (seat.known.maker, Admit seat.tenant reserve) ∷ []
@@ -118,7 +118,7 @@ Owned owner (entry ∷ entries) = (is_seat_step entry.1 ≡ true → entry.0 ≡
 abbrev pub HasOwners : List (ℕ × StepOf LeafAnswer) → Type 0
 HasOwners history = (owner : ℕ → ℕ) × Owned owner history
 
--- these are seat steps of this tenant
+-- each of these steps is a seat step (no worker's) of this tenant
 abbrev pub AllOwn : ℕ → List (StepOf LeafAnswer) → Type 0
 AllOwn number [] = Unit {0}
 AllOwn number (step ∷ steps) = (is_seat_step step ≡ true) × (tenant_of step ≡ number) × AllOwn number steps
@@ -132,24 +132,24 @@ abbrev pub HasNoLeave : {A : Type 0} → List (StepOf A) → Type 0
 HasNoLeave [] = Unit {0}
 HasNoLeave (step ∷ steps) = (is_leave step ≡ false) × HasNoLeave steps
 
--- whether this tenant is there after these steps, each of which was taken, where it was there before them or not: it is
--- after any step of it but its Leave
+-- whether a tenant is there after these steps, each of which was taken: it is after its last step, unless that is its
+-- Leave; without a step of it all is as before (`was`)
 abbrev pub stays_by : {A : Type 0} → Bool → ℕ → List (StepOf A) → Bool
 stays_by was number [] = was
 stays_by was number (step ∷ steps) = stays_by (if tenant_of step == number then not (is_leave step) else was) number steps
 
--- there is such a tenant
+-- the tenant that was looked for in a hall is there
 abbrev pub IsThere : Option Tenant → Type 0
 IsThere None = ⊥
 IsThere (Some tenant) = Unit {0}
 
--- no step is of a tenant above this number
+-- no step of the history is of a tenant above this number
 abbrev pub AreStepsUpTo : ℕ → List (ℕ × StepOf LeafAnswer) → Type 0
 AreStepsUpTo newest [] = Unit {0}
 AreStepsUpTo newest (entry ∷ entries) = (tenant_of entry.1 ≤ newest) × AreStepsUpTo newest entries
 
--- a hall of this grain, whose tenants share this, has come from the hall that the desk was made with by the steps of this
--- history
+-- a hall with this grain, whose tenants share this core, has come by the steps of this history from the hall that the
+-- desk was made with
 pub record IsComeBy (begun : HallOf) (grain : ℕ) (shared : CoreState) (history : List (ℕ × StepOf LeafAnswer)) : Type 0 where
   pub same : grain ≡ begun.grain
   pub core : shared ≡ core_at begun history
@@ -166,8 +166,8 @@ abbrev pub with_taken : {X S : Type 0} → List S → S → Result X Refusal →
 with_taken before step (Ok value) = before ++ step ∷ []
 with_taken before step (Err refusal) = before
 
--- the hall is at the end of a history of the desk that was made with another: it has that one's grain, its core is the one to which the
--- history's steps lead, and each of these was taken
+-- a hall is what the history of a desk has come to, which was made with another hall: it has that one's grain, its
+-- core is the one to which the history's steps lead, and each of them was taken
 pub record IsAtEndOf (begun : HallOf) (history : List (ℕ × StepOf LeafAnswer)) (hall : HallOf) : Type 0 where
   pub grain : hall.grain ≡ begun.grain
   pub core : hall.shared ≡ core_at begun history

@@ -1,4 +1,4 @@
--- Meaning: what contracts see of a seat.
+-- Meaning: what contracts see of a tenant's seat at a desk.
 use Rattle.std.specs.Prelude.{◌≡◌, ◌≢◌, ℕ, ◌+◌, List, [], ◌∷◌, ◌++◌, length, Result, Ok, Err}
 use Rattle.sched_rules.specs.declared.refusal.Refusal.{Refusal}
 use Rattle.sched_rules.specs.declared.refusal.Refusal.TheVariants.{NoTenant, NoJobsLeft, Full, OldTenant, OutOfMemory, Lower}
@@ -20,15 +20,15 @@ pub record SeatCoreOf : Type 0 where
   pub id : TableId
   pub seat : SeatOf
 
--- the seat that now knows this
+-- a seat, once it knows this of the desk's history
 abbrev pub seeing : Known (StepOf LeafAnswer) → SeatOf → SeatOf
 seeing now seat = record { tenant = seat.tenant; share = seat.share; asked = seat.asked; known = now }
 
--- the seat after one more of its steps was taken, which now knows this
+-- a seat after one more of its own steps was taken, once it knows this of the desk's history
 abbrev pub stepped : Known (StepOf LeafAnswer) → SeatOf → SeatOf
 stepped now seat = record { tenant = seat.tenant; share = seat.share + 1; asked = seat.asked; known = now }
 
--- the same after an ask was taken: what was asked stands at the end of its list
+-- the seat after an ask of it was taken: its share is one more, and what was asked stands at the end of its list
 abbrev pub with_asked : SeatAsked → Known (StepOf LeafAnswer) → SeatOf → SeatOf
 with_asked asked now seat = record { tenant = seat.tenant; share = seat.share + 1; asked = seat.asked ++ asked ∷ []; known = now }
 

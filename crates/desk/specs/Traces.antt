@@ -1,4 +1,5 @@
--- Meaning: what is known of a history whose entries say who made them, and the rule that ties what its passes know.
+-- Meaning: what is known of a desk's history, whose entries say who made them, and the rule that ties what its passes
+-- (the history's own and its makers') know.
 use Rattle.std.specs.Prelude.{◌≡◌, ℕ, ◌+◌, ◌<◌, ◌≤◌, ◌==◌, true, false, List, [], ◌∷◌, ◌++◌, if◌then◌else◌}
 use mathlib.Core.List.{IsPrefix}
 use mathlib.Core.Option.{Option, some, none}
@@ -7,7 +8,7 @@ use Rattle.atomic_table.specs.Table.{State, Me, Step as Move}
 use Rattle.atomic_table.specs.Seated.{TableId}
 use Rattle.desk.specs.declared.passes.View.{View}
 
--- a table that there is not
+-- the identity that stands for no table of passes
 abbrev pub no_table : TableId
 no_table = record { words = 0; slots = 0; views_name = 0; atom = 0; block = 0; offset = 0; slot_names = [] }
 
@@ -86,7 +87,7 @@ pub record Known (S : Type 0) : Type 0 where
   pub seen : List (ℕ × S)
   pub mine : List S
 
--- a history: which one it is, and its entries
+-- the history of a desk: its identity, and its entries, each with the number of its maker
 pub record StepLogOf (S : Type 0) : Type 0 where
   pub id : TableId
   pub entries : List (ℕ × S)

@@ -1,4 +1,4 @@
-//! Where seats wait for their jobs.
+//! Where a desk's seats wait for their jobs.
 //!
 //! Whoever is woken takes the lock, which all workers want. So each seat has a bell that it shares with hardly any other, and what ends
 //! its job rings that one alone: were all woken whenever a job ends, most of the processors would be taken by looks in vain.
@@ -19,19 +19,19 @@ pub(crate) struct Bells {
 }
 
 impl Bells {
-    /// Nobody waits.
+    /// The bells of a new desk: nobody waits, and none was rung.
     pub(crate) fn new() -> Bells {
         Bells {
             all: from_fn(|_place| Condvar::new()),
         }
     }
 
-    /// The bell of a tenant's seat.
+    /// The bell at which the seat of this tenant waits.
     fn of(&self, tenant: u64) -> &Condvar {
         &self.all[(tenant % BELLS) as usize]
     }
 
-    /// How often a seat's bell was rung.
+    /// How often the bell of this tenant's seat was rung.
     pub(crate) fn rung(&self, tenant: u64) -> u64 {
         self.of(tenant).notifications()
     }
@@ -42,7 +42,7 @@ impl Bells {
             .sleep(rt, rung, Duration::from_secs(SLEEP_SECS));
     }
 
-    /// Rings a seat's bell.
+    /// Rings the bell of this tenant's seat: all seats that wait at that bell wake.
     pub(crate) fn ring(&self, tenant: u64) {
         self.of(tenant).notify_all();
     }
@@ -59,7 +59,7 @@ impl Bells {
         }
     }
 
-    /// Rings all bells.
+    /// Rings all bells: every seat that waits wakes.
     pub(crate) fn ring_all(&self) {
         self.ring_places(u64::MAX);
     }

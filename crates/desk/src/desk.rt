@@ -1,4 +1,4 @@
-//! The desk.
+//! The desk: a hall under a lock, with a seat for each tenant and a badge for each worker.
 ghost use Rattle.std.specs.Prelude.{◌≡◌, ◌≢◌, ℕ, ◌+◌, ◌≤◌, List, [], true, length, Err, Some, None, Contains, IfErr, IfOk, IfSome, OnSome, MatchResult};
 ghost use Rattle.sched_rules.specs.declared.refusal.Refusal.TheVariants.{NoJob, NoTenant, OutOfMemory};
 ghost use Rattle.hall.specs.Journals.{is_worker_step};
@@ -36,6 +36,7 @@ pub struct Desk<L: DeskLedger, A: Allocator = Global> {
 
 // By hand: were it derived, each crate that holds a desk would have to prove again that all its parts are dropped.
 impl<L: DeskLedger, A: Allocator> Drop for Desk<L, A> {
+    /// Drops the lock with the hall in it.
     fn drop(self) {
         let Desk { lock: _lock } = self;
     }
@@ -113,7 +114,8 @@ impl<L: DeskLedger, A: Allocator + Clone> Desk<L, A> {
         self.lock.enter(rt).value.get(seat, job)
     }
 
-    /// As [`Desk::get`], and the seat has then seen the history so far: the answer is what its end tells of the job.
+    /// How a job stands now, as [`Desk::get`] tells it; and the seat has then seen the history so far: the answer is
+    /// what its end tells of the job.
     pub fn get_seen<R: Wait>(
         &self,
         rt: &R,
@@ -138,7 +140,8 @@ impl<L: DeskLedger, A: Allocator + Clone> Desk<L, A> {
         kept.value.get(seat, job)
     }
 
-    /// As [`Desk::wait`], and the seat has then seen the history so far: the answer is what its end tells of the job.
+    /// Waits for a job of the seat, as [`Desk::wait`] does, and returns how it stands then. The seat has then seen the
+    /// history so far, and the answer is what the end of that history tells of the job.
     pub fn wait_seen<R: Wait>(
         &self,
         rt: &R,
@@ -176,7 +179,8 @@ impl<L: DeskLedger, A: Allocator + Clone> Desk<L, A> {
         self.lock.enter(rt).value.quota(seat.tenant())
     }
 
-    /// As [`Desk::quota`], and the seat has then seen the history so far: the numbers are the tenant's at its end.
+    /// The segments, nodes and steps that the seat's tenant has left, as [`Desk::quota`] tells them. The seat has then
+    /// seen the history so far, and the numbers are the tenant's at its end.
     pub fn quota_seen<R: Wait>(&self, rt: &R, seat: &mut Seat<L>) -> Result<Left, Refusal>
         ensures look { IsLook L.begun seat.old seat.new }
         ensures left { result ≡ found_or_no_tenant (left_in_core (core_at L.begun seat.new.known.seen) seat.new.tenant) }
@@ -192,7 +196,8 @@ impl<L: DeskLedger, A: Allocator + Clone> Desk<L, A> {
         self.lock.enter(rt).value.live(seat.tenant())
     }
 
-    /// As [`Desk::live`], and the seat has then seen the history so far: the numbers are the tenant's at its end.
+    /// How many frames the seat's tenant has, and how many words, as [`Desk::live`] tells them. The seat has then seen
+    /// the history so far, and the numbers are the tenant's at its end.
     pub fn live_seen<R: Wait>(&self, rt: &R, seat: &mut Seat<L>) -> Result<(usize, usize), Refusal>
         ensures look { IsLook L.begun seat.old seat.new }
         ensures live { result ≡ found_or_no_tenant (live_of (core_at L.begun seat.new.known.seen) seat.new.tenant) }
@@ -208,8 +213,9 @@ impl<L: DeskLedger, A: Allocator + Clone> Desk<L, A> {
         let _trace = self.leave_seen(rt, seat);
     }
 
-    /// As [`Desk::leave`], and gives back what the seat then knows of the history, which ends with its tenant's Leave, the
-    /// last step of its own: each step of it was taken, and those of the tenant that workers didn't make are just its own.
+    /// The seat's tenant leaves, as by [`Desk::leave`]. Gives back what the seat then knows of the history, which ends
+    /// with the tenant's Leave, the last step of the seat's own. Each step of the history was taken, and those of the
+    /// tenant that workers didn't make are just the seat's own.
     pub fn leave_seen<R: Wait>(&self, rt: &R, seat: Seat<L>) -> Trace<Step<Jamboree>, L>
         requires { L.all ≡ L.parts }
         ensures told { Took seat.known (Leave seat.tenant) result }
@@ -283,11 +289,12 @@ impl<L: DeskLedger, A: Allocator + Clone> Desk<L, A> {
         self.lock.enter(rt).value.count()
     }
 
-    /// Takes the hall out of the desk. Where this badge has all parts of the ledger that are out, since every seat has
-    /// left and every other badge was joined to this one, the share that has all parts comes with it. Then the hall's
-    /// count of steps is its number `kept` (the steps before the desk and those of the seats that have left) plus the
-    /// badge's share. Else `None` comes with it: a share with all parts can't be made up. There is a history, by whose steps,
-    /// each of which was taken, the hall has come from the one that the desk was made with ([`Desk::into_hall_seen`] gives it).
+    /// Takes the hall out of the desk at its end. Where every seat has left and every other badge was joined to this
+    /// one, this badge has all parts of the ledger that are out. Then the share that has all parts comes too, and the
+    /// hall's count of steps is its number `kept` (the steps before the desk and those of the seats that have left)
+    /// plus the badge's share. Else `None` comes in its place: a share with all parts can't be made up. The hall has
+    /// come from the one that the desk was made with by the steps of some history, each of which was taken
+    /// ([`Desk::into_hall_seen`] gives that history).
     pub fn into_hall(self, badge: Badge<L>) -> (Hall<A>, Option<Share<L>>)
         requires { L.all ≡ L.parts }
         ensures come { (history : List (ℕ × StepOf LeafAnswer)) × IsAtEndOf L.begun history result.0 }
@@ -299,9 +306,10 @@ impl<L: DeskLedger, A: Allocator + Clone> Desk<L, A> {
         (hall, whole)
     }
 
-    /// As [`Desk::into_hall`], and gives the desk's history too, by which the hall has come from the one that the desk was made with.
-    /// It can be shown to each trace that a seat left with ([`History::show`]): it goes on from what that one had seen, and all its
-    /// steps in it are those that it knew.
+    /// Takes the hall out of the desk at its end, as [`Desk::into_hall`] does, and gives the desk's history too, by
+    /// which the hall has come from the one that the desk was made with. The history can be shown to each trace that a
+    /// seat left with ([`History::show`]): it goes on from what the seat had seen, and all steps of the seat in it are
+    /// those that it knew.
     pub fn into_hall_seen(
         self,
         badge: Badge<L>,

@@ -1,4 +1,4 @@
-//! The desk, held by a worker for several steps.
+//! The desk, held by a pool's worker for several steps.
 //!
 //! A step under the lock takes less time than what it touches takes to come from another processor. So a worker
 //! keeps the lock over the steps that follow each other, and those who wait are woken once it lets go.
@@ -92,7 +92,7 @@ impl<'d, T: UnderLock> DeskGuard<'d, T> {
         self.kept.value.pick()
     }
 
-    /// This tenant was served so much more.
+    /// Notes that this tenant was served so much more of the workers' work.
     pub fn charge(&mut self, tenant: u64, amount: u64) {
         self.kept.value.charge(tenant, amount);
     }

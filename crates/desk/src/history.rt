@@ -1,4 +1,5 @@
-//! A history of steps that threads share, which exists in proofs alone, and what one maker of steps knows of it.
+//! The history of a desk: its taken steps, which threads share; it exists in proofs alone. And what one maker (whoever
+//! took a step: a seat or a badge) knows of it.
 //!
 //! Behind a lock the contract of a call can't say what the call did to what lies there, as other threads change it too.
 //! A [`StepLog`] lies under the lock beside what the steps change: contracts see it as the list of all steps so far, each
@@ -119,7 +120,8 @@ impl<S> StepLog<S> {
 }
 
 impl<S> Token<S> {
-    /// Tells the prover that all steps of this maker in what it has seen are those that it knows as its own.
+    /// Tells the prover that a maker's own steps in the history that it has seen are just those that it knows as its
+    /// own.
     pub fn recall(&self)
         ensures { own self.now.known.maker self.now.known.seen ≡ self.now.known.mine }
     {

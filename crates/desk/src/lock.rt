@@ -1,4 +1,4 @@
-//! The lock of a desk, and where others wait.
+//! The lock of a desk, and where its seats and workers wait.
 //!
 //! Nobody sleeps on the lock: a thread that does is handed it, and until that thread is awake nobody else can take it. Who finds it taken
 //! tries again after a while ([`DeskLock::enter`]). Who waits for a job or for a frame reads under the lock how often its bell was rung, lets
@@ -89,7 +89,7 @@ pub struct DeskLock<T> {
 }
 
 impl<T: UnderLock> DeskLock<T> {
-    /// Puts this under a lock.
+    /// A desk's lock with this under it.
     pub fn new(value: T) -> DeskLock<T> {
         DeskLock {
             lock: Mutex::new(Kept {
@@ -202,7 +202,7 @@ impl<T: UnderLock> DeskLock<T> {
         self.bells.ring_places(places);
     }
 
-    /// Wakes all who wait for a job.
+    /// Wakes all seats that wait for a job.
     pub fn ring_all(&self) {
         self.bells.ring_all();
     }

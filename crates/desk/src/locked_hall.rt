@@ -1,4 +1,4 @@
-//! What lies under the lock: the hall with the history of its steps, and the book of the shares.
+//! What lies under a desk's lock: the hall with the history of its steps, and the book of the shares.
 ghost use Rattle.std.specs.Prelude.{◌≡◌, ◌≢◌, ◌+◌, ◌^◌, ◌<◌, ◌≤◌, [], true, length, Err, None, Contains, IfErr, IfNone, IfOk, IfSome, OnSome, Option, MatchResult};
 ghost use Rattle.sched_rules.specs.declared.refusal.Refusal.TheVariants.{NoJob, OutOfMemory};
 ghost use Rattle.sched_rules.specs.declared.step.StepOf.TheVariants.{Admit, AdmitMore, Submit, Cancel, Leave};
@@ -218,7 +218,7 @@ impl<L: DeskLedger, A: Allocator + Clone> LockedHall<L, A> {
         self.noted.compare(&mut one.token, &mut other.token);
     }
 
-    /// As `get`, and the seat has then seen the history so far.
+    /// How a seat's job stands now, as `get` tells it; and the seat has then seen the history so far.
     pub(crate) fn get_seen(&mut self, seat: &mut Seat<L>, job: u64) -> Result<Outcome, Refusal>
         ensures look { IsLook L.begun seat.old seat.new }
         ensures shown { IsShown (seat_asked_at seat.new.asked job) result }
@@ -228,7 +228,7 @@ impl<L: DeskLedger, A: Allocator + Clone> LockedHall<L, A> {
         self.get(seat, job)
     }
 
-    /// As `quota` of the seat's tenant, and the seat has then seen the history so far.
+    /// What the seat's tenant has left; and the seat has then seen the history so far.
     pub(crate) fn quota_seen(&mut self, seat: &mut Seat<L>) -> Result<Left, Refusal>
         ensures look { IsLook L.begun seat.old seat.new }
         ensures left { result ≡ found_or_no_tenant (left_in_core (core_at L.begun seat.new.known.seen) seat.new.tenant) }
@@ -237,7 +237,7 @@ impl<L: DeskLedger, A: Allocator + Clone> LockedHall<L, A> {
         self.quota(seat.tenant())
     }
 
-    /// As `live` of the seat's tenant, and the seat has then seen the history so far.
+    /// How many frames and words the seat's tenant has; and the seat has then seen the history so far.
     pub(crate) fn live_seen(&mut self, seat: &mut Seat<L>) -> Result<(usize, usize), Refusal>
         ensures look { IsLook L.begun seat.old seat.new }
         ensures live { result ≡ found_or_no_tenant (live_of (core_at L.begun seat.new.known.seen) seat.new.tenant) }
@@ -332,9 +332,10 @@ impl<L: DeskLedger, A: Allocator + Clone> LockedHall<L, A> {
         self.noted.keep(kept + steps);
     }
 
-    /// Takes the hall and its history out, and gives the share that has all parts of the ledger where this badge has those that the
-    /// spare share hasn't. The hall has come by the history from the one that the desk was made with. With that share its count of
-    /// steps is its number `kept` plus the badge's share, and that of the first hall plus the amount of the whole share.
+    /// Takes the hall and its history out at the desk's end. Where this badge and the spare share have all parts of the
+    /// ledger together, the share that has all parts comes too. Then the hall's count of steps is its number `kept`
+    /// plus the badge's share, and that of the first hall plus the amount of the whole share. The hall has come by the
+    /// history from the one that the desk was made with.
     pub(crate) fn closed(
         self,
         badge: Badge<L>,
@@ -390,26 +391,32 @@ impl<L: DeskLedger, A: Allocator + Clone> UnderLock for LockedHall<L, A> {
     // Nobody shares a desk's hall, so nothing that was picked would be fair, and nobody is charged.
     ghost is_fair = { λ _ _. ⊥ };
 
+    /// Offers a worker's step to the hall, and counts it in the badge's share where it is taken.
     fn offer(&mut self, badge: &mut Badge<L>, step: &Step<Jamboree>) -> StepAnswer {
         self.offer(badge, step)
     }
 
+    /// Whether some tenant has a ready frame.
     fn has_ready(&self) -> bool {
         has_ready(self.noted.hall())
     }
 
+    /// Whether there is a job of this number of the tenant that hasn't ended, so that a seat waits on for it.
     fn waits_on(&self, tenant: u64, job: u64) -> bool {
         is_awaited(self.noted.hall(), tenant, job)
     }
 
+    /// A ready frame of some tenant with its home, as a task; None where none is ready. The frame isn't taken.
     fn next_task(&mut self) -> Option<Task> {
         next_ready(self.noted.hall())
     }
 
+    /// None: nobody shares the hall of this desk, so it has no picks.
     fn pick(&mut self) -> Option<Task> {
         None
     }
 
+    /// Does nothing: this desk keeps no account of what its tenants were served.
     fn charge(&mut self, _tenant: u64, _amount: u64) {}
 }
 

@@ -1,4 +1,5 @@
-//! A hall with the history of its steps: what the calls of seats and workers do to both, at whatever desk.
+//! A hall with the history of its steps: what the calls of seats and workers do to both, at a server's desk or a
+//! site's.
 //!
 //! A clause that speaks of the history is told for each hall from which this one has come by it (`Since` of `specs/Noted.antt`). So a
 //! desk, whose invariant is that its hall has come from the one that it was made with, knows it of that.
@@ -69,7 +70,7 @@ impl<A: Allocator + Clone> NotedHall<A> {
         }
     }
 
-    /// The hall, for reading.
+    /// The hall without its history, for reading.
     pub fn hall(&self) -> &Hall<A>
         ensures { result.now ≡ self.now.hall }
     {
@@ -83,7 +84,7 @@ impl<A: Allocator + Clone> NotedHall<A> {
         self.hall.keep(kept);
     }
 
-    /// The hall and its history.
+    /// Takes the hall and its history apart.
     pub fn into_parts(self) -> (Hall<A>, StepLog<Step<Jamboree>>)
         ensures hall { result.0 ≡ self.hall }
         ensures log { result.1 ≡ record { id = self.id; entries = self.history } }
@@ -128,7 +129,8 @@ impl<A: Allocator + Clone> NotedHall<A> {
         answer
     }
 
-    /// Offers a step for a seat.
+    /// Offers the hall a step of a seat's tenant; where it is taken, it is the history's new end and counts in the
+    /// seat's share.
     fn take_for(&mut self, seat: &mut SeatCore, step: &Step<Jamboree>) -> StepAnswer
         requires search { IsSearch step.now }
         requires same { seat.old.id ≡ self.old.id }

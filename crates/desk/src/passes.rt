@@ -1,4 +1,5 @@
-//! The passes of the table, and what its steps do to them.
+//! The passes by which threads share a desk's history, kept in a table that exists in proofs alone, and what a step
+//! does to them.
 ghost use Rattle.std.specs.Prelude.{◌≡◌, ◌<◌, [], true, false, ℕ};
 ghost use Rattle.desk.specs.Traces.{own, keeper, sitter, holding, bare, given, noted, begun, IsTrue};
 
@@ -97,7 +98,7 @@ impl<S> Split<View<S>> for Held {
 /// The steps of the table.
 pub(crate) type Cells<S> = Shared<S, View<S>, (), Law>;
 
-/// The history's pass takes in what a maker's knows.
+/// The history's pass takes in what the pass of a maker (a seat or a badge) knows.
 pub(crate) fn hold<S>(cells: &Cells<S>, keeps: &mut Pass<S, View<S>>, pass: &mut Pass<S, View<S>>)
     requires table { (keeps.old.table_id ≡ cells.now.table_id) × (pass.old.table_id ≡ keeps.old.table_id) × (0 < cells.now.table_id.words) }
     requires keeps { keeps.old.me ≡ (keeper keeps.old.me.0.all keeps.old.me.0.made, []) }
@@ -131,7 +132,7 @@ pub(crate) fn look<S>(cells: &Cells<S>, keeps: &mut Pass<S, View<S>>)
     cells.load::<Noting>(keeps, 0);
 }
 
-/// The history's pass then holds that of a new maker.
+/// There is one maker (a seat or a badge) more, whose pass the history's pass takes in.
 pub(crate) fn begin<S>(cells: &Cells<S>, keeps: &mut Pass<S, View<S>>)
     requires table { (keeps.old.table_id ≡ cells.now.table_id) × (0 < cells.now.table_id.words) }
     requires keeps { (keeps.old.me.0.keeps ≡ true) × (keeps.old.me.0.sits ≡ false) }
@@ -142,7 +143,7 @@ pub(crate) fn begin<S>(cells: &Cells<S>, keeps: &mut Pass<S, View<S>>)
     cells.load::<Beginning>(keeps, 0);
 }
 
-/// A maker's pass, made of what the history's holds: it has seen all.
+/// Gives a maker its pass out of the history's pass: the maker then knows all steps so far.
 pub(crate) fn give<S>(cells: &Cells<S>, keeps: &mut Pass<S, View<S>>) -> Pass<S, View<S>>
     requires table { (keeps.old.table_id ≡ cells.now.table_id) × (0 < cells.now.table_id.words) }
     requires keeps { (keeps.old.me.0.keeps ≡ true) × (keeps.old.me.0.sits ≡ true) }

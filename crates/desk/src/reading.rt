@@ -1,4 +1,4 @@
-//! What is read of a hall under a lock.
+//! What is read of a hall under a desk's lock.
 ghost use Rattle.std.specs.Prelude.{◌≡◌, Option};
 ghost use Rattle.sched_rules.specs.Views.{job_of, left_in_core, live_of as live_in_core};
 ghost use Rattle.hall.specs.jamboree_core.declared.outcomes.Outcome.{Outcome as OutcomeOf};
@@ -12,7 +12,7 @@ use jamboree_rules::pool_rules::Task;
 use std::alloc::Allocator;
 use tenant_quota::Left;
 
-/// Whether some frame is ready.
+/// Whether the hall has a ready frame of some tenant.
 pub fn has_ready<A: Allocator + Clone>(hall: &Hall<A>) -> bool
     ensures { result ≡ has_ready hall.now.shared }
 {

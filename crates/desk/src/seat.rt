@@ -1,4 +1,4 @@
-//! A tenant's seat.
+//! A tenant's seat at a desk: its right to ask, and what it asked for.
 ghost use Rattle.std.specs.Prelude.{◌≡◌, ◌≤◌, length};
 
 use crate::history::Token;
@@ -35,14 +35,14 @@ impl Model for SeatCore {
 }
 
 impl SeatCore {
-    /// Its tenant's number.
+    /// The number of the seat's tenant.
     pub fn tenant(&self) -> u64
         ensures { result ≡ self.now.seat.tenant }
     {
         self.tenant
     }
 
-    /// What it asked, from job 1 on; at most 256.
+    /// What the seat has asked for, its job 1 first; at most 256 jobs.
     pub fn asked(&self) -> &[SeatAsked]
         ensures asked { result.now ≡ self.now.seat.asked }
         ensures few { length result.now ≤ 256 }
@@ -76,14 +76,14 @@ impl<L: DeskLedger> Model for Seat<L> {
 }
 
 impl<L: DeskLedger> Seat<L> {
-    /// Its tenant's number.
+    /// The number of the seat's tenant.
     pub fn tenant(&self) -> u64
         ensures { result ≡ self.now.tenant }
     {
         self.core.tenant()
     }
 
-    /// What it asked, from job 1 on; at most 256.
+    /// What the seat has asked for, its job 1 first; at most 256 jobs.
     pub fn asked(&self) -> &[SeatAsked]
         ensures asked { result.now ≡ self.now.asked }
         ensures few { length result.now ≤ 256 }
@@ -91,7 +91,7 @@ impl<L: DeskLedger> Seat<L> {
         self.core.asked()
     }
 
-    /// Its share: how many of its own steps were taken, its admission included.
+    /// The seat's share: how many of its own steps were taken, its admission included.
     pub fn share(&self) -> u128
         ensures { result ≡ self.now.share }
     {

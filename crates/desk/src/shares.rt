@@ -1,4 +1,4 @@
-//! A worker's badge, and the ledger of which its share is a part.
+//! A worker's badge at a desk, and the ledger (the count of all taken steps) of which the badge holds a share.
 ghost use Rattle.std.specs.Prelude.{◌≡◌, ℕ, ◌+◌, ◌*◌, ◌<◌, ◌≤◌};
 ghost use Rattle.desk.specs.Parts.{ledger_parts};
 
@@ -66,33 +66,37 @@ impl<L: DeskLedger> WorkerBadge for Badge<L> {
 
     ghost may_join = { L.all ≡ L.parts };
 
+    /// How many steps were taken with this badge, and with the badges that were joined to it.
     fn share(&self) -> u128 {
         self.steps
     }
 
+    /// How long the badge's worker waits between two tries to take the desk's lock.
     fn backoff(&self) -> Backoff {
         self.backoff
     }
 
+    /// Sets how long the badge's worker waits between two tries to take the desk's lock.
     fn wait_by(&mut self, backoff: Backoff) {
         self.backoff = backoff;
     }
 
+    /// One badge in place of two workers' badges, with the sum of their shares.
     fn joined(self, other: Badge<L>) -> Badge<L> {
         self.join(other)
     }
 }
 
 impl<L: DeskLedger> Badge<L> {
-    /// Its share: how many steps were taken with it, and with the badges that were joined to it.
+    /// The badge's share: how many steps were taken with it, and with the badges that were joined to it.
     pub fn share(&self) -> u128
         ensures { result ≡ self.now }
     {
         self.steps
     }
 
-    /// One badge in place of two, with the sums of their shares and of their parts, and the waits of the first. It goes
-    /// on as the maker that the first is.
+    /// One badge in place of two: its share is the sum of theirs, and it has all their parts of the ledger. It waits
+    /// for the lock as the first one does, and its steps are noted under the first one's number.
     pub fn join(self, other: Badge<L>) -> Badge<L>
         requires { L.all ≡ L.parts }
         ensures { result ≡ self + other }

@@ -43,7 +43,7 @@ pub trait UnderLock {
         ensures share { Self.Badge.share badge.new ≡ share_after (Self.Badge.share badge.old) result }
         ensures memory { result ≢ Err OutOfMemory };
 
-    /// Whether some frame is ready.
+    /// Whether some tenant has a ready frame.
     fn has_ready(&self) -> bool
         ensures { result ≡ has_ready self.now };
 
@@ -55,11 +55,11 @@ pub trait UnderLock {
     fn next_task(&mut self) -> Option<Task>
         ensures { is_next self.old result self.new };
 
-    /// The task that comes next, by who was served least; `None` where nobody who shares has a ready frame, or nobody shares. The frame
-    /// isn't taken.
+    /// The task that comes next, by who was served least or has waited longest; `None` where nobody who shares has a ready frame, or nobody
+    /// shares. The frame isn't taken.
     fn pick(&mut self) -> Option<Task>
         ensures { IfSome result (is_fair self.new) };
 
-    /// This tenant was served so much more.
+    /// Notes that this tenant was served so much more of the workers' work.
     fn charge(&mut self, tenant: u64, amount: u64);
 }

@@ -1,4 +1,4 @@
--- Each call is answered by what its tenant has come to.
+-- A session's calls at a desk: each is answered by what the session's tenant has come to.
 use Rattle.desk_office.proofs.Common.{◌≡◌, ℕ, ◌+◌, ◌-◌, ◌==◌, List, [], ◌∷◌, length, map, Bool, true, false, refl, sym, ap, ◌∙◌, subst, if◌then◌else◌, Option, Some, None, Result, Ok, Err, inl, inr, arith, ◌⊎◌, option_map, option_and_then, slice_index, Quota, Cell, Side, Refusal, Full, NoJobsLeft, OutOfMemory, refusal_number, AdmitMore, Submit, DidOf, Functions, Tenant, left, job_at, cancelled, lone, lone_refusal, refusal_in, unless, submit_tests, submitted, tenant_of, answer_of, CoreState, tenant_in, is_beyond, reservations_in, reserved_by, step_result, shared_refusal, unless_beyond, IsAnswerTo, IsAnswerToAdmit, AreReplies, HoldsReply, bounds_of, own_word, opp_word, frame_of, root_words, frame_size, jamboree, Leaf, LeafAnswer, HallOf, Reply, Outcome as OutcomeOf, Done, IsOutcomeIn, IsOutcomeOf, IsReplyOf, SeatAsked, found_or_no_tenant, seat_asked_at, IsShown, IsShownOf, IsToldBy, Shows, core_at, is_admit, lone_tenant, Reserve, Ask, Cancel, OfficeReply, Reserved, Job, Told, Ended, Rest, Alive, Refused, reply_of, analysis_of, standing_of, told_answer, History, analysis_by, if_there, job_reply, live_in, reply_to, standing_in, unless_refused, IsReplyAt, IsJobTold, IsRefusedAtOnce}
 use Rattle.sched_rules.specs.declared.job.Job.{Job as JobOf}
 use Rattle.sched_rules.specs.declared.job.Job.TheVariants.{Done as DoneJob}

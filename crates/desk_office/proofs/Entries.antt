@@ -1,4 +1,4 @@
--- The entries of a table, read one after another.
+-- The entries of a reply's table, read one after another for a session's TABLE line.
 use Rattle.desk_office.proofs.Common.{◌≡◌, ℕ, zero, suc, ◌+◌, List, [], ◌∷◌, ◌++◌, take, get_or, Some, None, slice_get, arith, refl, sym, ap, ◌∙◌, take-suc, slice_get_within, slice_get-get_or}
 
 one-more : (n : ℕ) → n + 1 ≡ suc n

@@ -1,4 +1,5 @@
--- A tenant at a moment of a history: what its own steps have made of it, and that its jobs are what its seat asked for.
+-- A session's tenant at a moment of a desk's history: what its own steps have made of it, and that its jobs are what
+-- its seat asked for.
 use Rattle.desk_office.proofs.Common.{◌≡◌, ◌≢◌, ℕ, ◌≤◌, ◌==◌, ◌&&◌, List, [], ◌∷◌, ◌++◌, length, Bool, true, false, refl, sym, ap, ◌∙◌, subst, arith, if◌then◌else◌, Option, Some, None, Result, Ok, Err, nat_tests, Quota, Refusal, StepOf, Admit, AdmitMore, Admitted, Functions, Tenant, admitted_with, first_step, lone, refusal_in, unless, tenant_of, only, state_after, alone_from, CoreState, tenant_in, with_outcome, meets_busy, is_beyond, reservations_in, reserved_by, unless_busy, unless_beyond, admit_tests, step_result, shared_refusal, shared_after, shared_with, shared_run, tenant_in-with_outcome, tenant_in-other-with_outcome, submits, origins_of, AreTakenFrom, IsJournalOf, StaysTaken, AreReplies, AreSearches, IsSearch, journal-searches, tenant-replies, Leaf, LeafAnswer, jamboree, HallOf, own, core_at, is_admit, is_leave, is_seat_step, seat_steps, steps_of, lone_tenant, AllOwn, AreTaken, IsThere, lone-keeps, History}
 use Rattle.sched_rules.specs.Lone.{Outcome}
 

@@ -1,4 +1,4 @@
--- A session has one tenant at most.
+-- A session at a desk has one tenant at most.
 use Rattle.desk_office.proofs.Common.{◌≡◌, ℕ, List, [], ◌∷◌, ◌++◌, Bool, true, false, Option, Some, None, Result, refl, sym, ap, subst, ◌∙◌, inl, inr, codes, arith, ◌⊎◌, option_map, bytes_eq, Leads, LineText, Whole, TooLong, upto, Quota, StepOf, tenant_in, Known, LeafAnswer, HallOf, SeatOf, IsSeated, End, SessionFault, KeepsAsks, IsOfficeReplyTo, Call, Hello, Leave, OfficeReply, Welcome, Gone, Refused, Form, HelloOf, ReserveOf, AskOf, GetOf, WaitOf, CancelOf, TableOf, QuotaForm, LiveForm, ByeForm, form_of, form_by, form_after, is_bye, Request, Fault, Makes, Tabulates, Ends, request, form_request, seated_request, quota_request, ask_request, job_request, Called, IsAnsweredOf, session_lines, turns, calls_in, next_reply, later_replies, seated_after, next_turns, asks_of, AllStay, IsOneTenancy, IsTenantOf, NobodyCame, is_stay, is_welcome, OfficeOf, IsHello, IsTurnAt, IsTurnOf}
 use Rattle.std.specs.Prelude.{◌==◌, if◌then◌else◌}
 use Rattle.desk_office.proofs.Tenancies.{tenancy}

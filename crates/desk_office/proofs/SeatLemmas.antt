@@ -1,4 +1,4 @@
--- What a seat shows of its jobs, as a session has it.
+-- What a desk's seat shows of its jobs, as a session has it.
 use Rattle.desk_office.proofs.Common.{◌≡◌, ℕ, ◌-◌, ◌<◌, List, [], ◌∷◌, map, Option, Some, None, refl, sym, subst, ap, ap₂, ◌∙◌, Result, Ok, Err, arith, ◌⊎◌, Contains, IfErr, MatchResult, get_or-map, length-map, cells, cells_of, minimax, best_choice, Reply, IsTable, board_of, depth_of, table_of, Outcome, Done, Refusal, NoJob, refusal_number, Quota, Call, Get, Wait, Cancel, Reserve, Reserved, Ended, Told as ToldOf, reply_of, Asked, asked_at, asks_after, IsAnalysisOf, IsOfficeReplyTo, IsJobReply, KeepsAsks, SaysTrue, ShowsFound, Standing, SeatAsked, SeatOf, reserve_refusals, seeing, stepped, cancel_refusals, IsShown, seat_asked_at, ask_of, analysis_of, standing_of, told_answer}
 use Rattle.std.specs.Option.{option_map}
 

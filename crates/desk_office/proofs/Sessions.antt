@@ -1,4 +1,4 @@
--- A session over an office at a desk, seen by what contracts see of the office.
+-- A session over an office at a desk, told in the terms that the office's contracts use.
 use Rattle.desk_office.proofs.Common.{◌≡◌, List, [], ◌∷◌, Option, None, Result, refl, sym, ap, subst, concat, Leads, bytes_due, ReadAnswer, WriteAnswer, StepOf, Known, LeafAnswer, HallOf, End, SessionFault, Call, OfficeReply, KeepsAsks, Called, Session, calls_for, talk_result, each-done, all-true, asks_of, IsTenantOf, SeenSession, OfficeOf, vacant, IsTurnAt}
 use Rattle.desk_office.proofs.OneTenant.{answered-ends, one-tenant}
 

@@ -1,4 +1,4 @@
--- From a tenant's seat to its Leave: each call is answered at a moment of the history.
+-- A session's tenant from its seat to its Leave: each call is answered at a moment of the desk's history.
 use Rattle.desk_office.proofs.Common.{◌≡◌, ℕ, ◌+◌, ◌==◌, List, [], ◌∷◌, ◌++◌, length, map, Bool, true, false, Option, Some, None, Result, Err, refl, sym, ap, subst, ◌∙◌, inl, inr, arith, if◌then◌else◌, append_assoc, append-nil, ◌⊎◌, nat_tests, map-append, IsPrefix, Board, Cell, Side, Quota, Leads, Refusal, refusal_number, Admit, AdmitMore, Submit, Functions, only, CoreState, tenant_in, shared_run, shared_after, shared_refusal, step_result, IsAnswerTo, submits, origins_of, AreSearches, IsSearch, own, Known, Leaf, LeafAnswer, root_words, frame_size, jamboree, HallOf, SeatOf, seeing, core_at, seat_steps, steps_of, lone_tenant, AllOwn, AreTaken, IsSeated, IsTrueTo, Saw, Took, Call, Hello, Reserve, Ask, Get, Wait, Cancel, AskQuota, AskLive, Leave, OfficeReply, Told, Gone, Refused, reply_of, Called, told_answer, History, is_stay, is_taken, reply_to, step_for, Adds, AllStay, AreAnswered, IsBoardIn, IsReplyAt, OfficeOf, asked_after, taken_reply, with_seat, IsLookBy, IsStepRefused, IsRefusedAtOnce, IsLookReply, IsStepBy, IsStepTaken, IsTurnAt, IsTurnOf, prefix-self, prefix-trans}
 use Rattle.sched_rules.specs.declared.step.StepOf.TheVariants.{Cancel as CancelStep, Leave as LeaveStep}
 use Rattle.desk_office.proofs.Histories.{adds-none, all-mine, all-own, moment, own-more, seat-more, steps-more, AllGo, Goes, IsAtMoment, Step}

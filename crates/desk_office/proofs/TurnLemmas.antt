@@ -1,4 +1,4 @@
--- What a call of the office is, by what the desk's call has done.
+-- What a call of a session's office is, by what the desk's call has done.
 use Rattle.desk_office.proofs.Common.{◌≡◌, ◌≢◌, ℕ, ◌+◌, ◌≤◌, [], ◌∷◌, map, length, Bool, true, false, Option, Some, None, Result, Ok, Err, refl, sym, ap, subst, ◌∙◌, inl, inr, arith, Contains, IfErr, MatchResult, nat_tests, length-append, length-map, map-append, Board, cells, Side, Quota, Refusal, NoJob, NoJobsLeft, refusal_number, AdmitMore, Submit, root_words, frame_size, HallOf, Outcome, SeatAsked, ask_refusals, cancel_refusals, seat_asked_at, IsShown, SeatOf, reserve_refusals, seeing, stepped, IsAsked, lone_tenant, IsLook, IsShownAt, IsToldOf, Standing, KeepsAsks, Call, Reserve, Ask, Get, Wait, Cancel, OfficeReply, Reserved, Job, Told, Ended, Refused, reply_of, ask_of, told_answer, OfficeOf, with_seat, IsJobTold, IsStepBy, IsTurnAt, IsTurnOf, greatest_depth}
 use Rattle.std.specs.Prelude.{◌==◌}
 use Rattle.sched_rules.specs.declared.step.StepOf.TheVariants.{Cancel as CancelStep}

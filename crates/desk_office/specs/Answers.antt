@@ -61,12 +61,12 @@ abbrev pub job_reply : ℕ → Option JobOf → OfficeReply
 job_reply number None = Refused (refusal_number NoJob)
 job_reply number (Some job) = Told number (standing_in job)
 
--- this is said, unless there is a refusal
+-- this reply, or else the refusal, if there is one
 abbrev pub unless_refused : Option Refusal → OfficeReply → OfficeReply
 unless_refused None said = said
 unless_refused (Some refusal) said = Refused (refusal_number refusal)
 
--- this is said of a tenant that is there; else the refusal is NoTenant
+-- the reply that is said of a tenant (`said`), if it is there; else the refusal NoTenant
 abbrev pub if_there : Option Tenant → (Tenant → OfficeReply) → OfficeReply
 if_there None said = Refused (refusal_number NoTenant)
 if_there (Some its) said = said its
@@ -104,7 +104,7 @@ IsReplyAt begun number history call reply =
 
 -- ---- the answers to all calls
 
--- these are the words of the board that a call asks for, to at most 12 plies, if it is an Ask
+-- if the call is an Ask, these are the words of the board that it asks for, to at most 12 plies
 abbrev pub IsBoardIn : Board → Call → Type 0
 IsBoardIn words (Ask depth board side) = (board ≡ cells words) × (depth ≤ greatest_depth)
 IsBoardIn words _ = Unit {0}
@@ -156,7 +156,7 @@ abbrev pub is_welcome : OfficeReply → Bool
 is_welcome (Welcome quota) = true
 is_welcome _ = false
 
--- no tenant came by these calls
+-- by these calls of a session no tenant came: each HELLO was refused
 abbrev pub NobodyCame : List (Call × OfficeReply) → Type 0
 NobodyCame [] = Unit {0}
 NobodyCame (made ∷ more) = (is_welcome made.1 ≡ false) × NobodyCame more

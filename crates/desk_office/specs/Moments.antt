@@ -1,5 +1,5 @@
--- Representation: what each call of an office does to what its seat knows of the desk's history, and what the reply is by the
--- history that the seat has then seen.
+-- Representation: what each call of a session's office does to what its seat knows of the desk's history, and what the
+-- reply is by the history that the seat has then seen.
 use Rattle.std.specs.Prelude.{◌≡◌, ◌⊎◌, ℕ, ◌+◌, List, [], ◌∷◌, ◌++◌, length, Option, Some, None, option_map, option_and_then, Result, Err}
 use Rattle.othello_board.specs.declared.boards.Board.{Board}
 use Rattle.sched_rules.specs.declared.refusal.Refusal.{Refusal}
@@ -34,11 +34,12 @@ pub record OfficeOf : Type 0 where
 abbrev pub vacant : OfficeOf
 vacant = record { seat = None; knew = None }
 
--- the office with this seat
+-- the session's office with this seat at the desk
 abbrev pub with_seat : SeatOf → OfficeOf → OfficeOf
 with_seat seat office = record { seat = Some seat; knew = office.knew }
 
--- the reply to a call whose step was taken, where its tenant had asked for so many jobs
+-- the reply to a call whose step was taken, where its tenant had asked for so many jobs before: ASK is told the next
+-- job's number, and each other call that it was done
 abbrev pub taken_reply : ℕ → Call → OfficeReply
 taken_reply jobs (Hello quota) = Welcome quota
 taken_reply jobs (Reserve quota) = Reserved quota
@@ -46,12 +47,13 @@ taken_reply jobs (Ask depth board side) = Job (jobs + 1)
 taken_reply jobs (Cancel job) = Ended job
 taken_reply jobs _ = Gone
 
--- what a tenant has asked for after such a call
+-- what a tenant has asked for after a call whose step was taken
 abbrev pub asked_after : List SeatAsked → Board → Call → List SeatAsked
 asked_after asked words (Ask depth board side) = asked ++ record { board = words; depth = depth } ∷ []
 asked_after asked words _ = asked
 
--- the two refusals without a step: the tenant has asked for 256 jobs, or for no job of this number
+-- a call of a session's office is refused without a step at the desk: ASK as the tenant has asked for 256 jobs, or
+-- CANCEL as it asked for no job of this number
 abbrev pub IsRefusedAtOnce : List SeatAsked → Call → OfficeReply → Type 0
 IsRefusedAtOnce asked (Ask depth board side) reply = (length asked ≡ 256) × (reply ≡ Refused 13)
 IsRefusedAtOnce asked (Cancel job) reply = (seat_asked_at asked job ≡ None) × (reply ≡ Refused 17)
@@ -101,7 +103,7 @@ pub record IsLookBy (begun : HallOf) (before : SeatOf) (call : Call) (reply : Of
   pub look : IsLook begun before now
   pub said : IsLookReply now.asked (lone_tenant begun now.known.seen now.tenant) call reply
 
--- HELLO: there is a new tenant with its seat, or a refusal
+-- what a HELLO at an office comes to: there is a new tenant with its seat at the desk, or it is refused
 abbrev pub IsHello : HallOf → Call → OfficeReply → OfficeOf → OfficeOf → Type 0
 IsHello begun (Hello quota) reply from to =
     ((seat : SeatOf) × (to ≡ with_seat seat from) × IsSeated quota seat × (tenant_in begun.shared.tenants seat.tenant ≡ None) × (seat.asked ≡ []) × (reply ≡ Welcome quota))
@@ -114,7 +116,8 @@ abbrev pub IsTenantGone : HallOf → SeatOf → OfficeReply → OfficeOf → Typ
 IsTenantGone begun before reply to = (now : Known (StepOf LeafAnswer))
     × (to ≡ record { seat = None; knew = Some now }) × Took before.known (LeaveStep before.tenant) now × IsTrueTo begun before.tenant now × (reply ≡ Gone)
 
--- one call of an office with this seat, at a desk that was made with this hall
+-- what one call of a session's office comes to, by its seat (None: no tenant is there), at a desk that was made with
+-- this hall: a HELLO, a step, a look or the tenant's Leave
 abbrev pub IsTurnOf : HallOf → Option SeatOf → Call → OfficeReply → OfficeOf → OfficeOf → Type 0
 IsTurnOf begun None call reply from to = IsHello begun call reply from to
 IsTurnOf begun (Some before) (Hello quota) reply from to = (to ≡ from) × (reply ≡ Refused (refusal_number OldTenant))
@@ -124,6 +127,7 @@ IsTurnOf begun (Some before) (Cancel job) reply from to = (now : SeatOf) × (to 
 IsTurnOf begun (Some before) Leave reply from to = IsTenantGone begun before reply to
 IsTurnOf begun (Some before) call reply from to = (now : SeatOf) × (to ≡ with_seat now from) × IsLookBy begun before call reply now
 
--- one call of an office at a desk that was made with this hall: the asks of its tenant are kept, and the history has it
+-- what one call of a session's office comes to, at a desk that was made with this hall: the office keeps what its
+-- tenant asked for, and the desk's history shows the call's step
 abbrev pub IsTurnAt : HallOf → OfficeOf → Call → OfficeReply → OfficeOf → Type 0
 IsTurnAt begun from call reply to = IsTurnOf begun from.seat call reply from to × KeepsAsks (asks_of from.seat) call reply (asks_of to.seat)

@@ -1,4 +1,4 @@
--- Representation: what a session sees of a seat: its asks, and how its jobs stand.
+-- Representation: what a session sees of its seat at a desk: its asks, and how its jobs stand.
 use Rattle.std.specs.Prelude.{List, [], map, Option, Some, None, Result, Ok, Err}
 use Rattle.othello_board.specs.Words.{cells}
 use Rattle.othello_eval.specs.Minimax.{minimax, best_choice}

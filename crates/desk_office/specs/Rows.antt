@@ -12,11 +12,11 @@ use Rattle.desk.specs.Histories.{lone_tenant}
 abbrev pub opening_of : ℕ → StepOf LeafAnswer
 opening_of number = Submit number (root_words 34628173824 68853694464 0) frame_size
 
--- maker 0 admits tenant 1, and maker 5 admits tenant 2, which asks
+-- a history of an example: maker 0 admits tenant 1, then maker 5 admits tenant 2, which asks for its first job
 abbrev pub after_hello : List (ℕ × StepOf LeafAnswer)
 after_hello = (0, Admit 1 (record { segments = 4; nodes = 8 })) ∷ (5, Admit 2 (record { segments = 2; nodes = 1 })) ∷ (5, opening_of 2) ∷ []
 
--- then tenant 1 asks
+-- the history of the example once tenant 1 has asked for the opening
 abbrev pub after_ask : List (ℕ × StepOf LeafAnswer)
 after_ask = after_hello ++ (0, opening_of 1) ∷ []
 

@@ -1,4 +1,4 @@
-//! The office of one tenant.
+//! The office of one session's tenant at a desk: what the session asks of.
 ghost use Rattle.std.specs.Prelude.{◌==◌};
 ghost use Rattle.desk_office.specs.Moments.{IsTurnAt};
 
@@ -23,7 +23,7 @@ pub struct DeskOffice<'a, L: DeskLedger, R: Wait, A: Allocator = Global> {
 impl<'a, L: DeskLedger, R: Wait, A: Allocator> DeskOffice<'a, L, R, A> {
     ghost use Rattle.std.specs.Prelude.{◌≡◌, None};
 
-    /// An office without a tenant.
+    /// An office at this desk whose session has no tenant yet.
     pub fn new(rt: &'a R, desk: &'a Desk<L, A>) -> DeskOffice<'a, L, R, A>
         ensures { (result.seat ≡ None) × (result.knew ≡ None) }
     {

@@ -1,4 +1,4 @@
-//! How a job stands, as a session tells it.
+//! How a job at a desk stands, as a session tells it.
 ghost use Rattle.std.specs.Prelude.{◌≡◌};
 ghost use Rattle.desk.specs.jamboree.Replies.{table_of};
 ghost use Rattle.desk_office.specs.Offices.{standing_of, told_answer};

@@ -1,4 +1,5 @@
-//! Worked examples of what a tenant is told by its own part of a history, computed from the definitions alone.
+//! Worked examples of what a session's tenant is told by its own part of a desk's history, computed from the
+//! definitions alone. `reply_to 2 1` is the reply at grain 2 to tenant 1; refusal 1 is NoTenant, and 17 NoJob.
 ghost use Rattle.std.specs.Prelude.{◌≡◌, Some, None};
 ghost use Rattle.session.specs.declared.standings.Standing.TheVariants.{Pending};
 ghost use Rattle.session.specs.Calls.{Get, Cancel, AskQuota, AskLive, Told, Ended, Rest, Alive, Refused};
@@ -14,7 +15,8 @@ pub fn of_a_new_tenant()
     ensures nobody { reply_to 2 3 (tenant_told after_hello 3) AskQuota ≡ Refused 1 }
 {}
 
-/// Then tenant 1 asks to depth 0: it has a node and a segment less, a frame of 12 words, and a job that can be cancelled.
+/// After tenant 1 asked for the opening to depth 0: it has a node and a segment less, a frame of 12 words, and a job that
+/// can be cancelled.
 pub fn of_a_tenant_that_asked()
     ensures quota { reply_to 2 1 (tenant_told after_ask 1) AskQuota ≡ Rest (record { segments = 3; nodes = 7; steps = 128 }) }
     ensures live { reply_to 2 1 (tenant_told after_ask 1) AskLive ≡ Alive (record { frames = 1; words = 12 }) }

@@ -1,4 +1,4 @@
-//! Sessions at a desk.
+//! Sessions at a desk, served from their first line to their last.
 ghost use Rattle.std.specs.Prelude.{◌≡◌, Option};
 ghost use Rattle.sched_rules.specs.declared.step.StepOf.{StepOf};
 ghost use Rattle.session.specs.DoneLines.{TrueSession};
@@ -32,11 +32,11 @@ pub fn serve_desk<S: Source, K: Sink, L: DeskLedger, R: Wait, A: Allocator + Clo
     result
 }
 
-/// As `serve_desk`, and gives back what the tenant's seat knew of the desk's history when it left; `None` where no tenant
-/// came. Each answer to the tenant is a function of its request and of what the tenant's own part of that history had made of
-/// it at a moment (`reply_to`); only a raise of the reservation may also be refused for want of room or memory. The moments
-/// come one after another, and the tenant's steps that workers didn't make are just those that its lines asked for and that
-/// were taken, each at its moment.
+/// Serves one session at a desk, as `serve_desk` does, and gives back what its tenant's seat knew of the desk's
+/// history when it left; `None` where no tenant came. Each answer to the tenant is a function of its request and
+/// of what the tenant's own part of that history had made of it at a moment (`reply_to`); only a raise of the
+/// reservation may also be refused for want of room or memory. The moments come one after another, and the tenant's
+/// steps that workers didn't make are just those that its lines asked for and that were taken, each at its moment.
 pub fn serve_desk_seen<S: Source, K: Sink, L: DeskLedger, R: Wait, A: Allocator + Clone>(
     rt: &R,
     source: &mut S,

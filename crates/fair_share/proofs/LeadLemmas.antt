@@ -1,4 +1,4 @@
--- Who has a lead is picked after the others have caught up.
+-- Of those who share a pool of workers: who has a lead is picked after the others have caught up.
 use Rattle.fair_share.proofs.Common.{◌≡◌, ◌≢◌, ℕ, zero, suc, ◌+◌, ◌-◌, ◌*◌, ◌<◌, ◌≤◌, Bool, true, false, List, [], ◌∷◌, length, set, sym, ◌∙◌, refl, ap, subst, arith, cond, count_by, sum_by, nat_lt, nat_eq, eqb-false, eqb-true, get_or-set_same, sum_by-cons, ShareAccount, free_account, is_active, is_rival, is_before, capped_sum, account_charged, woken_from, rested, LineOf, IsNextAccount, account_at, floor_of, charged, LineEvent, Comes, Wakes, Rests, Serves, Picks, Longs, line_after, place_in, IsFair, Waits, picks_in, arrivals_in, is_member, IsLed}
 use Rattle.fair_share.proofs.WaitLemmas.{one, line_woken, not-before, sum-set, sum-one, other-at, any-at, floor-least, picks-cons}
 

@@ -1,4 +1,4 @@
--- Who has waited longest is picked before anybody who is served or comes later.
+-- Of those who share a pool of workers: who has waited longest is picked before anybody who is served or comes later.
 use Rattle.fair_share.proofs.Common.{◌≡◌, ◌≢◌, ℕ, ◌+◌, ◌*◌, ◌<◌, ◌≤◌, Bool, true, false, List, set, [], ◌∷◌, length, refl, ap, subst, ◌∙◌, arith, count_by, sum_by, sum_by-cons, ShareAccount, is_active, rested, capped_sum, account_charged, woken_from, LineOf, account_at, charged, floor_of, LineEvent, Comes, Wakes, Rests, Serves, Picks, Longs, line_after, place_in, IsFair, Waits, long_picks_in, tasks_in, IsEachLong, IsWaiting, is_older}
 use Rattle.fair_share.proofs.WaitLemmas.{one, line_woken, capped-turn, other-at, sum-set, sum-one}
 

@@ -1,4 +1,4 @@
--- The names of a line's accounts, by which somebody is found there.
+-- The names of the accounts of those who share a pool, by which somebody is found there.
 use Rattle.fair_share.proofs.Common.{◌≡◌, ℕ, ◌+◌, ◌==◌, refl, List, [], ◌∷◌, Some, if◌then◌else◌, ap, sym, ◌∙◌, slice_index_or, slice_set, map-set, map-set_same, get_or-map, ShareAccount, free_account, account_at, account_names, named_from, place_named, place_among_from, place_among}
 
 -- who stands first among the names stands first among the accounts

@@ -1,4 +1,4 @@
--- What was seen of one place more.
+-- The next pick among those who share a hall: what was seen of one tenant more.
 use Rattle.fair_share.proofs.Common.{◌≡◌, ◌==◌, ℕ, ◌+◌, suc, Bool, true, false, ◌||◌, if◌then◌else◌, refl, add-one, ap, ◌∙◌, is_some, CoreState, newest_ready_in, is_active, has_rival, woken, rested_at, SharesOf, tenant_in_place, network_at, customer_at, rested_unless, tenant_seen, seen_up_to}
 
 pub seen_none : (core : CoreState) (shares : SharesOf) → seen_up_to core 0 shares ≡ shares

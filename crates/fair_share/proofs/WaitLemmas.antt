@@ -1,4 +1,4 @@
--- Who waits comes next after those ahead of it.
+-- Of those who share a pool of workers: who waits comes next after those ahead of it.
 use Rattle.fair_share.proofs.Common.{◌≡◌, ◌≢◌, ℕ, zero, suc, ◌+◌, ◌*◌, ◌<◌, ◌≤◌, Bool, true, false, List, [], ◌∷◌, set, sym, ◌∙◌, refl, ap, subst, arith, Option, Some, None, cond, unwrap_or, sum_by, get_or-set_other, sum_by-cons, ShareAccount, free_account, is_active, is_rival, is_before, capped_sum, account_charged, woken_from, rested, LineOf, account_at, charged, lesser, least_from, floor_of, LineEvent, Comes, Wakes, Rests, Serves, Picks, Longs, line_after, place_in, IsFair, Waits, picks_in, tasks_in, IsEach, is_ahead, IsLeast}
 
 abbrev pub one : Bool → ℕ

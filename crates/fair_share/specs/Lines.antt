@@ -1,4 +1,4 @@
--- Meaning: a line of accounts, and who comes next in a group.
+-- Meaning: a line of accounts of those who share a pool, and who comes next in a group of them.
 use Rattle.std.specs.Prelude.{ℕ, ◌+◌, ◌≡◌, ◌==◌, ◌<◌, ◌≤◌, nat_lt, Bool, true, false, ◌&&◌, ◌||◌, List, [], ◌∷◌, Option, Some, None, unwrap_or, if◌then◌else◌, map, replicate, slice_index_or, slice_set}
 use Rattle.fair_share.specs.declared.account.ShareAccount.{ShareAccount}
 use Rattle.fair_share.specs.Accounts.{free_account, is_active, is_rival, is_before, capped_sum, account_charged, woken_from, rested}
@@ -8,11 +8,11 @@ pub record LineOf : Type 0 where
   pub accounts : List ShareAccount
   pub turn : ℕ
 
--- 64 free places
+-- a line of 64 free places, at turn 1
 abbrev pub empty_line : LineOf
 empty_line = record { accounts = replicate 64 free_account; turn = 1 }
 
--- the account at a place
+-- the account at a place of a line; that of a free place beyond the line
 abbrev pub account_at : List ShareAccount → ℕ → ShareAccount
 account_at accounts place = slice_index_or accounts place free_account
 
@@ -21,45 +21,48 @@ abbrev pub has_rival : ℕ → List ShareAccount → Bool
 has_rival group [] = false
 has_rival group (account ∷ accounts) = is_rival group account || has_rival group accounts
 
--- at this place is who comes next in the group: it is active there, and nobody active there comes before it
+-- the account at this place comes next in the group: it is active there, and no active account of the group comes
+-- before it
 pub record IsNextAccount (group : ℕ) (accounts : List ShareAccount) (place : ℕ) : Type 0 where
   pub is_one : is_rival group (account_at accounts place) ≡ true
   pub none_before : (other : ℕ) → is_rival group (account_at accounts other) ≡ true → is_before (account_at accounts other) (account_at accounts place) ≡ false
 
--- the best of those before a place: nobody is active there, or it is who comes next among them
+-- the best of the accounts before a place: none of them is active in the group, or this one comes next among them
 abbrev pub IsBestBelow : ℕ → List ShareAccount → ℕ → Option (ℕ × ShareAccount) → Type 0
 IsBestBelow group accounts limit None = (other : ℕ) → other < limit → is_rival group (account_at accounts other) ≡ false
 IsBestBelow group accounts limit (Some best) =
     (best.1 ≡ account_at accounts best.0) × (is_rival group best.1 ≡ true)
     × ((other : ℕ) → other < limit → is_rival group (account_at accounts other) ≡ true → is_before (account_at accounts other) best.1 ≡ false)
 
--- at this place is who has waited longest: it is active, and nobody active, of whatever group, has waited since an earlier turn
+-- the account at this place has waited longest: it is active, and no active account, of whatever group, has waited
+-- since an earlier turn
 pub record IsLongest (accounts : List ShareAccount) (place : ℕ) : Type 0 where
   pub is_one : is_active (account_at accounts place) ≡ true
   pub none_longer : (other : ℕ) → is_active (account_at accounts other) ≡ true → (account_at accounts place).since ≤ (account_at accounts other).since
 
--- of those before a place: nobody is active, or it is who has waited longest among them
+-- of the accounts before a place: none is active, or this one has waited longest among them
 abbrev pub IsLongestBelow : ℕ → List ShareAccount → Option (ℕ × ShareAccount) → Type 0
 IsLongestBelow limit accounts None = (other : ℕ) → other < limit → is_active (account_at accounts other) ≡ false
 IsLongestBelow limit accounts (Some best) =
     (best.1 ≡ account_at accounts best.0) × (is_active best.1 ≡ true)
     × ((other : ℕ) → other < limit → is_active (account_at accounts other) ≡ true → best.1.since ≤ (account_at accounts other).since)
 
--- the lesser of a count and another, if there is one
+-- the lesser of a count and another count; the first where there is no other
 abbrev pub lesser : ℕ → Option ℕ → ℕ
 lesser count None = count
 lesser count (Some other) = if nat_lt count other then count else other
 
--- the least of this, if it is there, and of what was served to those active in the group
+-- the least of this count, if there is one, and of what the active accounts of the group were served
 abbrev pub least_from : Option ℕ → ℕ → List ShareAccount → Option ℕ
 least_from least group [] = least
 least_from least group (account ∷ accounts) = least_from (if is_rival group account then Some (lesser account.served least) else least) group accounts
 
--- the least that was served to one active in the group; None where none is
+-- the least that an active account of the group was served; None where none is active
 abbrev pub least_served : ℕ → List ShareAccount → Option ℕ
 least_served group accounts = least_from None group accounts
 
--- from where one that becomes active in the group starts at least: where the least served one active there is
+-- what an account counts as served at least when it becomes active in the group: as much as the least served one active
+-- there, or 0 where none is
 abbrev pub floor_of : ℕ → List ShareAccount → ℕ
 floor_of group accounts = unwrap_or (least_served group accounts) 0
 
@@ -92,7 +95,7 @@ place_from first group name [] = None
 place_from first group name (account ∷ accounts) =
     if (account.name == name) && (account.group == group) then Some first else place_from (first + 1) group name accounts
 
--- the first place whose account has this name in this group
+-- the first place of a line whose account has this name and is in this group
 abbrev pub account_place : ℕ → ℕ → List ShareAccount → Option ℕ
 account_place group name accounts = place_from 0 group name accounts
 
@@ -106,7 +109,7 @@ abbrev pub named_from : ℕ → ℕ → List ShareAccount → Option ℕ
 named_from first name [] = None
 named_from first name (account ∷ accounts) = if account.name == name then Some first else named_from (first + 1) name accounts
 
--- the first place whose account has this name
+-- the first place of a line whose account has this name
 abbrev pub place_named : ℕ → List ShareAccount → Option ℕ
 place_named name accounts = named_from 0 name accounts
 
@@ -123,12 +126,13 @@ place_among_from first name (other ∷ names) = if other == name then Some first
 abbrev pub place_among : ℕ → List ℕ → Option ℕ
 place_among name names = place_among_from 0 name names
 
--- the first of two, if it is there
+-- the first of two places, if it is there; else the second
 abbrev pub first_place : Option ℕ → Option ℕ → Option ℕ
 first_place None second = second
 first_place (Some first) second = Some first
 
--- the place at which somebody of this name in this group is, or else begins: the first free one; None where none is free
+-- the place in a line of the account with this name and group, or else the place where it would begin: the first free
+-- one; None where none is free
 abbrev pub joined_place : ℕ → ℕ → LineOf → Option ℕ
 joined_place group name line = first_place (account_place group name line.accounts) (account_place 0 0 line.accounts)
 
@@ -137,10 +141,13 @@ abbrev pub put_where : Option ℕ → ShareAccount → LineOf → LineOf
 put_where None account line = line
 put_where (Some place) account line = put_at place account line
 
--- the line after somebody came: whoever isn't there yet begins at the first free place, with so much served
+-- the line after an account came: nothing changes where it has this place in the line already; else it begins at the
+-- first free place, if there is one
 abbrev pub joined_by : Option ℕ → ShareAccount → LineOf → LineOf
 joined_by (Some place) account line = line
 joined_by None account line = put_where (account_place 0 0 line.accounts) account line
 
+-- the line after the account of this name came to this group: it begins with so much served before; nothing changes
+-- where it is there already, or where no place is free
 abbrev pub joined : ℕ → ℕ → ℕ → LineOf → LineOf
 joined group name served line = joined_by (account_place group name line.accounts) (record { name = name; group = group; served = served; since = 0 }) line

@@ -1,4 +1,4 @@
--- Meaning: what happens to a line, one after another, while somebody waits in it.
+-- Meaning: what happens to a line of those who share a pool, one event after another, while somebody waits in it.
 use Rattle.std.specs.Prelude.{ℕ, ◌+◌, ◌≡◌, ◌≢◌, ◌==◌, ◌<◌, ◌≤◌, nat_lt, Bool, true, false, ◌&&◌, not, List, [], ◌∷◌, if◌then◌else◌}
 use Rattle.fair_share.specs.declared.account.ShareAccount.{ShareAccount}
 use Rattle.fair_share.specs.Accounts.{is_active, is_rival, is_before, rested}
@@ -15,7 +15,7 @@ pub data LineEvent : Type 0 where
   Picks : ℕ → ℕ → LineEvent
   Longs : ℕ → ℕ → LineEvent
 
--- the line after it
+-- the line after this event
 abbrev pub line_after : LineOf → LineEvent → LineOf
 line_after line (Comes place account) = put_at place (rested account) line
 line_after line (Wakes place) = woken place line
@@ -24,7 +24,7 @@ line_after line (Serves place amount) = charged place amount line
 line_after line (Picks place amount) = charged place amount line
 line_after line (Longs place amount) = charged place amount line
 
--- the place that it happens to
+-- the place of the line that this event happens to
 abbrev pub place_in : LineEvent → ℕ
 place_in (Comes place account) = place
 place_in (Wakes place) = place
@@ -33,7 +33,8 @@ place_in (Serves place amount) = place
 place_in (Picks place amount) = place
 place_in (Longs place amount) = place
 
--- only somebody becomes active; a pick is of who comes next in the group, and costs something, or is of who has waited longest in any
+-- an event of a line is fair: what becomes active is an account at a place that isn't free; a pick is of the account
+-- that comes next in the group, and costs something, or of the one that has waited longest in any group
 abbrev pub IsFair : ℕ → LineOf → LineEvent → Type 0
 IsFair group line (Comes place account) = Unit {0}
 IsFair group line (Wakes place) = (account_at line.accounts place).name ≢ 0
@@ -42,8 +43,8 @@ IsFair group line (Serves place amount) = Unit {0}
 IsFair group line (Picks place amount) = IsNextAccount group line.accounts place × (0 < amount)
 IsFair group line (Longs place amount) = IsLongest line.accounts place
 
--- all this happens while whoever is at the place waits: none of it happens to that one, so it stays active if it is and gets no task, by a
--- pick or otherwise; and each pick is fair
+-- these events happen one after another while the account at a place waits: none happens to it, so it gets no task and
+-- stays active if it is; and each event is fair
 abbrev pub Waits : ℕ → ℕ → LineOf → List LineEvent → Type 0
 Waits group place line [] = Unit {0}
 Waits group place line (event ∷ events) = (place_in event ≢ place) × IsFair group line event × Waits group place (line_after line event) events
@@ -78,7 +79,8 @@ tasks_in (Serves place amount ∷ events) = tasks_in events + 1
 tasks_in (Picks place amount ∷ events) = tasks_in events + 1
 tasks_in (Longs place amount ∷ events) = tasks_in events + 1
 
--- of so many tasks in a row one at least is a pick of who was served least, where there were some tasks since the last one already
+-- at least one of any so many tasks in a row is a pick of who was served least; `since` tasks have come since the last
+-- such pick already
 abbrev pub IsEach : ℕ → ℕ → List LineEvent → Type 0
 IsEach many since [] = Unit {0}
 IsEach many since (Comes place account ∷ events) = IsEach many since events
@@ -88,7 +90,8 @@ IsEach many since (Serves place amount ∷ events) = (since + 1 < many) × IsEac
 IsEach many since (Picks place amount ∷ events) = IsEach many 0 events
 IsEach many since (Longs place amount ∷ events) = (since + 1 < many) × IsEach many (since + 1) events
 
--- of so many tasks in a row one at least is a pick of who has waited longest, where there were some tasks since the last one already
+-- at least one of any so many tasks in a row is a pick of who has waited longest; `since` tasks have come since the
+-- last such pick already
 abbrev pub IsEachLong : ℕ → ℕ → List LineEvent → Type 0
 IsEachLong many since [] = Unit {0}
 IsEachLong many since (Comes place account ∷ events) = IsEachLong many since events
@@ -98,12 +101,12 @@ IsEachLong many since (Serves place amount ∷ events) = (since + 1 < many) × I
 IsEachLong many since (Picks place amount ∷ events) = (since + 1 < many) × IsEachLong many (since + 1) events
 IsEachLong many since (Longs place amount ∷ events) = IsEachLong many 0 events
 
--- whether the second is active in the group, and the first doesn't come before it
+-- whether the second account is active in the group, and the first doesn't come before it
 abbrev pub is_ahead : ℕ → ShareAccount → ShareAccount → Bool
 is_ahead group first second = is_rival group second && not (is_before first second)
 
--- whoever is at the place is active in the group, was served no more than anybody active there, became active before this turn, and may be
--- served more
+-- the account at the place is active in the group, was served no more than any account active there, became active
+-- before this turn, and may be served more
 pub record IsLeast (group place : ℕ) (line : LineOf) (account : ShareAccount) : Type 0 where
   pub here : account_at line.accounts place ≡ account
   pub active : is_rival group account ≡ true
@@ -112,11 +115,11 @@ pub record IsLeast (group place : ℕ) (line : LineOf) (account : ShareAccount) 
   pub turns : line.turn ≤ 18446744073709551615
   pub served : account.served < 18446744073709551615
 
--- whether somebody is at this account's place, of the group
+-- whether an account is that of somebody (its place isn't free), in the group
 abbrev pub is_member : ℕ → ShareAccount → Bool
 is_member group account = (if account.name == 0 then false else true) && (account.group == group)
 
--- how many come to the group
+-- how many accounts come to this group by these events
 abbrev pub arrivals_in : ℕ → List LineEvent → ℕ
 arrivals_in group [] = 0
 arrivals_in group (Comes place account ∷ events) = (if is_member group account then 1 else 0) + arrivals_in group events
@@ -126,7 +129,8 @@ arrivals_in group (Serves place amount ∷ events) = arrivals_in group events
 arrivals_in group (Picks place amount ∷ events) = arrivals_in group events
 arrivals_in group (Longs place amount ∷ events) = arrivals_in group events
 
--- whoever is at the place is active in the group, and was served at most so much more than anybody active there; who is active is somebody
+-- the account at the place is active in the group, and was served at most so much more than any account active there;
+-- no active account is a free place's
 pub record IsLed (group place lead : ℕ) (line : LineOf) (account : ShareAccount) : Type 0 where
   pub here : account_at line.accounts place ≡ account
   pub active : is_rival group account ≡ true
@@ -134,11 +138,11 @@ pub record IsLed (group place lead : ℕ) (line : LineOf) (account : ShareAccoun
   pub named : (other : ℕ) → is_active (account_at line.accounts other) ≡ true → (account_at line.accounts other).name ≢ 0
   pub served : account.served < 18446744073709551615
 
--- whether the second is active, and hasn't waited since a later turn than the first
+-- whether the second account is active, and waits since the same turn as the first or an earlier one
 abbrev pub is_older : ShareAccount → ShareAccount → Bool
 is_older first second = is_active second && not (nat_lt first.since second.since)
 
--- whoever is at the place is active, and waits since a turn before this one
+-- the account at the place is active, and waits since a turn before this one
 pub record IsWaiting (place : ℕ) (line : LineOf) (account : ShareAccount) : Type 0 where
   pub here : account_at line.accounts place ≡ account
   pub active : is_active account ≡ true

@@ -1,3 +1,4 @@
+//! The account of one who shares a pool of workers: how much it was served, and since when it waits.
 ghost use Rattle.std.specs.Prelude.{◌≡◌, ◌+◌};
 ghost use Rattle.fair_share.specs.Accounts.{free_account, is_active, is_rival, is_before, capped_sum, account_charged, woken_from, rested};
 
@@ -15,7 +16,7 @@ pub struct ShareAccount {
 }
 
 impl ShareAccount {
-    /// A free place's.
+    /// The account that stands at a free place.
     pub(crate) fn nobody() -> ShareAccount
         ensures { result ≡ free_account }
     {
@@ -27,28 +28,29 @@ impl ShareAccount {
         }
     }
 
-    /// Whether it is active.
+    /// Whether the user whose account this is has a ready frame, or a user below it has one.
     pub(crate) fn is_active(self) -> bool
         ensures { result ≡ is_active self }
     {
         0 < self.since
     }
 
-    /// Whether it is active in this group.
+    /// Whether this account is active (see `is_active`), and shares the workers in this group.
     pub(crate) fn is_rival(self, group: usize) -> bool
         ensures { result ≡ is_rival group self }
     {
         self.is_active() && self.group == group
     }
 
-    /// Whether it comes before the other: it was served less, or as much and it has waited for longer.
+    /// Whether this account comes before the other: it was served less, or as much and it has waited for longer.
     pub(crate) fn is_before(self, other: ShareAccount) -> bool
         ensures { result ≡ is_before self other }
     {
         self.served < other.served || (self.served == other.served && self.since < other.since)
     }
 
-    /// After it was served so much more at this turn: if it is active, it waits from then on.
+    /// The account once its user was served so much more at this turn: if the user is active, it waits from this turn
+    /// on.
     pub(crate) fn with_more(self, amount: u64, turn: u64) -> ShareAccount
         ensures { result ≡ account_charged amount turn self }
     {
@@ -59,7 +61,8 @@ impl ShareAccount {
         }
     }
 
-    /// Active, and waiting, since this turn; served as much as it was, or as this floor where that is more.
+    /// The account once its user has become active at this turn, from which on it waits. It counts as served as much as
+    /// before, or as much as this floor where that is more.
     pub(crate) fn woken_from(self, floor: u64, turn: u64) -> ShareAccount
         ensures { result ≡ woken_from floor turn self }
     {
@@ -74,7 +77,7 @@ impl ShareAccount {
         }
     }
 
-    /// No more active.
+    /// The account once its user isn't active any more.
     pub(crate) fn rested(self) -> ShareAccount
         ensures { result ≡ rested self }
     {

@@ -1,4 +1,4 @@
-//! A line of accounts: who shares something in some group, and who comes next there.
+//! A line of accounts: who shares a pool in some group, how much each was served, and who comes next there.
 ghost use Rattle.std.specs.Prelude.{◌≡◌, ℕ, ◌+◌, ◌<◌, List, IfOk, IfNone, IfSome, false};
 ghost use Rattle.fair_share.specs.declared.account.ShareAccount.{ShareAccount};
 ghost use Rattle.fair_share.specs.Accounts.{is_active, is_rival};
@@ -50,7 +50,7 @@ impl ShareLine {
         })
     }
 
-    /// The account at a place.
+    /// The account at a place of the line.
     pub(crate) fn at(&self, place: usize) -> ShareAccount
         ensures { result ≡ account_at self.now.accounts place }
     {
@@ -96,7 +96,7 @@ impl ShareLine {
         has_rival(&self.accounts, group)
     }
 
-    /// Whether somebody is in a group.
+    /// Whether some account of the line is in this group.
     pub(crate) fn has_member(&self, group: usize) -> bool
         ensures { result ≡ has_member group self.now.accounts }
     {
@@ -118,8 +118,8 @@ impl ShareLine {
         place_among(&self.names, name)
     }
 
-    /// The place of who has this name in this group: the one that it has, else a free one, at which it begins with so much served;
-    /// None where no place is free.
+    /// The place of the account with this name and group: the one that it has; else a free one, at which it begins with
+    /// so much served; None where no place is free.
     pub(crate) fn join(&mut self, group: usize, name: u64, served: u64) -> Option<usize>
         ensures place { result ≡ joined_place group name self.old }
         ensures line { self.new ≡ joined group name served self.old }
@@ -138,7 +138,7 @@ impl ShareLine {
         Some(place)
     }
 
-    /// The account at a place becomes active, if it isn't.
+    /// Makes the account at a place active, if it isn't: its user waits from now on.
     pub(crate) fn wake(&mut self, place: usize)
         ensures { self.new ≡ woken place self.old }
     {
@@ -151,14 +151,14 @@ impl ShareLine {
         self.turn = capped_sum(self.turn, 1);
     }
 
-    /// The account at a place isn't active any more.
+    /// Makes the account at a place inactive: its user has nothing more to be served with.
     pub(crate) fn rest(&mut self, place: usize)
         ensures { self.new ≡ rested_at place self.old }
     {
         self.put(place, self.at(place).rested());
     }
 
-    /// The account at a place was served so much more.
+    /// Notes that the account at a place was served so much more.
     pub(crate) fn charge(&mut self, place: usize, amount: u64)
         ensures { self.new ≡ charged place amount self.old }
     {
@@ -166,7 +166,7 @@ impl ShareLine {
         self.turn = capped_sum(self.turn, 1);
     }
 
-    /// Another account comes to a place.
+    /// Puts another account at a place of the line.
     pub(crate) fn put(&mut self, place: usize, account: ShareAccount)
         ensures { self.new ≡ put_at place account self.old }
     {
@@ -194,7 +194,8 @@ fn next_in(accounts: &[ShareAccount], group: usize) -> Option<usize>
     }
 }
 
-/// The better of the best so far and the account at a place.
+/// Of the best account found so far and the account at a place the one to be served first: an active account of this
+/// group that was served less, or as much and waits for longer.
 fn better(
     best: Option<(usize, ShareAccount)>,
     group: usize,
@@ -233,7 +234,7 @@ fn longest_in(accounts: &[ShareAccount]) -> Option<usize>
     }
 }
 
-/// Who has waited for longer: the one that has so far, or the account at a place.
+/// Of the account found so far and the account at a place the active one that has waited for longer.
 fn longer(
     best: Option<(usize, ShareAccount)>,
     place: usize,
@@ -280,7 +281,7 @@ fn has_member(accounts: &[ShareAccount], group: usize) -> bool
     false
 }
 
-/// The lesser of a count and another, if there is one.
+/// The lesser of a count and another count; the first where there is no other.
 fn lesser(count: u64, other: Option<u64>) -> u64
     ensures { result ≡ lesser count other }
 {
@@ -290,7 +291,7 @@ fn lesser(count: u64, other: Option<u64>) -> u64
     }
 }
 
-/// The least that was served to one active in a group.
+/// The least that an active account of a group was served; None where none is active.
 fn least_served(accounts: &[ShareAccount], group: usize) -> Option<u64>
     ensures { result ≡ least_served group accounts.now }
 {

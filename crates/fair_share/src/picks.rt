@@ -1,4 +1,4 @@
-//! Which frame of a hall comes next, by who was served least or has waited longest.
+//! Which tenant's frame of a hall a worker takes next, by who was served least or has waited longest.
 ghost use Rattle.std.specs.Prelude.{◌≡◌, IfSome, IfNone, is_some};
 ghost use Rattle.sched_rules.specs.Views.{newest_ready_in};
 ghost use Rattle.fair_share.specs.Shares.{tenant_seen, tenant_in_place};
@@ -49,7 +49,7 @@ pub fn fair_task<A: Allocator>(hall: &Hall<A>, shares: &mut FairShare) -> Option
     }
 }
 
-/// The tenant was served so much more, if it is one that shares.
+/// Notes that a tenant was served so much more, if it is one that shares.
 pub fn charge(shares: &mut FairShare, tenant: u64, amount: u64)
     ensures { shares.new ≡ charged_to tenant amount shares.old }
 {

@@ -1,4 +1,5 @@
-//! Worked examples of picks and shares, computed from the definitions alone.
+//! Worked examples of picks and shares of a pool, computed from the definitions alone. An `account` stands with its
+//! name, its group, how much it was served, and the turn since when it waits (0: not active).
 ghost use Rattle.std.specs.Prelude.{◌≡◌, true, false, ℕ, [], ◌∷◌, Some, None, map};
 ghost use Rattle.fair_share.specs.Accounts.{is_before, capped_sum};
 ghost use Rattle.fair_share.specs.Lines.{account_at, least_served, floor_of, has_rival, woken, rested_at, charged};
@@ -27,13 +28,14 @@ pub fn where_one_starts()
     ensures alone { account_at (woken 3 (rested_at 3 four)).accounts 3 ≡ account 4 1 0 4 }
 {}
 
-/// A count stays at the greatest.
+/// How much somebody was served is counted up to 2^64 - 1, and stays there.
 pub fn a_count_stays_at_the_greatest()
     ensures below { capped_sum 18446744073709551610 5 ≡ 18446744073709551615 }
     ensures at { capped_sum 18446744073709551610 6 ≡ 18446744073709551615 }
 {}
 
-/// Two tenants of one network have a place each of a network and a customer that they share.
+/// Of tenants 7 and 8 in network 500 and 9 in network 700: the first two share a place of a network and of a customer,
+/// the third has others.
 pub fn places()
     ensures tenants { entered_place 9 1 700 (tenant_entered 8 0 500 (tenant_entered 7 0 500 (new_shares 2))) ≡ Some 2 }
     ensures network { network_at three 1 ≡ 0 }
@@ -42,7 +44,7 @@ pub fn places()
     ensures other_customer { customer_at three 2 ≡ 1 }
 {}
 
-/// A tenant's 100 are its network's and its customer's too, and not its neighbour's.
+/// What a tenant was served, here 100, counts for its network and its customer too, and not for its neighbour.
 pub fn what_is_charged()
     ensures customers { ((account_at served.customers.accounts 0).served ≡ 100) × ((account_at served.customers.accounts 1).served ≡ 30) }
     ensures networks { ((account_at served.networks.accounts 0).served ≡ 100) × ((account_at served.networks.accounts 1).served ≡ 30) }
@@ -60,12 +62,13 @@ pub fn a_count_outlives_its_tenants()
     ensures anew { account_at (tenant_entered 12 0 500 (left_all 1 (left_all 0 served))).networks.accounts 0 ≡ account 501 0 0 0 }
 {}
 
-/// Of the four those that don't come after the first in its group: itself, and the one that has been active for longer.
+/// Of a line of four accounts those that don't come after the first in its group: itself, and the one that has been
+/// active for longer.
 pub fn who_is_ahead()
     ensures { map (is_ahead 0 (account 1 0 50 3)) four.accounts ≡ true ∷ true ∷ false ∷ false ∷ [] }
 {}
 
-/// Picks are tasks too.
+/// How many events of a list are picks, and how many are tasks: picks are tasks too.
 pub fn tasks_and_picks()
     ensures picks { picks_in (Wakes 1 ∷ Serves 0 5 ∷ Picks 1 7 ∷ Rests 1 ∷ Picks 0 1 ∷ []) ≡ 2 }
     ensures tasks { tasks_in (Wakes 1 ∷ Serves 0 5 ∷ Picks 1 7 ∷ Rests 1 ∷ Picks 0 1 ∷ []) ≡ 3 }

@@ -60,8 +60,8 @@ impl Model for FairShare {
 }
 
 impl FairShare {
-    /// Nobody is there, and the customers from number 0 to before this were served nothing. It takes all memory, and no other call
-    /// takes any. Err where the allocator refuses it.
+    /// A pool that nobody shares yet, for the customers from number 0 to before this, who were served nothing so far.
+    /// It takes all memory, and no other call takes any. Err where the allocator refuses it.
     pub fn new(alloc: Global, customers: usize) -> Result<FairShare, AllocError>
         ensures { IfOk result (λ shares. shares ≡ new_shares customers) }
     {
@@ -96,7 +96,8 @@ impl FairShare {
         self.tenants.join(network, tenant, 0)
     }
 
-    /// The tenant at a place leaves.
+    /// The tenant at a place leaves. The places of its network and of its customer are freed once nobody of them is
+    /// there. Nothing changes where the place is free.
     pub fn leave(&mut self, place: usize)
         ensures { self.new ≡ left_all place self.old }
     {
@@ -111,7 +112,7 @@ impl FairShare {
         self.free_network(network, customer);
     }
 
-    /// It is seen whether the tenant at a place has a ready frame.
+    /// Notes whether the tenant at a place has a ready frame. Nothing changes where the place is free.
     pub fn see(&mut self, place: usize, is_ready: bool)
         ensures { self.new ≡ tenant_seen place is_ready self.old }
     {
@@ -160,6 +161,7 @@ impl FairShare {
         }
     }
 
+    /// The place of the tenant that was served least, by its customer, then its network; None where nobody is active.
     fn least_served(&self) -> Option<usize>
         ensures picked { IfSome result (IsLeastServed self.now) }
         ensures nobody { IfNone result (IsNobodyLeast self.now) }
@@ -169,7 +171,7 @@ impl FairShare {
         self.tenants.next(network)
     }
 
-    /// The place of a tenant.
+    /// The place of a tenant among those who share; None where it isn't there.
     pub fn place_of(&self, tenant: u64) -> Option<usize>
         ensures { result ≡ place_named tenant self.now.tenants.accounts }
     {
@@ -183,6 +185,7 @@ impl FairShare {
         self.tenants.name_at(place)
     }
 
+    /// A tenant gets a ready frame: it becomes active, and with it its network and its customer.
     fn wake(&mut self, place: usize)
         ensures { self.new ≡ woken_all place self.old }
     {
@@ -201,6 +204,8 @@ impl FairShare {
         self.tenants.wake(place);
     }
 
+    /// A tenant has no ready frame any more: it rests, and with it its network and its customer, where nobody else of
+    /// them is active.
     fn rest(&mut self, place: usize)
         ensures { self.new ≡ rested_all place self.old }
     {
@@ -219,6 +224,7 @@ impl FairShare {
         }
     }
 
+    /// Frees a network's place where no tenant of it is there any more, and then perhaps its customer's.
     fn free_network(&mut self, network: usize, customer: usize)
         ensures { self.new ≡ network_freed network customer self.old }
     {
@@ -229,6 +235,8 @@ impl FairShare {
         self.free_customer(customer);
     }
 
+    /// Frees a customer's place where no network of it is there any more, and keeps how much it was served, unless its
+    /// number is beyond those that the pool was made for.
     fn free_customer(&mut self, place: usize)
         ensures { self.new ≡ customer_freed place self.old }
     {

@@ -1,4 +1,5 @@
--- What an abort leaves: at a frame that has no child all, and of the slots, serials and ready frames those up to it.
+-- The frame table at an abort: at a frame without a child nothing goes, and of slots, serials and ready frames all up to
+-- the aborted frame stay.
 use Rattle.frame_table.proofs.Common.{Leaves, gone_among, has_slot_under, map}
 use Rattle.frame_table.proofs.TreeLaws.{found-own}
 use Rattle.std.specs.List.{AllByRecursion}

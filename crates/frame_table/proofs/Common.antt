@@ -1,4 +1,4 @@
--- The names that the proofs take of the library, of the crates below and of this crate's definitions, from one place.
+-- The names that the frame table's proofs use, imported in one place.
 pub use Rattle.std.proofs.Common.{Bool, Err, IfSome, IsOk, List, None, Ok, OnErr, Option, Result, Some, [], ap, append-nil, append_assoc, arith, cond, drop}
 pub use Rattle.std.proofs.Common.{eqb, false, get_or, inl, inr, length, length-append, length-set, map, nat_lt, not, refl, rules, set, slice_get, slice_index}
 pub use Rattle.std.proofs.Common.{subst, suc, sym, take, true, vec_capacity, vec_len, zero, ℕ, ◌++◌, ◌+◌, ◌-◌, ◌<◌, ◌||◌, ◌∙◌, ◌∷◌, ◌≡◌, ◌≢◌, ◌≤◌, ◌⊎◌}

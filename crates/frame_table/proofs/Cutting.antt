@@ -1,4 +1,4 @@
--- A slot store of which some slots went.
+-- The frame table's slot store of one tenant, of which some slots were removed: what is left is sound.
 use Rattle.frame_table.proofs.Places.{remove-rising}
 use Rattle.std.proofs.lemmas.List.Filters.{length-filter_both}
 use Rattle.frame_table.proofs.Common.{Leaves, has_slot_under, length-append, length-map}

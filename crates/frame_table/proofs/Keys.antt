@@ -1,4 +1,4 @@
--- The serials of slots as their index, and the keys of an order: a key that is found stands in the order.
+-- The frame table's index: the serials of slots, and the keys in their order; a key that is found stands in the order.
 use Rattle.frame_table.proofs.SlotStores.{contains_read}
 use Rattle.frame_table.proofs.Common.{restated, recounted, with_slot, ◌+◌}
 use Rattle.frame_table.proofs.Finds.{has_slot-kept, keeps-rises}

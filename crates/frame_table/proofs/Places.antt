@@ -1,4 +1,5 @@
--- Places in lists: by a number that rises, in those that pass a test, and in a list that begins at a place of another.
+-- Places in the frame table's lists: by a number that rises, among those that pass a test, and in a list that begins
+-- at a place of another.
 use Rattle.frame_table.proofs.Common.{eq-eqb}
 use Rattle.std.proofs.Common.{◌≡◌, ◌≢◌, ℕ, zero, suc, ◌<◌, ◌≤◌, Bool, false, not, eqb, List, [], ◌∷◌, length, get_or, take, refl, sym}
 use Rattle.std.proofs.Common.{arith, nat_lt, ◌+◌, ◌++◌, cond, ◌-◌, drop, append_assoc, append-nil, add-suc, map}

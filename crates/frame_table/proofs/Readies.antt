@@ -1,4 +1,4 @@
--- The ready frames among slots, and what each change of the slots does to them.
+-- The frame table's ready frames among its slots, and what each change of the slots does to them.
 use Rattle.frame_table.proofs.Changes.{leaf-slots}
 use Rattle.frame_table.proofs.Finds.{few-counts, kept-length}
 use Rattle.frame_table.proofs.Keys.{found-at}

@@ -1,4 +1,4 @@
--- Slots under keys: reading, writing and adding them.
+-- The frame table's slots under keys: reading, writing and adding them.
 use Rattle.frame_table.proofs.Common.{Leaves, cond, gone_among, left_under}
 use Rattle.frame_table.proofs.Common.{IsCutAt, stays_under}
 use Rattle.std.proofs.Common.{◌≡◌, ◌≢◌, ℕ, zero, suc, ◌+◌, ◌<◌, ◌≤◌, true, false, ◌||◌, eqb, List, [], ◌∷◌, ◌++◌, Option, Some, None, length, take}

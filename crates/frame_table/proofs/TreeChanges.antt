@@ -1,4 +1,5 @@
--- What each change leaves of a tree: an abort, a leaf removed, a frame added, other states and values.
+-- What each change leaves of a tenant's tree of frames: an abort, a leaf removed, a frame added, other states and
+-- values.
 use Rattle.frame_table.proofs.Common.{◌≡◌, ◌≢◌, ℕ, ◌<◌, inl, inr, Bool, true, false, not, List, [], ◌∷◌, ◌++◌, Some, None, refl, sym, ◌∙◌, arith}
 use Rattle.frame_table.proofs.Common.{append_assoc, filter, true≢false, eq-eqb, eqb-true, not_from_true, not_from_false, Frame}
 use Rattle.frame_table.proofs.Common.{frame_at, AllBelow, goes_under, children_of, aborted, frames_without, IsNextFrame, IsTree, IsTreeAfter, is_child_of}

@@ -1,4 +1,5 @@
--- A tree, frame by frame: each frame stands under its parent, and what follows for look-ups, paths and children.
+-- A tenant's tree of frames, frame by frame: each stands under its parent, and what follows for look-ups, paths and
+-- children.
 use Rattle.frame_table.proofs.Common.{append-nil}
 use Rattle.frame_table.proofs.Common.{◌≡◌, ◌≢◌, ℕ, zero, suc, ◌<◌, ◌≤◌, ◌⊎◌, inl, inr, Bool, true, false, ◌||◌, eqb, List, [], ◌∷◌, ◌++◌, Option, Some, None}
 use Rattle.frame_table.proofs.Common.{refl, ap, sym, ◌∙◌, arith, append_assoc, filter, cases_Bool, cases_eq, false≢true, true≢false, eq-eqb, ne_eqb, eqb-true}

@@ -1,4 +1,5 @@
--- A tree with one frame more, with another state in a frame, and with other values: what is found, the children, and that it is a tree.
+-- A tenant's tree with one frame more, with another state in a frame, and with other values: what is found, the
+-- children, and that it is a tree.
 use Rattle.frame_table.proofs.TreeLaws.{found-own}
 use Rattle.frame_table.proofs.Common.{State, filter, filter-append, is_child_of, map_value, map_values, AreAlike, ◌≡◌, ◌≢◌, ℕ, Bool, true, not, List, [], ◌∷◌}
 use Rattle.frame_table.proofs.Common.{◌++◌, Option, Some, None, refl, sym, ◌∙◌, arith, append_assoc, append-nil, map, Frame, frame_at, has_frame, has_parent}

@@ -1,8 +1,8 @@
--- Representation: lists in the order of a number that each element has.
+-- Representation: the frame table's lists, in the order of a number that each element has.
 use Rattle.std.specs.Prelude.{ℕ, ◌<◌, ◌≤◌, ◌==◌, ◌||◌, Bool, false, List, [], ◌∷◌}
 use Prim.Native.Nat.{zero, suc}
 
--- whether this is one of the numbers
+-- whether this number is in the list of numbers
 abbrev pub has_number : List ℕ → ℕ → Bool
 has_number [] n = false
 has_number (first ∷ numbers) n = (first == n) || has_number numbers n

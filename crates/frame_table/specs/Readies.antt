@@ -1,4 +1,4 @@
--- Representation: the ready frames of one tenant, by rising serial.
+-- Representation: the ready frames of one tenant in the frame table, by rising serial.
 use Rattle.std.specs.Prelude.{◌≡◌, ℕ, ◌≤◌, ◌==◌, not, filter, if◌then◌else◌, length, List, [], ◌∷◌, Option, Some, None}
 use Rattle.frame_table.specs.declared.names.State.{State}
 use Rattle.frame_table.specs.declared.names.State.TheVariants.{Ready as ReadyAt, Running, Computing, Waiting, Returned}
@@ -9,7 +9,7 @@ use Rattle.numbered_list.specs.Places.{inserted}
 use Rattle.frame_table.specs.Slots.{KeepsTree, frames_from, serials_of}
 use Rattle.frame_table.specs.Windows.{PlacedList}
 
--- these ready frames, with the one of this serial in front if its state is Ready
+-- a list of ready frames with the frame of this serial in front, if it is in the state Ready
 abbrev pub with_ready : ℕ → State → List ReadyFrame → List ReadyFrame
 with_ready serial (ReadyAt home) frames = record { serial = serial; home = home } ∷ frames
 with_ready serial (Running worker) frames = frames
@@ -17,16 +17,18 @@ with_ready serial (Computing worker) frames = frames
 with_ready serial Waiting frames = frames
 with_ready serial Returned frames = frames
 
--- the ready frames among slots
+-- the ready frames among these slots, in their order
 abbrev pub ready_in : {T : Type 0} → List (Slot T) → List ReadyFrame
 ready_in [] = []
 ready_in (slot ∷ slots) = with_ready slot.serial slot.state (ready_in slots)
 
--- these ready frames without the one of this serial, if the state that it leaves is Ready; else all of them
+-- a tenant's ready frames once the frame of this serial has left this state: without it if the state was Ready, else
+-- as they were
 abbrev pub without_ready : ℕ → State → List ReadyFrame → List ReadyFrame
 without_ready serial was frames = if is_ready was then filter (λ frame. not (frame.serial == serial)) frames else frames
 
--- these ready frames, with the one of this serial inserted in order if its new state is Ready
+-- a tenant's ready frames once the frame of this serial has come to this state: with it, in order, if the state is
+-- Ready, else as they were
 abbrev pub put_ready : ℕ → State → List ReadyFrame → List ReadyFrame
 put_ready serial (ReadyAt home) frames = inserted (λ frame. frame.serial) (record { serial = serial; home = home }) frames
 put_ready serial (Running worker) frames = frames

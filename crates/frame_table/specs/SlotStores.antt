@@ -1,4 +1,5 @@
--- Representation: how a tenant's slots are kept: in a slab, with an index of their keys by rising serial.
+-- Representation: how the frame table keeps a tenant's slots: in a slab (cells under keys), with an index of these
+-- keys by rising serial.
 use Rattle.std.specs.Prelude.{◌≡◌, ℕ, ◌<◌, ◌≤◌, Bool, true, false, not, if◌then◌else◌, ◌||◌, ◌&&◌, ◌==◌, List, [], ◌∷◌, ◌++◌, Option, Some, None, length, slice_index, get_or, set, map, filter, is_some, drop}
 use Rattle.std.specs.Borrow.{Bor}
 use Rattle.slab.specs.Slab.{Slab, get, slab_len}
@@ -13,7 +14,7 @@ pub record SlotStoreOf (T : Type 0) : Type 0 where
   pub places : ℕ
   pub slots : List (TenantSlot T)
 
--- these slots, with the one that was found in front, if one was
+-- a list of slots with one more in front, if a slot was found
 abbrev pub with_found : {T : Type 0} → Option (StoredSlot T) → List (TenantSlot T) → List (TenantSlot T)
 with_found None slots = slots
 with_found (Some kept) slots = kept.slot ∷ slots
@@ -23,12 +24,12 @@ abbrev pub slots_in : {T : Type 0} → Slab (StoredSlot T) → List ℕ → List
 slots_in slab [] = []
 slots_in slab (key ∷ keys) = with_found (get slab key) (slots_in slab keys)
 
--- no key is in the list twice
+-- no key of the slab is in the list twice
 abbrev pub AreApartKeys : List ℕ → Type 0
 AreApartKeys [] = Unit {0}
 AreApartKeys (key ∷ keys) = (has_number keys key ≡ false) × AreApartKeys keys
 
--- a slot was found, and it has this serial
+-- under a key of the slab a slot was found, and it has this serial
 abbrev pub HasSerial : {T : Type 0} → ℕ → Option (StoredSlot T) → Type 0
 HasSerial serial None = ⊥
 HasSerial serial (Some kept) = kept.slot.serial ≡ serial
@@ -41,7 +42,7 @@ KnowsParent slab keys None (Some above) = ⊥
 KnowsParent slab keys (Some parent) None = ⊥
 KnowsParent slab keys (Some parent) (Some above) = (has_number keys above ≡ true) × HasSerial parent (get slab above)
 
--- a slot was found, and it keeps the right key of its parent, which is one of these keys
+-- under a key of the slab a slot was found, and it keeps the right key of its parent, which is one of these keys
 abbrev pub IsHere : {T : Type 0} → Slab (StoredSlot T) → List ℕ → Option (StoredSlot T) → Type 0
 IsHere slab keys None = ⊥
 IsHere slab keys (Some kept) = KnowsParent slab keys kept.slot.parent kept.above
@@ -68,31 +69,33 @@ StandsUnder slots None (Some at) = ⊥
 StandsUnder slots (Some parent) None = ⊥
 StandsUnder slots (Some parent) (Some at) = (at < length slots) × (slice_index (serials_of slots) at ≡ parent)
 
--- whether a slot is there under this key
+-- whether the slab has a slot under this key
 abbrev pub has_slot_under : {T : Type 0} → Slab (StoredSlot T) → ℕ → Bool
 has_slot_under slab key = is_some (get slab key)
 
--- whether an abort at under removes a slot with this parent, kept under this key: it is that frame, or gone
+-- whether an abort at the frame `under` removes a slot with this parent, which is kept under this key: the parent is
+-- that frame, or is gone already
 abbrev pub is_taken_by : {T : Type 0} → Slab (StoredSlot T) → ℕ → Option ℕ → Option ℕ → Bool
 is_taken_by slab under None above = false
 is_taken_by slab under (Some parent) None = false
 is_taken_by slab under (Some parent) (Some above) = (parent == under) || not (has_slot_under slab above)
 
--- whether a slot was found that an abort at under removes: its parent is that frame, or is gone
+-- whether there is a slot here, and an abort at the frame `under` removes it: its parent is that frame, or is gone
+-- already
 abbrev pub is_taken_in : {T : Type 0} → Slab (StoredSlot T) → ℕ → Option (StoredSlot T) → Bool
 is_taken_in slab under None = false
 is_taken_in slab under (Some kept) = is_taken_by slab under kept.slot.parent kept.above
 
--- what is under a key once the slots under these keys that an abort at under removes are gone
+-- what is under a key, once the slots under these keys are gone that an abort at the frame `under` removes
 abbrev pub left_under : {T : Type 0} → ℕ → List (TenantSlot T) → List ℕ → ℕ → Option (StoredSlot T) → Option (StoredSlot T)
 left_under under slots keys key None = None
 left_under under slots keys key (Some kept) = if has_number keys key && not (is_kept under (frames_from [] slots) kept.slot.serial) then None else Some kept
 
--- now is old without the slots under these keys that an abort at under removes
+-- the slab `now` is the slab `old` without the slots under these keys that an abort at the frame `under` removes
 pub record Leaves {T : Type 0} (under : ℕ) (slots : List (TenantSlot T)) (keys : List ℕ) (old now : Slab (StoredSlot T)) : Type 0 where
   pub left : (key : ℕ) → get now key ≡ left_under under slots keys key (get old key)
 
--- of some of these slots, the values of those that an abort at under removes
+-- the values of those of some slots that an abort at the frame `under` removes
 abbrev pub gone_among : {T : Type 0} → ℕ → List (TenantSlot T) → List (TenantSlot T) → List T
 gone_among under slots some = map (λ slot. slot.value) (filter (λ slot. not (is_kept under (frames_from [] slots) slot.serial)) some)
 
@@ -101,7 +104,7 @@ abbrev pub slots_after : {T : Type 0} → ℕ → Option (Bor (SlotStoreOf T)) �
 slots_after at None = []
 slots_after at (Some store) = drop at store.now.slots
 
--- this is the slot at this place, and it has this serial
+-- this slot stands at this place of the tenant's slots, and has this serial
 pub record IsSeenAt {T : Type 0} (slots : List (TenantSlot T)) (serial at : ℕ) (slot : TenantSlot T) : Type 0 where
   pub within : at < length slots
   pub named : slice_index (serials_of slots) at ≡ serial
@@ -121,7 +124,7 @@ pub record AreKeys {T : Type 0} (slab : Slab (StoredSlot T)) (keys : List ℕ) :
   pub apart : AreApartKeys keys
   pub counted : slab_len slab ≡ length keys
 
--- this is the key at this place, and the slot there has this serial
+-- this key stands at this place of the index, and the slot under it has this serial
 pub record IsKeyAt {T : Type 0} (slab : Slab (StoredSlot T)) (keys : List ℕ) (serial at key : ℕ) : Type 0 where
   pub within : at < length keys
   pub read : key ≡ get_or keys at key

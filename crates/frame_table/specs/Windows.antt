@@ -1,7 +1,7 @@
--- Representation: a list in reserved places, after some that are out of use.
+-- Representation: the frame table's list in reserved places, which stands behind some that are out of use.
 use Rattle.std.specs.Prelude.{ℕ, ◌+◌, ◌*◌, ◌≤◌, List, length}
 
--- a number of places, and a list
+-- a list of the frame table: how many places are reserved for it, and its elements
 pub record PlacedList (T : Type 0) : Type 0 where
   pub places : ℕ
   pub list : List T

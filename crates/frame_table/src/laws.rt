@@ -1,5 +1,5 @@
-//! What follows from the definitions of a tree, for those who keep trees: each change leaves a tree,
-//! and what is found and who is whose child after it.
+//! What follows from the definitions of a tenant's tree of frames, for those who keep such trees: each change leaves a
+//! tree, and what is found and who is whose child after it.
 ghost use Rattle.std.specs.Prelude.{◌≡◌, ◌≢◌, ℕ, ◌+◌, ◌<◌, List, [], ◌∷◌, ◌++◌, Option, Some, None, true, false, filter, map, not, option_map};
 ghost use Rattle.frame_table.specs.Frames.{Frame, frame_at, has_frame, has_parent, path_in, AllBelow, parent_of, root_of, goes_under, aborted, frames_under, frames_without, with_state, children_of, values_of, new_frame, IsTree};
 ghost use Rattle.frame_table.specs.Rows.{five_frames};

@@ -1,4 +1,5 @@
-//! The ready frames of one tenant, each with its home.
+//! The ready frames of one tenant in the frame table, each with its home (the worker that may take it, or 0 for
+//! the hall).
 //!
 //! They stand by rising serial, so that the last is the newest ready frame. The place of a frame that
 //! becomes ready, or no longer is, is mostly at one of the ends: those are looked at before a binary search.

@@ -1,4 +1,4 @@
-//! The serials of one tenant's frames in rising order: the index by which a frame is found.
+//! The serials of one tenant's frames in the frame table, in rising order: the index by which a frame is found.
 //!
 //! A place is mostly asked for to remove the newest frame, or the oldest child of a single root: those are
 //! looked at before a binary search, which reads nothing but serials.

@@ -1,4 +1,4 @@
-//! The slot store of one tenant: its slots in a slab, and the keys of those slots by rising serial.
+//! The frame table's slots of one tenant: the slots in a slab, and the keys of those slots by rising serial.
 //!
 //! Seen as the list of slots by rising serial, and a number of places. What makes that true: each key
 //! of the index is of a slot of its own, each slot of the slab has its key in the index, a slot
@@ -96,14 +96,14 @@ impl<T: Copy, A: Allocator> SlotStore<T, A> {
         Ok(())
     }
 
-    /// How many slots it has places for.
+    /// How many slots (frames) the store has places for.
     pub(crate) fn places(&self) -> usize
         ensures { result ≡ self.now.places }
     {
         self.places
     }
 
-    /// How many slots there are.
+    /// How many slots (frames) the store has.
     #[tactic(auto, using(crate::proofs::SlotStores::read_laws))]
     pub(crate) fn len(&self) -> usize
         ensures { result ≡ length self.now.slots }

@@ -1,4 +1,4 @@
-//! The table: each tenant's frames in the places that were reserved for them.
+//! The frame table: each tenant's open frames, in the places that were reserved for them.
 //!
 //! Seen as a tree for each tenant: `frames_of table tenant`, the frames by rising serial, and
 //! `places_of table tenant`, how many places it has. What makes that true: the trees stand by rising
@@ -65,7 +65,7 @@ impl<T: Copy, A: Allocator> FrameTable<T, A> {
         })
     }
 
-    /// How many tenants have places.
+    /// How many tenants have places in the table.
     pub fn tenant_count(&self) -> usize
         ensures { result ≡ tenant_count self.now }
     {
@@ -123,7 +123,7 @@ impl<T: Copy, A: Allocator> FrameTable<T, A> {
         }
     }
 
-    /// Whether a frame is there.
+    /// Whether a frame of this name is in the table.
     pub fn contains(&self, f: FrameId) -> bool
         ensures { IsTrue result ↔ IsTrue (has_frame (frames_of self.now f.tenant) f.serial) }
     {
@@ -354,7 +354,7 @@ impl<T: Copy, A: Allocator> FrameTable<T, A> {
         self.ready += 1;
     }
 
-    /// Puts a frame into this state.
+    /// Puts a frame that is there into this state; no other frame changes.
     #[inline(always)]
     #[tactic(auto, using(crate::proofs::Tenants::change_laws))]
     pub fn set_state(&mut self, f: FrameId, state: State)

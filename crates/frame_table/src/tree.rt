@@ -1,4 +1,4 @@
-//! The frames of one tenant, in the places that were reserved for them.
+//! The frames of one tenant in the frame table, in the places that were reserved for them.
 //!
 //! Seen as a tenant, a number of places and a list of frames by rising serial, each with its path.
 //! What makes that true: the slots are those of the frames, each with the count of the frame's children,
@@ -46,6 +46,7 @@ impl<T: Copy, A: Allocator> Numbered for TenantFrames<T, A> {
 
     ghost number_of = { owner_of_tree };
 
+    /// The number by which a table lists these frames: their tenant's.
     #[inline(always)]
     fn number(&self) -> u64 {
         self.tenant()
@@ -91,14 +92,14 @@ impl<T: Copy, A: Allocator> TenantFrames<T, A> {
         self.tenant
     }
 
-    /// How many frames it has places for.
+    /// How many frames the tenant has places for.
     pub fn places(&self) -> usize
         ensures { result ≡ self.now.places }
     {
         self.store.places()
     }
 
-    /// How many frames there are.
+    /// How many open frames the tenant has.
     #[tactic(auto, using(crate::proofs::Finds::of_frames))]
     pub fn len(&self) -> usize
         ensures { result ≡ length self.now.frames }
@@ -114,7 +115,7 @@ impl<T: Copy, A: Allocator> TenantFrames<T, A> {
         self.ready.len()
     }
 
-    /// The slots of its frames.
+    /// The slots in which the tenant's frames are kept.
     pub(crate) fn store(&self) -> &SlotStore<T, A>
         ensures { KeepsTree result.now.slots self.now.frames }
     {

@@ -1,4 +1,4 @@
-//! A list in reserved places whose removals move the shorter end.
+//! The frame table's list in reserved places, whose removals move the shorter end.
 //!
 //! Seen as the list of its elements, and a number of places. The elements stand together in a `Vec`
 //! with room for more than twice as many: those before the start are no part of the list. So a removal
@@ -63,7 +63,7 @@ impl<T: Copy, A: Allocator> ListWindow<T, A> {
         Ok(())
     }
 
-    /// How many elements there are.
+    /// How many elements the list has.
     #[inline(always)]
     pub(crate) fn len(&self) -> usize
         ensures { result ≡ length self.now.list }
@@ -71,7 +71,7 @@ impl<T: Copy, A: Allocator> ListWindow<T, A> {
         self.items.len() - self.start
     }
 
-    /// The element at a place.
+    /// The element at a place of the list.
     #[inline(always)]
     pub(crate) fn at(&self, at: usize) -> T
         requires { at < length self.now.list }
@@ -80,7 +80,7 @@ impl<T: Copy, A: Allocator> ListWindow<T, A> {
         self.items[self.start + at]
     }
 
-    /// The elements, in order.
+    /// The list's elements, in order.
     #[inline(always)]
     pub(crate) fn as_slice(&self) -> &[T]
         ensures value { result.now ≡ self.now.list }
@@ -88,7 +88,7 @@ impl<T: Copy, A: Allocator> ListWindow<T, A> {
         &self.items[self.start..]
     }
 
-    /// Replaces the element at a place.
+    /// Replaces the element at a place of the list.
     #[tactic(auto, using(crate::proofs::Places::window_laws))]
     pub(crate) fn put(&mut self, at: usize, element: T)
         requires { at < length self.old.list }
@@ -195,7 +195,7 @@ impl<T: Copy, A: Allocator> ListWindow<T, A> {
         }
     }
 
-    /// Removes all elements.
+    /// Removes all elements of the list; its places stay.
     pub(crate) fn clear(&mut self)
         ensures { self.new ≡ record self.old { list = [] } }
     {

@@ -1,2 +1,3 @@
+-- The proofs' lemmas on what desks have in common, whatever lies under their lock.
 pub mod Asking
 pub mod Refused

@@ -1,4 +1,4 @@
--- The steps that entries stand for: how many they are, and one more.
+-- The steps that the entries of a tenant's journal stand for: how many they are, and one more.
 use Rattle.hall.proofs.Common.{◌≡◌, ℕ, ◌+◌, ◌<◌, false, List, [], ◌∷◌, ◌++◌, length, refl, arith, append-nil, if◌then◌else◌, false≢true, StepOf, LeafAnswer, JournalEntry, Long, LongEntry, is_long, long_steps, short_steps, long_step, steps_in, long_count, JournalOf, longer, places_with, longs_with, raise_count, raise_in}
 use Rattle.hall.proofs.Lists.{further}
 

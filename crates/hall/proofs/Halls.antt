@@ -1,4 +1,5 @@
--- What a hall keeps, over an admission, a Leave, and any other step that was taken.
+-- What a hall (the core, with each tenant's journal) keeps true, over an admission, a Leave, and any other step that
+-- was taken.
 use Rattle.hall.proofs.Lists.{raise-more}
 use Rattle.hall.proofs.Lists.{raised-after}
 use Rattle.hall.proofs.Common.{all-map}

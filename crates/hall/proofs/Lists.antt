@@ -1,4 +1,4 @@
--- Journals by their tenants' numbers: one more step in one of them, one fewer of them, one more.
+-- The hall's journals by their tenants' numbers: one more step in one of them, one journal fewer, one more.
 use Rattle.hall.proofs.Common.{◌≡◌, ◌≢◌, ℕ, ◌+◌, ◌<◌, ◌≤◌, true, List, [], ◌∷◌, ◌++◌, Option, Some, None, length, refl, sym, ◌∙◌, arith, length-append, ◌*◌, false≢true, ne_eqb, eq-eqb, StepOf, LeafAnswer, Quota, IsWithinLimits, find_by_number, inserted, nat_tests, all-map, all-of, all-push, all-with, thing-there, thing-with, said-found, said-with-own, reserve_in, raise_in, newer, reserved_after, reserved_in, one_for, raise_count, places_with, longs_for, longs_with, longs_in, longer, is_appended, JournalOf, journal_in, places_in, owner_of_journal, has_journal, with_step, without_journal, total_length, AreUpTo, IsBegun, AreBegun}
 
 abbrev Js : Type 0

@@ -1,4 +1,5 @@
--- A journal stays within its places for long entries: each frame is given at most one Answer, and a job at most one Submit and one Cancel.
+-- A tenant's journal stays within its places for long entries: each frame is given at most one Answer, and a job at
+-- most one Submit and one Cancel.
 use Rattle.hall.proofs.Common.{◌≡◌, ℕ, ◌+◌, ◌≤◌, List, [], ◌∷◌, length, Option, Some, None, Ok, arith, if◌then◌else◌, StepOf, Admit, AdmitMore, Submit, Answer, Cancel, Functions, Tenant, admitted_with, Outcome, lone_step, alone_from, LeafAnswer, jamboree, IsShaped, AreSearches, AreTakenFrom, IsJournalOf, unless-passed, came, by-kinds, admitted-shaped, length-with_ended, live-root, root-above, one_if_answer, answer_count, journal-answers, is_long_step, long_steps, raise_in, one_for, raise_count, ended_count}
 use Rattle.hall.proofs.Using.{followed, job-ended, submit-used, ended-more, ended-few, told-by}
 

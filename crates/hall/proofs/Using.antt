@@ -1,4 +1,5 @@
--- Each taken step of a tenant uses one of what it may do, so a journal stays within its places.
+-- Each taken step of a tenant uses up one of what the tenant may do, so its journal in the hall stays within its
+-- places.
 use Rattle.hall.proofs.Common.{◌≡◌, ℕ, ◌+◌, ◌*◌, ◌≤◌, Bool, false, true, List, [], ◌∷◌, ◌++◌, length, Option, Some, None, Result, Ok, Err, refl, ap, arith, length-append, eqb-true, Quota, path_in, Job, Live, Refusal, StepOf, Admit, AdmitMore, Functions, DidOf, Tree, Tenant, admitted_with, with_ended, Outcome, lone_step, ended, state_after, alone_from, HasEnded, IsShaped, AreRootsLive, live_count, unless-passed, frame-found, by-kinds, step-shaped, admitted-shaped, length-with_ended, live-root, root-above, StaysTaken, AreTakenFrom, IsJournalOf, serial_in, is_appended, raise_in, newer, reserved_after, reserved_in, raise_count, ended_count, uses}
 use Rattle.frame_table.proofs.TreeLaws.{below-found, found-there}
 

@@ -1,4 +1,4 @@
--- Meaning: what contracts see of a hall, and what explains it.
+-- Meaning: what contracts see of a hall (the core, with each tenant's journal), and how the journals explain it.
 use Rattle.std.specs.Prelude.{◌≡◌, ℕ, ◌+◌, ◌*◌, ◌^◌, ◌≤◌, ◌==◌, Bool, false, List, [], Option, Some, None, Result, OnOk, OnErr, length}
 use Rattle.tenant_quota.specs.Quota.{Quota}
 use Rattle.sched_rules.specs.declared.job.Job.{Job}
@@ -78,7 +78,7 @@ pub record IsHall (hall : HallOf) (latest count : ℕ) : Type 0 where
   pub counted : count ≡ count_of hall
   pub bounded : length hall.journals * 2 ^ 21 + hall.gone ≤ latest * 2 ^ 21
 
--- whether a step is a Leave of this tenant
+-- whether a step is the Leave of the tenant with this number
 abbrev pub lets_go : {A : Type 0} → ℕ → StepOf A → Bool
 lets_go number (Leave other) = other == number
 lets_go number _ = false

@@ -1,4 +1,4 @@
--- Meaning: the journal of a tenant: its steps that were taken, in order, from its Admit on.
+-- Meaning: the journal of a tenant in the hall: its steps that were taken, in order, from its Admit on.
 use Rattle.std.specs.Prelude.{◌≡◌, ℕ, ◌+◌, ◌*◌, ◌^◌, ◌<◌, ◌≤◌, Bool, true, false, List, [], ◌∷◌, ◌++◌, Option, Some, None, length}
 use Rattle.std.specs.List.{AllByRecursion}
 use Rattle.numbered_list.specs.Places.{read_by_number, has_by_number, change_by_number, remove_by_number}
@@ -55,7 +55,7 @@ abbrev pub newer : Quota → Option Quota → Quota
 newer now None = now
 newer now (Some quota) = quota
 
--- what is reserved after these steps, where this was before them
+-- what a tenant reserves after these steps of it, where it reserved this before them
 abbrev pub reserved_after : {A : Type 0} → Quota → List (StepOf A) → Quota
 reserved_after now [] = now
 reserved_after now (step ∷ steps) = reserved_after (newer now (reserve_in step)) steps
@@ -64,7 +64,7 @@ reserved_after now (step ∷ steps) = reserved_after (newer now (reserve_in step
 abbrev pub reserved_in : {A : Type 0} → List (StepOf A) → Quota
 reserved_in steps = reserved_after (record { segments = 0; nodes = 0 }) steps
 
--- 1 for a raise, 0 for none
+-- 1 where a step raised its tenant's reservation, 0 where it didn't
 abbrev pub one_for : Option Quota → ℕ
 one_for None = 0
 one_for (Some quota) = 1
@@ -91,12 +91,13 @@ abbrev pub places_with : Option Quota → JournalOf → ℕ
 places_with None journal = journal.places
 places_with (Some quota) journal = places_for quota + (raise_count journal.steps + 1)
 
--- the same for long entries
+-- how many places for long entries a journal has after a step: an AdmitMore makes those of the new reservation, and
+-- one for each raise so far, this one included
 abbrev pub longs_with : Option Quota → JournalOf → ℕ
 longs_with None journal = journal.longs
 longs_with (Some quota) journal = longs_for quota + (raise_count journal.steps + 1)
 
--- the journal with one more step
+-- a tenant's journal with one more step, which may bring it more places
 abbrev pub longer : StepOf LeafAnswer → JournalOf → JournalOf
 longer step journal = record { tenant = journal.tenant; places = places_with (raise_in step) journal; longs = longs_with (raise_in step) journal; steps = journal.steps ++ step ∷ [] }
 
@@ -104,7 +105,7 @@ longer step journal = record { tenant = journal.tenant; places = places_with (ra
 abbrev pub with_step : ℕ → StepOf LeafAnswer → List JournalOf → List JournalOf
 with_step number step journals = change_by_number owner_of_journal number (longer step) journals
 
--- the journals without a tenant's
+-- the hall's journals without that of the tenant with this number
 abbrev pub without_journal : ℕ → List JournalOf → List JournalOf
 without_journal number journals = remove_by_number owner_of_journal number journals
 
@@ -129,7 +130,8 @@ abbrev pub gone_by : StepOf LeafAnswer → List JournalOf → ℕ
 gone_by (Leave number) journals = length (journal_in journals number) + 1
 gone_by _ journals = 0
 
--- whether a taken step is appended to its tenant's journal: an Admit begins it, and a Leave takes it away
+-- whether a taken step is appended to its tenant's journal: all are but an Admit, which begins the journal, and a Leave,
+-- which takes it away
 abbrev pub is_appended : {A : Type 0} → StepOf A → Bool
 is_appended (Admit number quota) = false
 is_appended (Leave number) = false
@@ -161,7 +163,7 @@ pub record IsBegun (journal : JournalOf) : Type 0 where
   pub raised : raise_count journal.steps ≤ (reserved_in journal.steps).segments + (reserved_in journal.steps).nodes
   pub within : length journal.steps ≤ journal.places
 
--- `IsBegun` holds of each of these journals
+-- each of these journals begins with its tenant's Admit, and has the places for what is reserved (`IsBegun`)
 abbrev pub AreBegun : List JournalOf → Type 0
 AreBegun journals = AllByRecursion IsBegun journals
 

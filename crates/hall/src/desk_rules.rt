@@ -1,5 +1,5 @@
-//! What desks have in common, whatever lies under their lock: what was asked for a seat and what is shown of its jobs, what a worker's
-//! step changes that somebody waits for, and how long who finds the lock taken waits.
+//! What desks have in common, whatever lies under their lock: what was asked for a seat and what is shown of its jobs,
+//! what a worker's step changes that somebody waits for, and how long who finds the lock taken waits.
 //!
 //! A seat shows of a job the outcome that the hall tells, but a reply only where it is one to the board and the depth that were asked
 //! under the job's number ([`shown`]): so no desk can show another's value. A [`Backoff`] is a worker's wait between two tries at the

@@ -1,4 +1,4 @@
-//! The entries of a journal: what is kept of a step that was taken, in few words.
+//! The entries of a tenant's journal in the hall: what is kept of a step that was taken, in few words.
 //!
 //! What the journal says is left out: its tenant, whose every step is. Most steps name a worker and a
 //! frame, and their entry takes 8 bytes. What else a step says (an answer, a position, a reservation, the

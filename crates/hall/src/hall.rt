@@ -1,4 +1,4 @@
-//! The hall.
+//! The hall: the core that searches, with each tenant's journal, as it lies under a desk's lock.
 ghost use Rattle.std.specs.Prelude.{◌≡◌, ◌≢◌, ◌≤◌, ◌+◌, true, false, [], Err, None, IfOk, OnErr, OnOk};
 ghost use Rattle.sched_rules.specs.declared.refusal.Refusal.TheVariants.{BadAct, OutOfMemory};
 ghost use Rattle.sched_rules.specs.Cores.{newest_after, shared_refusal};
@@ -51,6 +51,7 @@ impl<A: Allocator> Model for Hall<A> {
 // Written by hand: if it were derived, each crate that holds a hall would have to prove again that all its parts
 // can be dropped.
 impl<A: Allocator> Drop for Hall<A> {
+    /// Drops the core and the journals.
     fn drop(self) {
         let Hall {
             alloc: _alloc,
@@ -65,8 +66,8 @@ impl<A: Allocator> Drop for Hall<A> {
 }
 
 impl<A: Allocator> Hall<A> {
-    /// A hall with no tenant and these totals, whose searches have this grain (0 to 6). An error means that a
-    /// growth was refused.
+    /// A hall with no tenant and these totals, whose searches have this grain (0 to 6). An error means that memory was
+    /// refused.
     pub fn new(alloc: A, config: Config, grain: u8) -> Result<Hall<A>, AllocError>
     where
         A: Clone,

@@ -1,4 +1,4 @@
-//! The journal of one tenant, and where it stands among all.
+//! The journal of one tenant of the hall (the list of its taken steps), and where it stands among all.
 ghost use Rattle.std.specs.Prelude.{◌≡◌, ◌+◌, ◌++◌, ◌∷◌, ◌<◌, ◌≤◌, ◌^◌, [], true, None, length, IfOk, OnOk, OnErr};
 ghost use Rattle.tenant_quota.specs.Quota.{IsWithinLimits};
 ghost use Rattle.sched_rules.specs.Headline.{IsOneStep, AreNumbersGiven};
@@ -78,7 +78,7 @@ impl<A: Allocator> Journal<A> {
         })
     }
 
-    /// How many steps it has.
+    /// How many taken steps the journal has.
     #[tactic(auto, using(crate::proofs::Rules::len_rules))]
     pub(crate) fn len(&self) -> usize
         ensures { result ≡ length self.now.steps }
@@ -157,6 +157,7 @@ impl<A: Allocator> Numbered for Journal<A> {
 
     ghost number_of = { owner_of_journal };
 
+    /// The number by which the hall lists this journal: its tenant's.
     #[inline(always)]
     fn number(&self) -> u64 {
         self.tenant

@@ -18,7 +18,7 @@
 //!
 //! An admission asks the core first whether it would be taken, then takes the journal's memory, and lets the core
 //! grow last; so does an AdmitMore, whose entry is written after the core's step.
-//! So where a growth or the core refuses, nothing has changed. A journal has 16 places for each node that its
+//! So where memory or the core is refused, nothing has changed. A journal has 16 places for each node that its
 //! tenant reserves, 770 more, and one for each AdmitMore: each counted step takes a sixteenth of a node, and
 //! the rest are the admission and what 256 jobs can need. The journals are a list by number
 //! (`NumberedList` of `numbered_list`) in memory for 64, which `Hall::new` takes: the core admits no more.

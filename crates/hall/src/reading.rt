@@ -1,4 +1,4 @@
-//! What a hall tells.
+//! What a hall tells of a tenant and of its jobs.
 ghost use Rattle.std.specs.Prelude.{◌≡◌, ◌+◌};
 ghost use Rattle.sched_rules.specs.Views.{job_of};
 ghost use Rattle.jamboree_core.specs.sched_laws.Fitted.{origins_of};
@@ -23,7 +23,7 @@ impl<A: Allocator> Hall<A> {
         outcome_of(&self.core, tenant, job)
     }
 
-    /// The core, for reading.
+    /// The hall's core, for reading.
     pub fn core(&self) -> &Core<Jamboree, A>
         ensures shared { result.now.shared ≡ self.now.shared }
         ensures grain { result.now.procedure.grain ≡ self.now.grain }

@@ -1,4 +1,6 @@
-//! Worked examples of journals, computed from the definitions alone.
+//! Worked examples of tenants' journals in the hall, computed from the definitions alone. A seat's step stands
+//! with its tenant first, a worker's with the worker and the frame; an entry of a journal with the worker and the frame's
+//! serial, or the serial alone.
 ghost use Rattle.std.specs.Prelude.{◌≡◌, [], ◌∷◌};
 ghost use Rattle.tenant_quota.specs.Quota.{Quota};
 ghost use Rattle.sched_rules.specs.declared.job.Job.TheVariants.{Live, Done, Spent};
@@ -10,7 +12,8 @@ ghost use Rattle.hall.specs.Entries.{steps_in, long_count};
 ghost use Rattle.hall.specs.Journals.{journals_after, gone_by, total_length, admitted_journal, journal_in, longs_in, places_in, reserved_in};
 ghost use Rattle.hall.specs.Uses.{uses};
 
-/// Two tenants are admitted, the first takes a step, and leaves.
+/// Tenants 1 and 2 are admitted, and tenant 1 cancels job 3 and leaves. With 8 nodes a journal has 898 places, and 521
+/// for long entries, which are a list of their own.
 pub fn journals_of_two_tenants()
     ensures begun { (quota : Quota) → journals_after (Admit 2 quota) (admitted_journal 1 quota ∷ []) ≡ admitted_journal 1 quota ∷ admitted_journal 2 quota ∷ [] }
     ensures places { (admitted_journal 1 (record { segments = 4; nodes = 8 })).places ≡ 898 }
@@ -41,7 +44,7 @@ pub fn a_raise_makes_places()
     ensures kept { (quota : Quota) → steps_in 7 (Long ∷ []) (Raised quota ∷ []) ≡ AdmitMore 7 quota ∷ [] }
 {}
 
-/// A tenant with five counted steps and three jobs, of which two have ended: its admission, the five
+/// A tenant with five counted steps and three jobs, of which two have ended, has used 11: its admission, the five
 /// steps, three Submits, and a Spend or a Cancel for each of the two.
 pub fn what_is_used()
     ensures { uses (record { reserve = record { segments = 4; nodes = 8 }; serials = 3; steps = 5; jobs = Done [] ∷ Spent ∷ Live 3 ∷ []; frames = [] }) ≡ 11 }

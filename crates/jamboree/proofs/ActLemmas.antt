@@ -1,4 +1,4 @@
--- Acts and their windows.
+-- The search's acts on a frame, and the windows in which children are searched.
 use Rattle.jamboree.proofs.Common.{◌≡◌, ℕ, ◌+◌, ◌<◌, ◌^◌, ◌==◌, ◌&&◌, nat_lt, nat_le, Bool, true, false, ℤ, pos, negsuc, neg_ℤ, ◌+ℤ◌, ◌-ℤ◌, ◌≤ℤ◌, List, [], ◌∷◌, length, slice_index, slice_index_or, slice_get, unwrap_or, Option, Some, bit_and, refl, to_z, of_z, w32, sym, ◌∙◌, ap, arith, ints, eq-eqb, unwrap_or-slice_get, Cell, cells_of, Choice, Pass, choices, after, Act, Continuation, Frame, board, choice_at, own_word, opp_word, Spawned, Status, pairs_of, spawns, opening_on, first_search, tests, tests_from, act_by, act_of, own-is, opp-is, FrameView, Role, Test, role_number, map, cond_both, Square, plies, Low, changes_by, changes_of, frame_in, int_le, int_lt, kind_by, kind_of, floor, seen}
 use Rattle.std.proofs.Common.{suc}
 

@@ -1,4 +1,4 @@
--- The names that the proofs take of the library, of the crates below and of this crate's definitions, from one place.
+-- The names that the proofs of the search procedure use, imported in one place.
 pub use Rattle.std.proofs.Common.{add-one, ap, arith, drop-cons, inl, inr, of_z, subst, sym, take, to_z, w32, zero-add, ⊎_elim, ◌∙◌}
 pub use Rattle.std.proofs.Math.Bool.{and_assoc}
 pub use Rattle.std.proofs.Math.ListN.{drop_of_length-le, get_or-map}

@@ -1,4 +1,4 @@
--- What a job keeps of a returned root.
+-- What a job of the search keeps of its returned root.
 use Rattle.jamboree.proofs.Common.{◌≡◌, ℕ, zero, suc, ◌<◌, ◌≤◌, ◌==◌, Bool, true, false, List, [], ◌∷◌, length, drop, Option, Some, None, find, All, IfSome, cond, if◌then◌else◌, refl, sym, ◌∙◌, ap, subst, arith, lt-ltb, length-map, length-drop, take_all, All-head, All-tail, Cell, Choice, Square, Pass, choices, IsAllowed, choices_allowed, minimax, best_choice, choice_value, int_equal, best_choice-leaf, best_choice-deeper, HasReturned, entered, IsTable, Frame, board, coded, entry_rest, frame_of, are_entries, is_formed, bounds_of, AreFitting, IsRoot, IsKeptRoot, IsFormed, formed-told, entered-few, root_value, root-whole, decoded, nat_le, map, slice_index, slice_index_or, slice_get, and_parts, length-take, Bound, status_of, is_rest, is_entry, bounds_in, KnownBound, known_of, bound_by, bounds_by, cells, rests_in, table_of, Reply, greatest_depth}
 use Rattle.std.specs.Prelude.{take}
 

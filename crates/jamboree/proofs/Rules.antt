@@ -1,4 +1,4 @@
--- Lemmas that attributes name.
+-- The lemmas that attributes of the search procedure's code name, for the search rules of its proofs.
 use Rattle.jamboree.proofs.ActLemmas.{first-by, act-by, start-stores, spawns-by, negated-beta, negated-alpha, choice-got}
 use Rattle.jamboree.proofs.SightLemmas.{first-formed, second-formed, first-two}
 use Rattle.jamboree.proofs.StatusLemmas.{left-bad, left-good, few-entries, open-at, open-entry, open-none, open-passed, rest-is, settled-at}

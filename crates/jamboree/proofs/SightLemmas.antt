@@ -1,4 +1,4 @@
--- What a frame sees, level by level.
+-- What a frame of the search sees: the words of the frames above it, level by level.
 use Rattle.jamboree.proofs.Common.{◌≡◌, ℕ, Bool, true, ◌&&◌, List, [], ◌∷◌, Option, Some, IfSome, slice_get, unwrap_or, if◌then◌else◌, sym, ◌∙◌, ap, arith, Act, InletAct, Frame, may_be_child, frame_of, is_formed, AllFit, AreFitting, returns, act_of, next_act, wakes, changes_by, inlet_of, inlet_act, above_of}
 
 -- the act of what sees these levels depends on the first two

@@ -1,4 +1,4 @@
--- The entries of choices, segment by segment.
+-- The entries of a frame's choices in the search, segment (16 words) by segment.
 use Rattle.jamboree.proofs.Common.{◌≡◌, ℕ, zero, suc, ◌+◌, ◌-◌, ◌*◌, ◌<◌, ◌≤◌, ◌==◌, ◌&&◌, nat_lt, Bool, true, false, List, [], ◌∷◌, ◌++◌, drop, length, map, slice_get, slice_index, Option, Some, None, unwrap_or, refl, sym, ◌∙◌, ap, subst, arith, add-one, ⊎_elim, and_assoc, get_or-map, lt-ltb, le-ltb, cases_lt, take-append-drop, drop-take, drop-drop, length-append, length-drop, length-take, length-map, map-append, get_or-drop, slice_get_within, unwrap_or-slice_get, slice_get-get_or, status_of, entry_rest, is_entry, are_entries, first_open, statuses_in, rests_in, entries_in, ◌≢◌, if◌then◌else◌, zero-add, eqb-true, eq-eqb, nat_tests}
 use Rattle.std.specs.Prelude.{take}
 

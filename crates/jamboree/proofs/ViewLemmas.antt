@@ -1,4 +1,4 @@
--- The numbers of the first words, where they have the form of a frame.
+-- The numbers in the first twelve words of a search's frame, where these have a frame's form.
 use Rattle.jamboree.proofs.Common.{◌≡◌, ℕ, ◌+◌, ◌<◌, ◌≤◌, Bool, true, ℤ, pos, negsuc, ◌≤ℤ◌, ◌<ℤ◌, List, [], drop, length, slice_index, ◌==◌, ◌&&◌, bit_and, to_z, of_z, w32, sym, ap, ◌∙◌, subst, take, arith, ⊎_elim, get_or-take, ints, cases_lt, and_parts, eqb-true, eq-eqb, least, greatest, unscored, is_frame, score_of, frame_of, are_entries, is_formed, IsFrame, frame-told, Head, head_of, frame_from, greatest_depth}
 
 -- the ranges of these words

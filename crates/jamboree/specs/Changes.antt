@@ -1,4 +1,4 @@
--- Representation: the store that a change stands for.
+-- Representation: the words that are stored in a search's frame for a typed change.
 use Rattle.std.specs.Prelude.{ℕ, ℤ, pos}
 use Rattle.jamboree_rules.specs.Places.{Change as Store, OwnBits as ToOwnBits, OppBits as ToOppBits, Phase as ToPhase, Best as ToBest, Chosen as ToChosen, Count as ToCount, Spawned as ToSpawned, Status as ToStatus}
 use Rattle.jamboree.specs.declared.view.FrameChange.{FrameChange}

@@ -1,4 +1,5 @@
--- Representation: the inlet that a plan of one stands for.
+-- Representation: the inlet (what a frame of the search does about a returned child) that a small typed plan stands
+-- for.
 use Rattle.std.specs.Prelude.{ℕ, List, [], ◌∷◌, true, Option, Some, None}
 use Rattle.jamboree_rules.specs.sched_rules.declared.act.InletAct.{InletAct}
 use Rattle.jamboree_rules.specs.Places.{Best, Chosen, Phase, Status, rest_with, pairs_of}
@@ -8,7 +9,7 @@ use Rattle.jamboree.specs.declared.inlet_plan.SettledChoice.{SettledChoice}
 use Rattle.jamboree.specs.declared.inlet_plan.Verdict.{Verdict}
 use Rattle.jamboree.specs.declared.inlet_plan.Verdict.TheVariants.{Nothing, Ended, Low, Failed, Raised, Kept}
 
--- the rest of the choice's entry once this is said of it: its kind and its score
+-- the rest of a choice's entry (what is known of the choice), once it says this kind and this score
 abbrev pub rest_said : ChildBound → ℕ
 rest_said said = rest_with said.known.kind said.known.score
 

@@ -1,4 +1,4 @@
--- Meaning: what is known of choices, in their order.
+-- Meaning: what a reply's table says of the choices, in their order.
 use Rattle.std.specs.Prelude.{ℕ, List, [], ◌∷◌}
 use Rattle.othello_moves.specs.declared.choices.Choice.{Choice}
 use Rattle.jamboree_rules.specs.othello_eval.declared.bound.Bound.{Bound}

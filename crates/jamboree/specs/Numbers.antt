@@ -1,4 +1,5 @@
--- Representation: the numbers of phases, roles and statuses, and a frame by its parts.
+-- Representation: the numbers that stand for phases, roles and statuses in the words of a search's frame, and a frame
+-- by its parts.
 use Rattle.std.specs.Prelude.{ℕ, ℤ, List}
 use Rattle.jamboree.specs.declared.phases.Phase.{Phase}
 use Rattle.jamboree.specs.declared.phases.Phase.TheVariants.{New, Computing, First, Tests, Done}
@@ -31,6 +32,6 @@ status_number Settled = status_settled
 status_number Failed = status_failed
 status_number RunsAgain = status_runs_again
 
--- the frame of these parts
+-- the frame of the search that has these parts
 abbrev pub frame_by : (own opp depth : ℕ) (alpha beta : ℤ) → Role → ℕ → Phase → ℤ → (choice count spawned : ℕ) → (statuses rests : List ℕ) → Frame
 frame_by own opp depth alpha beta role number phase best choice count spawned statuses rests = record { own = own; opp = opp; depth = depth; alpha = alpha; beta = beta; role = role_number role; number = number; phase = phase_number phase; best = best; choice = choice; count = count; spawned = spawned; statuses = statuses; rests = rests }

@@ -1,4 +1,4 @@
--- Representation: the act that a plan stands for.
+-- Representation: the act (what a frame of the search does next) that a small typed plan stands for.
 use Rattle.std.specs.Prelude.{◌+◌, [], ◌∷◌, true, false}
 use Rattle.jamboree_rules.specs.sched_rules.declared.act.Act.{Act}
 use Rattle.jamboree_rules.specs.sched_rules.declared.act.Continuation.{Continuation}

@@ -1,4 +1,4 @@
--- Meaning: what a reply says, as words for its private parts.
+-- Meaning: what the reply to a search says, as words for its private parts.
 use Rattle.std.specs.Prelude.{ℕ, List, take}
 use Rattle.othello_board.specs.declared.boards.Board.{Board}
 use Rattle.othello_board.specs.Words.{cells}
@@ -7,11 +7,11 @@ use Rattle.jamboree_rules.specs.othello_eval.declared.bound.Bound.{Bound}
 use Rattle.jamboree.specs.declared.reply.Reply.{Reply}
 use Rattle.jamboree.specs.Knowledge.{bounds_by}
 
--- the board that a reply is to
+-- the board of the search that a reply answers
 abbrev pub board_of : Reply → Board
 board_of reply = reply.board
 
--- the depth that a reply is to
+-- the depth (in plies) of the search that a reply answers
 abbrev pub depth_of : Reply → ℕ
 depth_of reply = reply.depth
 

@@ -1,4 +1,4 @@
--- Representation: the typed view of a frame's words: which frame it stands for.
+-- Representation: the typed view of the words of a search's frame: which frame it stands for.
 use Rattle.std.specs.Prelude.{ℕ, zero, suc, ◌*◌, List, [], map, drop, take, slice_index}
 use Rattle.jamboree.specs.declared.view.Head.{Head}
 use Rattle.jamboree.specs.declared.frame.FrameView.{FrameView}

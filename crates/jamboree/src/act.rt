@@ -1,4 +1,5 @@
-//! The act of a plan, and the inlet of a plan of one.
+//! The act that a frame's plan stands for, and the act of an inlet that an inlet's plan stands for. What the search
+//! procedure returns is made here, at its end.
 ghost use Rattle.std.specs.Prelude.{◌≡◌, ◌≤◌, ◌++◌, ◌∷◌, [], length};
 ghost use Rattle.jamboree_rules.specs.Places.{OwnBits, OppBits, Status as ToStatus, pairs_of};
 ghost use Rattle.jamboree.specs.Numbers.{status_number};
@@ -134,7 +135,8 @@ impl ChildBound {
 }
 
 impl Verdict {
-    /// The stores on the frame's words by which the verdict is carried out.
+    /// What an inlet stores in the words of its frame for this verdict on a child's score: that the choice is settled,
+    /// and perhaps that the frame goes on to its tests or is done; or that the test has failed; or nothing.
     #[inline(always)]
     fn stores(self) -> Stores
         ensures { result ≡ stores_for self }

@@ -1,4 +1,4 @@
-//! Choices as words: 0 to 63 a square, 64 a pass, 65 none.
+//! Choices as words of a search's frame: 0 to 63 a square, 64 a pass, 65 none.
 ghost use Rattle.std.specs.Prelude.{◌≡◌, ◌<◌, length, slice_index_or};
 ghost use Rattle.othello_board.specs.Words.{cells};
 ghost use Rattle.othello_moves.specs.declared.choices.Choice.TheVariants.{Pass};
@@ -12,7 +12,7 @@ use othello_moves::{Choice, choice};
 /// The code that stands for no choice.
 pub(crate) const NONE: u64 = 65;
 
-/// The code of a choice.
+/// The word for a choice: 0 to 63 a square, 64 a pass.
 pub(crate) fn code_of(choice: Choice) -> u64
     ensures { result ≡ code_of choice }
 {

@@ -1,4 +1,4 @@
-//! The entry of a choice in a frame's words: how the choice stands, and what is known of it.
+//! The entry of a choice in the words of a search's frame: how the choice stands, and what is known of its value.
 //!
 //! An entry is one word, `status + 8 * kind + 32 * word(score)`: the kind is 1 low, 2 high and 3
 //! exact, and 0 where nothing is known, and then the score's part is 0 too. What stands above the
@@ -68,7 +68,8 @@ impl PackedBound {
         status.number() + 8 * self.word
     }
 
-    /// Whether it is valid: 0, or a kind with a score from -200,000 to 200,000.
+    /// Whether this word is one that an entry may have beside its status: 0, or a kind with a score from -200,000 to
+    /// 200,000.
     fn is_rest(self) -> bool
         ensures { result ≡ is_rest self.word }
     {
@@ -104,7 +105,7 @@ fn kind_of_number(number: u64) -> BoundKind
     }
 }
 
-/// Whether the entry has this status.
+/// Whether the choice's entry says that the choice has this status.
 #[inline(always)]
 pub(crate) fn is_entry_of(entry: u64, status: Status) -> bool
     ensures { result ≡ (status_of entry == status_number status) }

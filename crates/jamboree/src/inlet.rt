@@ -1,4 +1,4 @@
-//! What a frame does about a child that has returned.
+//! What a frame of the search does about a child that has returned: by the child's score and role.
 ghost use Rattle.std.specs.Prelude.{◌≡◌, ◌≢◌, ◌<◌, ◌≤◌, ◌≤ℤ◌, ◌<ℤ◌, neg_ℤ, pos, negsuc, Bool, true, false, length};
 ghost use Rattle.std.specs.Int.{int_max};
 ghost use Rattle.othello_board.specs.Words.{cells};

@@ -1,4 +1,5 @@
-//! What an inlet does, as a small value: the inlet's act, which is large, is made of it once, at the end.
+//! What an inlet (a frame's taking in of a returned child) does in the search, as a small value: the inlet's act, which
+//! is large, is made of it once, at the end.
 ghost use Rattle.std.specs.Prelude.{◌≤◌, ◌≤ℤ◌, pos, negsuc};
 
 use crate::entry::KnownBound;

@@ -1,4 +1,4 @@
-//! What a frame does next.
+//! What a frame of the search does next, by its phase.
 ghost use Rattle.std.specs.Prelude.{◌≡◌, ◌≢◌, ◌+◌, ◌<◌, ◌≤◌, ◌≤ℤ◌, pos, negsuc, ◌==◌, ℕ, Bool, true, false, Option, Some, None, List, [], ◌∷◌, length};
 ghost use Rattle.othello_board.specs.Words.{cells};
 ghost use Rattle.othello_moves.specs.Choices.{choices, plies};

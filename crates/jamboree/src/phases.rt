@@ -1,4 +1,4 @@
-//! How far a frame has come, what it is to its parent, and how each of its choices stands.
+//! How far a frame of the search has come, what it is to its parent, and how each of its choices stands.
 ghost use Rattle.std.specs.Prelude.{◌≡◌, ◌≤◌};
 ghost use Rattle.jamboree.specs.Numbers.{phase_number, role_number, status_number};
 
@@ -18,7 +18,7 @@ pub(crate) enum Phase {
 }
 
 impl Phase {
-    /// The phase of this number, 0 to 4.
+    /// The phase of a frame that this number (0 to 4) stands for.
     pub(crate) fn of(number: u64) -> Phase
         requires { number ≤ 4 }
         ensures { phase_number result ≡ number }
@@ -60,7 +60,7 @@ pub(crate) enum Role {
 }
 
 impl Role {
-    /// The role of this number, 0 to 3.
+    /// The role of a frame that this number (0 to 3) stands for.
     pub(crate) fn of(number: u64) -> Role
         requires { number ≤ 3 }
         ensures { role_number result ≡ number }

@@ -1,4 +1,4 @@
-//! What a frame does next, as a small value.
+//! What a frame of the search does next, as a small value.
 //!
 //! An act is a large value. So the functions that decide return a plan, and the act is made of the plan once, at the
 //! end.

@@ -1,4 +1,4 @@
-//! The search procedure.
+//! The search as a procedure of the core: the five functions that say what a frame does, and when frames are right.
 ghost use Rattle.std.specs.Prelude.{◌≡◌, ◌≤◌, ◌+◌, ◌↔◌, ◌==◌, ◌&&◌, true, ◌∷◌, IsSome, IfSome, Some, None, List, [], ℕ, length, nat_lt, if◌then◌else◌};
 ghost use Rattle.othello_board.specs.Words.{cells};
 ghost use Rattle.othello_moves.specs.Choices.{choices};

@@ -1,4 +1,4 @@
-//! Replies, read and shown.
+//! Replies to searches: read from a job's words, and shown.
 ghost use Rattle.std.specs.Prelude.{◌≡◌, ◌≤◌, ◌<◌, ◌↔◌, true, Some, IsSome, IfSome, length, map, slice_get, slice_index, take};
 ghost use Rattle.othello_moves.specs.Depths.{greatest_depth};
 ghost use Rattle.jamboree_rules.specs.Places.{frame_of, entry_rest, are_entries};
@@ -78,7 +78,7 @@ impl Reply {
         self.board
     }
 
-    /// The depth, 0 to 12 plies.
+    /// The depth to which the position was searched, 0 to 12 plies.
     pub fn depth(&self) -> u8
         ensures value { result ≡ depth_of self.now }
         ensures shallow { result ≤ greatest_depth }

@@ -1,4 +1,4 @@
-//! The reply to a job.
+//! The reply to a job that is a search: value, choice, and the table of bounds.
 ghost use Rattle.std.specs.Prelude.{◌≡◌, ◌≤◌, length, take};
 ghost use Rattle.std.proofs.Props.{props};
 ghost use Rattle.othello_board.specs.Words.{cells};

@@ -1,4 +1,4 @@
-//! Scores as words: a score is stored as the score plus 1,000,000.
+//! Scores as words of a search's frame: a score is stored as the score plus 1,000,000.
 ghost use Rattle.std.specs.Prelude.{◌≡◌, ◌≤◌, ◌≤ℤ◌, pos, negsuc};
 ghost use Rattle.jamboree_rules.specs.Places.{score_of, word_of};
 

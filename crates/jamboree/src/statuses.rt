@@ -1,4 +1,4 @@
-//! How the choices of a frame stand: the entries after its first twelve words, segment by segment.
+//! How the choices of a search's frame stand: the entries after its first twelve words, segment (16 words) by segment.
 ghost use Rattle.std.specs.Prelude.{◌≡◌, ◌≤◌, ◌==◌, ◌&&◌, nat_lt, drop, length, map, slice_index};
 ghost use Rattle.jamboree_rules.specs.Frames.{status_failed};
 ghost use Rattle.jamboree_rules.specs.Places.{status_of, are_entries, frame_size};

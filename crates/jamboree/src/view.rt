@@ -1,4 +1,4 @@
-//! A frame's words as a typed view, and stores by what they set: nothing else knows places.
+//! The words of a search's frame as a typed view, and stores by what they set: nothing else knows places.
 //!
 //! The words of a frame and what they stand for are in `specs/Places.antt` of `jamboree_rules`.
 //! [`is_formed`] tests exactly whether words have the form of a frame, in place, and [`view`] reads the
@@ -48,7 +48,7 @@ struct Head {
     spawned: u64,
 }
 
-/// The word at a place, and 0 where there is none.
+/// The word at a place in a frame's words, counted from 0; 0 where there is none.
 fn word(words: &[u64], place: usize) -> u64
     ensures { result ≡ slice_index words.now place }
 {
@@ -277,7 +277,7 @@ pub(crate) fn view(words: &Words) -> FrameView
     read_head(words).view(count)
 }
 
-/// An empty board to depth 0.
+/// The leaf that stands for none: an empty board to depth 0.
 fn empty_leaf() -> Leaf
     ensures { result ≡ any_leaf }
 {

@@ -1,4 +1,5 @@
--- A frame of a search takes at most one Answer: each answers a frame that was opened, and makes it one that is never computed again.
+-- A frame of a search gets at most one Answer from a worker: each answers a frame that was opened, and makes it one
+-- that is never computed again.
 use Rattle.jamboree_core.proofs.Common.{Quota, ◌≡◌, ℕ, ◌+◌, ◌≤◌, inl, inr, Bool, List, [], ◌∷◌, ◌++◌, Option, Some, None, Result, Ok, Err, refl, ap, ◌∙◌, arith, nat_le, if◌then◌else◌, not-false, nat_tests, Running, FrameId, frame_at, found-serial, padded, Refusal, StepOf, Admit, Answer, Tree, Tenant, admitted_with, with_frame_words, stored, Outcome, unless, lone_step, answer_tests, answered, is_computed_by, state_after, alone_from, IsShaped, TenantFits, submits, frame-found, unless-passed, came, step-shaped, admitted-shaped, step-fits, Leaf, AreFitting, IsRoot, jamboree, LeafAnswer, phase_computing, frame_of, accepts, AreSearches, StaysTaken, AreTakenFrom, IsJournalOf, computes-marked, Computes, frame_at-with_frame_words, tree-with_frame_words, frame_by, Weight, Frame}
 use Rattle.jamboree_core.proofs.Replying.{search-fits, lawful}
 use Rattle.jamboree_core.proofs.Moves.{by-moves, by-inlet, by-answer}

@@ -1,4 +1,4 @@
--- The names that the proofs take of the library, of the crates below and of this crate's definitions, from one place.
+-- The names that the proofs of searches on a core use, imported in one place.
 pub use Rattle.std.proofs.Common.{bit_and, negsuc, length-append, ⊎_elim}
 pub use Rattle.std.proofs.lemmas.Int.{ints, clamps}
 pub use Rattle.std.proofs.lemmas.List.{get_or-set_other, get_or-set_same, get_or-map, length-replicate, length-map}

@@ -1,4 +1,5 @@
--- Frames have places for the choices of their boards, and each choice that is searched has a child, whatever the order of steps.
+-- The frames of searches have places for the choices of their boards, and each choice that is searched has a child,
+-- whatever the order of steps.
 use Rattle.jamboree_core.proofs.Common.{◌≡◌, ◌≢◌, ◌⊎◌, inl, inr, ℕ, Bool, true, false, List, [], ◌∷◌, ◌++◌, length, refl, sym, ◌∙◌, ◌+◌, ◌<◌, ◌≤◌, ◌==◌, arith, int_le, int_lt, slice_index, slice_set, padded, stored, grown, Continuation, Spawn, Neither, ParentFits, Lists, next_act, seen, AreFitting, IsRoot, jamboree, frame_of, floor, next-keeps, inlet-keeps, accept-keeps, IsLawful, Mark, Tenant, TenantFits, board, neg_ℤ, common_steps, AllFit, NextKeeps, InletKeeps, AcceptKeeps, NewChildFits, children_after, children_left, choices, role_root, phase_first, phase_tests, status_settled, status_failed, IsChildOf, how_many, formed-told, IsInSearch, set-there, set-beside, frames, in-search, with_place, StandsUnder, frame_by, frame_after, kin-of, inlet-stores, test-told, next-goes, answer-good, answered_frame, cases_eq, Frame}
 use Rattle.jamboree_core.proofs.Moves.{by-moves, by-inlet, by-answer}
 

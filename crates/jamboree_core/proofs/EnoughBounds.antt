@@ -1,4 +1,5 @@
--- What suffices by the empty squares and the opposing discs of a position meets the inequality of each frame, and how it is computed.
+-- What suffices for a search, by the empty squares and the opposing discs of its position: it meets the inequality of
+-- each frame; and how it is computed.
 use Rattle.jamboree_core.proofs.Common.{◌≡◌, ℕ, inl, inr, Bool, true, false, List, [], ◌∷◌, length, refl, ap, subst, ◌∙◌, ◌+◌, ◌-◌, ◌<◌, ◌≤◌, arith, cases_Bool, replicate, Cell, zero, suc, ◌*◌, slice_index_or, map, if◌then◌else◌, ne_eqb, get_or-map, All-get_or, All-from_get_or, sum_by-le, is_nil, exchanged, played, Choice, Square, Pass, IsAllowed, choices, legal_squares, empty_squares, opposing_discs, after, plies, choices_allowed, legal-empty, legal-opposing, few-choices, exchanged-empty, board-parts, played-fewer, charge, Cost, choice_of, search_cost, later_cost, later_costs, first_costs, choice_costs, IsEnough, enough_nodes, Size, choice_sizes, IsRoomy, enough_segments, most_choices, choices_within, spawning_plies, search_nodes, search_segments, board_nodes, board_segments, length-map, mul-le, Option, Some, None, sym, Quota, cells_of, ◌≢◌, ◌^◌, ◌↔◌, min, max, count_by, IsSome, IfSome, cases_lt, IsWithinLimits, is_own_cell, is_opp_cell, count-squares, count-own}
 
 -- ---- the choices of a board

@@ -1,4 +1,5 @@
--- Journals: what a tenant of searches comes to by its own taken steps, and how a journal grows.
+-- Tenants' journals (lists of taken steps): what a tenant of searches comes to by its own taken steps, and how a
+-- journal grows.
 use Rattle.jamboree_core.proofs.Common.{◌≡◌, ◌≢◌, ℕ, List, [], ◌∷◌, ◌++◌, Option, Some, None, Result, Ok, Err, refl, ap, sym, ◌∙◌, subst, append_assoc, append-nil, arith, Quota, Refusal, NoTenant, StepOf, DidOf, Admit, Functions, Tenant, admitted_with, Outcome, lone, tenant_of, state_after, alone_from, CoreState, tenant_in, shared_with, AreNumbersGiven, IsOneStep, tenant_in-with_outcome, tenant_in-other-with_outcome, step-taken, shared-after-taken, submits, origins_of, LeftShaped, lone-shaped, LeftFits, step-fits, Leaf, LeafAnswer, AreFitting, IsRoot, jamboree, IsSearch, AreSearches, TenantSearches, StaysTaken, AreTakenFrom, IsJournalOf, Fitting, IsLawful, RootFits}
 use Rattle.jamboree_core.proofs.Replying.{search-fits, lawful}
 use Rattle.jamboree_core.proofs.Serving.{searches-asked}

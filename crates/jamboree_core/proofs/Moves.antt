@@ -1,4 +1,4 @@
--- What the next act, an inlet and an answer leave of a frame that fits, case by case, as frames.
+-- What the next act, an inlet and an answer leave of a right frame of a search, case by case, as frames.
 use Rattle.jamboree_core.proofs.Common.{◌≡◌, ◌≢◌, ℕ, Bool, List, [], ◌∷◌, ◌++◌, length, refl, sym, subst, ◌+◌, ◌<◌, ◌≤◌, arith, slice_index, neg_ℤ, stored, grown, cells_of, Continuation, Grow, Wait, Compute, Return, Neither, Computes, HasReturned, Lists, next_act, inlet_act, accepts, seen, int_le, AreFitting, LeafAnswer, Change, OwnBits, OppBits, Phase, Spawned, Status, frame_of, floor, rest_at, pos, ◌+ℤ◌, choices, InletAct, spawns, IsFormed, formed-told, frame-stored, written, AreSafe, changed_by, opened_frame, rest-there, opened-is, with_place, StandsUnder, IsBoardOf, frame_after, inlet-is, inlet-stores, by-acts, answer-good, accepts-is, answered_frame, Frame}
 
 -- P holds of what each next act of frame f, under what is above it, may leave: the frame, and how it goes on

@@ -1,4 +1,4 @@
--- What a search may still open is used up by its steps, whatever their order.
+-- What a search may still open (its later frames) is used up by its steps, whatever their order.
 use Rattle.jamboree_core.proofs.Common.{◌≡◌, ◌≢◌, ℕ, inl, inr, Bool, true, false, List, [], ◌∷◌, ◌++◌, Option, Some, length, refl, ap, ◌∙◌, ◌+◌, ◌-◌, ◌<◌, ◌≤◌, ◌==◌, ◌⊎◌, arith, slice_index, slice_set, neg_ℤ, int_le, int_lt, ints, stored, grown, Cell, cells_of, Continuation, Neither, HasReturned, Lists, next_act, inlet_act, seen, AreFitting, IsRoot, jamboree, frame_of, board, floor, zero, suc, ℤ, pos, ◌+ℤ◌, ◌<ℤ◌, ◌≤ℤ◌, int_eq, clamps, ne_eqb, ⊎_elim, choices, after, plies, spawns, choice_at, least, IsFirst, IsTest, IsAgain, IsChildOf, IsSearchingFrame, IsFormed, formed-told, new_child, new_words, child-frame, frames, in-search, with_place, StandsUnder, IsBoardOf, frame_by, frame_after, kin-of, inlet-stores, test-told, other-told, not-le-told, Cost, search_cost, again_cost, later_cost, later_costs, first_costs, choice_costs, IsEnough, is_narrow, new_cost, frame_cost, still_opens, Frame}
 use Rattle.jamboree_core.proofs.Weights.{nearest_words, Pays, KeepsChildren, UsesUp}
 use Rattle.jamboree_core.proofs.Moves.{by-moves, by-inlet, by-answer}

@@ -1,4 +1,4 @@
--- A done job kept a returned root, which holds what it was asked.
+-- A job of a search that is done kept a returned root, which holds the answer to what it was asked.
 use Rattle.jamboree_core.proofs.Common.{◌≡◌, ℕ, List, [], ◌∷◌, Some, Result, refl, sym, ◌∙◌, subst, arith, Quota, F, Job, Live, Done, Spent as SpentJob, Cancelled as CancelledJob, Refusal, StepOf, Submit, DidOf, Tree, Tenant, kept_words, HasReturned, mark_of_state, EachFits, only, shared_by_nobody, tenant_in, AreAnswersTo, after_answers, taken_steps, JobsFit, TenantFits, submits, RootFits, RootsFit, origins_of, IsLawful, run-fits, nobody-fits, Leaf, LeafAnswer, cells_of, Bound, IsTable, board, frame_of, bounds_of, AreFitting, IsRoot, jamboree, next-keeps, inlet-keeps, fits_sound, accept-keeps, root_fits, root_value, root-whole, root-kept, AreAllRootWords, IsSearch, AreSearches, IsReplyTo, AreReplies, AreAllSound, Frame, negsuc, ap, All-from_recursion, Cell, squares, squares_beside, Square, in_order, weights, minimax, best_choice, IsTrueBound, IsExactIfBest, equal_moves, apart, coded, asked, kept}
 
 -- the new root of a search fits, and belongs to a board and a depth

@@ -1,4 +1,4 @@
--- What all frames of searches are charged is within the sizes of their roots.
+-- What all frames of a tenant's searches are charged is within the sizes of their roots.
 use Rattle.jamboree_core.proofs.Common.{◌≡◌, ◌≢◌, ℕ, inl, inr, true, if◌then◌else◌, List, [], ◌∷◌, Option, Some, None, length, refl, ap, sym, ◌∙◌, ◌+◌, ◌-◌, ◌<◌, ◌≤◌, arith, cases_Bool, eq-eqb, filter, frame_at, parent_of, values_of, found-serial, tree-rising, is_that, kids, fits-holds, words-found, IsShaped, Lists, F, Tree, Tenant, board, frame_of, IsRoot, Mark, ParentFits, zero, suc, ◌*◌, sum_by, slice_index_or, ne_eqb, common_steps, sum_by-le-sum_by, Choice, Pass, choices, after, plies, charge, charged_for, is_child_of, children-by-paths, found-each, found-own, choice_at, AreChildren, IsInRole, how_many, IsFormed, formed-told, frames, status-count, kin-of, parent_words, weight_among, weight_in, Size, choice_sizes, IsRoomy, frame_size_of, root_weight, cases_eq, sum_by-cons, mul-le, Frame}
 use Rattle.jamboree_core.proofs.Counts.{AreCounted, TenantCounts}
 use Rattle.jamboree_core.proofs.Needs.{none-left}

@@ -1,4 +1,4 @@
--- Cores of searches: what follows from each frame fitting and each job holding what it was asked.
+-- Cores of searches: what follows from each frame being right and each job holding what it was asked.
 use Rattle.jamboree_core.proofs.Common.{◌≡◌, ℕ, true, List, [], ◌∷◌, ◌++◌, Option, Some, None, Result, Ok, Err, refl, arith, is_ok, OnOk, Quota, Refusal, StepOf, DidOf, Tenant, only, CoreState, shared_by_nobody, tenant_in, AreNumbersGiven, IsHeadline, taken_steps, tenant_in-new, CoreFits, RootsFit, submits, origins_of, origins_after, nobody-fits, Leaf, LeafAnswer, AreFitting, IsRoot, jamboree, IsSearch, AreSearches, AreReplies, AreAllSound, AreAllRootWords, TenantSearches, ServesSearches, CoreSearches, HoldsReplies, submitted_to, IsHeadlineInFull, IsHeadlineFromNew, submitted_by, ap, sym, ◌∙◌, ◌-◌, option_and_then, Job, Live, Done, Spent as SpentJob, Cancelled as CancelledJob, Tree, job_at, job_of, JobsFit, JobFits, HoldsReply, Reply, table_of, Pending, IsJournalOf, origin_at, IsOfSearch, IsOutcomeOf, IsOutcomeIn, IsTo, AnswersTo}
 use Rattle.jamboree_core.proofs.Replying.{replies-held, all-sound, search-parts, searches-fit}
 use Rattle.jamboree_core.specs.declared.outcomes.Outcome.{Outcome}

@@ -1,4 +1,5 @@
--- What a procedure's frames weigh stays within what was reserved, whatever the order of the steps.
+-- The weight of a frame (what it may still take: nodes, segments or steps): for any procedure, what all frames weigh
+-- stays within what was reserved, whatever the order of the steps.
 use Rattle.jamboree_core.proofs.Common.{Act, AreSerialsRising, Bool, Compute, Computes, Computing, Continuation, Each, Fitting, FrameId, Functions, Go, Grow, HasReturned, Mark, IsShaped, IsTree, List, Neither, None, Ok, Option, ParentFits, Ready, Return, Returned, Rooting, Running, Some, Spawn, State, StepOf, Submit, Tenant, TenantFits, Tree, Wait, [], aborted, aborted-itself, above-missing, act_by_sight, advance_tests, advanced, answer_tests, answered, ap, arith, cases_Bool, children_of, counted, does_wait, eq-eqb, eqb, eqb-true, false, false≢true, filter, filter-found, finished, found-each, found-serial, found-there, frame_at, frame_at-left, frame_words, frames_without, goes_under, grown, has_child, has_frame, holding, in_state, inl, inlet_tests, inr, is_child_of, is_computed_by, is_ready, is_returned, is_run_by, is_that, lone_step, mark_of_state, named-under, new_frame, not, not-false, opened, padded, parent_of, parent_of-path_under, placed, refl, replicate, root_of, sight, staying, stored, submitted, subst, sum_by-append, sym, taken_in, then_done, there-found, tree-aborted, tree-rising, tree-with_state, tree-without, tree-without_job, true, under-there, values_of, with_frame_words, with_state, without_job, words_in, ℕ, ◌&&◌, ◌*◌, ◌++◌, ◌+◌, ◌-◌, ◌||◌, ◌∙◌, ◌∷◌, ◌≡◌, ◌≢◌, ◌≤◌, ◌⊎◌, Lists, found-same, found-own, among-kids, frame_at-with_frame_words, tree-with_frame_words, with_frame_words-missing, children_of-with_frame_words, words-found, words-other, words-own, words-with_state, with_frame_words-twice, sight-top, sight-under, sight-head, has-one, parent-neither, kept-above, has-origin, fits-marked, computes-marked, has-returned, has_child-with_frame_words, AllPass, by-effects, run-free, returned-marked, returned-childless, staying-parent, sum_by, taken_by, child-under-parent, turns_in, Weight, parent_words, weight_among, weight_in, IsPaid, IsStillPaid, IsPaidToo, Outcome, Quota, and_parts, cases_eq, has_one, is_lower, is_spawn, left, sum_by-cons, F, kids, Waiting}
 
 -- the parent's words, from what a frame sees above itself

@@ -1,4 +1,5 @@
--- Meaning: what suffices for a search, by the empty squares and the opposing discs of its position.
+-- Meaning: what suffices for a search (segments and nodes), by the empty squares and the opposing discs of its
+-- position.
 use Rattle.std.specs.Prelude.{◌≡◌, ℕ, zero, suc, ◌+◌, ◌*◌, ◌-◌, ◌≤◌, min, max, List, [], ◌∷◌, Option, Some, slice_index}
 use Rattle.sched_rules.specs.cactus_stack.Nodes.{charge}
 use Rattle.othello_board.specs.declared.cells.Cell.{Cell}
@@ -12,11 +13,13 @@ use Rattle.sched_rules.specs.Runs.{state_after}
 use Rattle.jamboree_rules.specs.declared.leaf.LeafAnswer.{LeafAnswer}
 use Rattle.jamboree_rules.specs.Procedure.{jamboree}
 
--- the most choices of a board with so many empty squares: each is one of these, and no board has more than 56
+-- a bound of the choices of a board with so many empty squares: each choice is one of these squares, and no board has
+-- more than 56
 abbrev pub most_choices : ℕ → ℕ
 most_choices empty = min empty 56
 
--- the same where the opposing discs are known too: at most 8 for each, or for each of the mover's, where it passes
+-- the most choices of a board by its empty squares and its opposing discs: at most 8 for each opposing disc, or for
+-- each of the mover's, where it passes
 abbrev pub choices_within : ℕ → ℕ → ℕ
 choices_within empty opposing = min (most_choices empty) (8 * max opposing (64 - empty - opposing))
 
@@ -30,8 +33,9 @@ abbrev pub search_nodes : ℕ → ℕ → ℕ → ℕ
 search_nodes choices empty zero = 1
 search_nodes choices empty (suc plies) = 2 + (2 * choices - 1) * search_nodes (most_choices (empty - 1)) (empty - 1) plies
 
--- the segments that it takes at the same time: 12 words and one for each choice, by 16, one segment more where it passes, and one search of
--- each choice
+-- the segments that a search takes at the same time, where it has so many choices at first, empty squares and plies that
+-- open frames: those of its frame (12 words and one for each choice, 16 words to a segment), one segment more where it
+-- passes, and those of one search of each choice
 abbrev pub search_segments : ℕ → ℕ → ℕ → ℕ
 search_segments choices empty zero = 1
 search_segments choices empty (suc plies) = 1 + (charge (12 + choices) + choices * search_segments (most_choices (empty - 1)) (empty - 1) plies)
@@ -40,15 +44,15 @@ search_segments choices empty (suc plies) = 1 + (charge (12 + choices) + choices
 abbrev pub sufficing_nodes : ℕ → ℕ → ℕ → ℕ → ℕ
 sufficing_nodes depth grain empty opposing = search_nodes (choices_within empty opposing) empty (spawning_plies depth grain)
 
--- the segments that suffice for it
+-- the segments that suffice for a search, by depth, grain, empty squares and opposing discs
 abbrev pub sufficing_segments : ℕ → ℕ → ℕ → ℕ → ℕ
 sufficing_segments depth grain empty opposing = search_segments (choices_within empty opposing) empty (spawning_plies depth grain)
 
--- the nodes that suffice for a board
+-- the nodes that suffice for a search of this board, by depth and grain
 abbrev pub board_nodes : ℕ → ℕ → List Cell → ℕ
 board_nodes depth grain b = sufficing_nodes depth grain (empty_squares b) (opposing_discs b)
 
--- the segments that suffice for a board
+-- the segments that suffice for a search of this board, by depth and grain
 abbrev pub board_segments : ℕ → ℕ → List Cell → ℕ
 board_segments depth grain b = sufficing_segments depth grain (empty_squares b) (opposing_discs b)
 
@@ -63,7 +67,8 @@ abbrev pub FindsEnough : ℕ → Option Tenant → StepOf LeafAnswer → Type 0
 FindsEnough grain (Some tenant) (Submit number words size) = HasEnough grain tenant (slice_index words 2) (cells_of (slice_index words 0) (slice_index words 1))
 FindsEnough grain _ _ = Unit {0}
 
--- so does each step of a list, one after the other, where the tenant was in this state before the first
+-- at each step of a list that submits a search its tenant has enough for it, where the tenant was in this state before
+-- the first
 abbrev pub EachFindsEnough : ℕ → Option Tenant → List (StepOf LeafAnswer) → Type 0
 EachFindsEnough grain before [] = Unit {0}
 EachFindsEnough grain before (step ∷ steps) = FindsEnough grain before step × EachFindsEnough grain (state_after before (lone (jamboree grain) before step)) steps

@@ -12,7 +12,8 @@ use Rattle.jamboree_core.specs.Weights.{IsPaid, IsStillPaid, IsPaidToo}
 use Rattle.jamboree_rules.specs.Frames.{Frame, phase_new, phase_first, phase_tests, status_not_spawned, status_runs, status_failed, board, choice_at}
 use Rattle.jamboree_rules.specs.Places.{frame_of}
 
--- a bound of the frames that a frame opens under it, by its depth, whether its window has width one, and its board
+-- a cost: a bound of the frames that a frame of the search opens under it, by its depth, whether its window has width
+-- one, and its board
 abbrev pub Cost : Type 0
 Cost = ℕ → Bool → List Cell → ℕ
 
@@ -66,7 +67,7 @@ root_cost cost depth narrow b = if depth == 0 then 0 else choice_costs cost dept
 abbrev pub enough_nodes : Cost → ℕ → List Cell → ℕ
 enough_nodes cost depth b = suc (root_cost cost depth false b)
 
--- whether a frame's window has width one
+-- whether a frame's window (alpha, beta) has width one, as a test's has
 abbrev pub is_narrow : Frame → Bool
 is_narrow f = int_eq f.beta (f.alpha +ℤ pos 1)
 
@@ -75,7 +76,8 @@ abbrev pub new_cost : Cost → Frame → Option (List ℕ) → ℕ
 new_cost cost f None = root_cost cost f.depth (is_narrow f) (board f)
 new_cost cost f (Some parent) = cost f.depth (is_narrow f) (after (board (frame_of parent)) (choice_at (frame_of parent) f.number))
 
--- the frames that a frame still opens under it, beside those that frames under it open
+-- how many frames a frame of a search still opens under it at most, by this cost; what those that are open under it
+-- still open isn't counted
 abbrev pub frame_cost : Cost → Frame → Option (List ℕ) → ℕ
 frame_cost cost f parent =
     if f.phase == phase_new then new_cost cost f parent
@@ -83,7 +85,7 @@ frame_cost cost f parent =
     else if f.phase == phase_tests then later_costs (later_cost cost f.depth (is_narrow f) (board f)) 0 f.statuses
     else 0
 
--- the same, by the frame's words and its parent's (None for a root)
+-- how many frames a frame of a search may still open (`frame_cost`), by its words and its parent's (None for a root)
 abbrev pub still_opens : Cost → List ℕ → Option (List ℕ) → ℕ
 still_opens cost own parent = frame_cost cost (frame_of own) parent
 
@@ -91,7 +93,8 @@ still_opens cost own parent = frame_cost cost (frame_of own) parent
 abbrev pub HasNodes : Cost → Tenant → Type 0
 HasNodes cost tenant = IsPaid 1 (still_opens cost) (λ quota. quota.nodes) tenant
 
--- so it is of a tenant, if it is still there
+-- if the tenant is still there: the nodes that it has opened, and those that its frames may still open, are within its
+-- reservation
 abbrev pub StillHasNodes : Cost → Option Tenant → Type 0
 StillHasNodes cost tenant = IsStillPaid 1 (still_opens cost) (λ quota. quota.nodes) tenant
 

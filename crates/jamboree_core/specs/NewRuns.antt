@@ -1,4 +1,5 @@
--- Meaning: what a list of searches comes to from a new core: the headline, every reply, and that every frame is sound.
+-- Meaning: what a list of searches comes to from a new core: the headline (no tenant disturbs another), every reply,
+-- and that every frame is sound.
 use Rattle.std.specs.Prelude.{◌≡◌, ℕ, List, Some, Result}
 use Rattle.tenant_quota.specs.Quota.{Quota}
 use Rattle.sched_rules.specs.declared.refusal.Refusal.{Refusal}

@@ -1,4 +1,5 @@
--- Meaning: how many steps frames still take: sixteen for each node that was opened suffice, whatever their order.
+-- Meaning: how many steps the frames of a search still take: sixteen for each node that was opened suffice, whatever
+-- their order.
 use Rattle.std.specs.Prelude.{ℕ, ◌+◌, ◌*◌, ◌≤◌, List, sum_by}
 use Rattle.frame_table.specs.declared.names.State.{State}
 use Rattle.frame_table.specs.declared.names.State.TheVariants.{Ready, Running, Computing, Waiting, Returned}
@@ -14,7 +15,8 @@ turns_in (Computing worker) = 6
 turns_in Waiting = 4
 turns_in Returned = 3
 
--- the same of a frame, and those that its words ask for beside (extra)
+-- the steps that a frame still takes until it is gone: those for its state, and those that its words ask for beside
+-- (`extra`)
 abbrev pub turns_of : (List ℕ → ℕ) → Frame (List ℕ) → ℕ
 turns_of extra frame = turns_in frame.state + extra frame.value
 

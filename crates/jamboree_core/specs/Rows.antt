@@ -19,15 +19,16 @@ asked = 34628173824 ∷ 68853694464 ∷ 1 ∷ 800000 ∷ 1200000 ∷ 0 ∷ 0 ∷
 abbrev pub kept_with : ℕ → ℕ → ℕ → ℕ → List ℕ
 kept_with d3 depth value choice = 34628173824 ∷ 68853694464 ∷ depth ∷ 800000 ∷ 1200000 ∷ 0 ∷ 0 ∷ 4 ∷ value ∷ choice ∷ 4 ∷ 4 ∷ d3 ∷ entry 2 1 999997 ∷ entry 2 1 999997 ∷ entry 2 1 999997 ∷ []
 
--- what a job keeps of that root where d3 is worth exactly -3
+-- the words that a job keeps of the root of the opening, where d3 is worth exactly -3, with this depth, this word of
+-- the value and this code of the choice
 abbrev pub kept : ℕ → ℕ → ℕ → List ℕ
 kept depth value choice = kept_with (entry 2 3 999997) depth value choice
 
--- 4 segments and 8 nodes
+-- a reservation of 4 segments and 8 nodes
 abbrev pub few : Quota
 few = record { segments = 4; nodes = 8 }
 
--- the tenant's Admit, and then these steps
+-- tenant 1's Admit with the reservation `few`, and then these steps
 abbrev pub admitted_then : List (StepOf LeafAnswer) → List (StepOf LeafAnswer)
 admitted_then steps = Admit 1 few ∷ steps
 
@@ -35,6 +36,6 @@ admitted_then steps = Admit 1 few ∷ steps
 abbrev pub submit_of : ℕ → StepOf LeafAnswer
 submit_of size = Submit 1 asked size
 
--- the tenant after its first Submit
+-- tenant 1 after its first Submit: one live job, whose root is frame 1
 abbrev pub asked_once : Tenant
 asked_once = record { reserve = few; serials = 1; steps = 0; jobs = Live 1 ∷ []; frames = (record { serial = 1; path = 1 ∷ []; state = Ready 0; value = padded asked 12 }) ∷ [] }

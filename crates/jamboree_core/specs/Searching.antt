@@ -1,4 +1,5 @@
--- Meaning: cores whose jobs are searches, and what they have come to: the headline in full.
+-- Meaning: cores whose jobs are searches, and what they have come to: the headline (no tenant disturbs another) in
+-- full.
 use Rattle.std.specs.Prelude.{◌≡◌, ℕ, ◌-◌, ◌==◌, List, [], ◌∷◌, ◌++◌, Option, Some, None, Result, if◌then◌else◌}
 use Rattle.sched_rules.specs.declared.refusal.Refusal.{Refusal}
 use Rattle.sched_rules.specs.declared.step.StepOf.{StepOf}

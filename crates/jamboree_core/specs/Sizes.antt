@@ -10,7 +10,8 @@ use Rattle.jamboree_core.specs.Weights.{IsPaid, IsStillPaid, IsPaidToo}
 use Rattle.jamboree_rules.specs.Frames.{board, choice_at}
 use Rattle.jamboree_rules.specs.Places.{frame_of}
 
--- a bound of the segments that a frame and all frames under it take at the same time, by its depth and its board
+-- a size: a bound of the segments that a frame of the search and all frames under it take at the same time, by the
+-- frame's depth and its board
 abbrev pub Size : Type 0
 Size = ℕ → List Cell → ℕ
 
@@ -46,7 +47,7 @@ root_weight size own (Some parent) = 0
 abbrev pub HasSegments : Size → Tenant → Type 0
 HasSegments size tenant = IsPaid 0 (root_weight size) (λ quota. quota.segments) tenant
 
--- so it is of a tenant, if it is still there
+-- if the tenant is still there: the sizes of all its searches that live are within the segments of its reservation
 abbrev pub StillHasSegments : Size → Option Tenant → Type 0
 StillHasSegments size tenant = IsStillPaid 0 (root_weight size) (λ quota. quota.segments) tenant
 

@@ -1,4 +1,5 @@
--- Meaning: what makes sixteen steps a node suffice: a frame waits only for a child, as each choice that is searched has one.
+-- Meaning: what makes sixteen steps a node suffice for a search: a frame waits only for a child, as each choice that
+-- is searched has one.
 use Rattle.std.specs.Prelude.{ℕ, ◌==◌, List, if◌then◌else◌}
 use Rattle.jamboree_rules.specs.Frames.{phase_new}
 use Rattle.jamboree_rules.specs.Places.{frame_of}

@@ -1,4 +1,5 @@
--- Meaning: what frames may still open: a weight of each, which its steps use up, so that what is reserved is seen to suffice.
+-- Meaning: what a search's frames may still open: a weight of each, which its steps use up, so that what is reserved
+-- is seen to suffice.
 use Rattle.std.specs.Prelude.{ℕ, ◌+◌, ◌*◌, ◌≤◌, List, Option, Some, None, sum_by}
 use Rattle.tenant_quota.specs.Quota.{Quota}
 use Rattle.sched_rules.specs.cactus_stack.Nodes.{padded}
@@ -7,16 +8,16 @@ use Rattle.sched_rules.specs.declared.step.StepOf.{StepOf}
 use Rattle.sched_rules.specs.declared.step.StepOf.TheVariants.{Submit}
 use Rattle.sched_rules.specs.Trees.{Tree, Tenant, words_in}
 
--- a weight of a frame, by its words and its parent's (None for a root)
+-- a weight of frames of the search: a number for each frame, given its words and its parent's words (None for a root)
 abbrev pub Weight : Type 0
 Weight = List ℕ → Option (List ℕ) → ℕ
 
--- the words of a parent, if there is one
+-- the words of a frame's parent, if it has one
 abbrev pub parent_words : Tree → Option ℕ → Option (List ℕ)
 parent_words tree None = None
 parent_words tree (Some parent) = Some (words_in tree parent)
 
--- the weight of a frame of a tree
+-- the weight of a frame of a tree, by its words and its parent's in the tree
 abbrev pub weight_among : Weight → Tree → Frame (List ℕ) → ℕ
 weight_among weight tree frame = weight frame.value (parent_words tree (parent_of frame.path))
 
@@ -28,11 +29,13 @@ weight_in weight tree = sum_by (weight_among weight tree) tree
 abbrev pub taken_with : ℕ → Weight → Tenant → ℕ
 taken_with price weight tenant = price * tenant.serials + weight_in weight tenant.frames
 
--- that is within a bound that its reservation sets
+-- the nodes that a tenant has opened, at this price, and what its frames weigh are within a bound that its reservation
+-- sets
 abbrev pub IsPaid : ℕ → Weight → (Quota → ℕ) → Tenant → Type 0
 IsPaid price weight bound tenant = taken_with price weight tenant ≤ bound tenant.reserve
 
--- so it is of a tenant, if it is still there
+-- if the tenant is still there: its opened nodes, at this price, and what its frames weigh are within a bound that its
+-- reservation sets
 abbrev pub IsStillPaid : ℕ → Weight → (Quota → ℕ) → Option Tenant → Type 0
 IsStillPaid price weight bound None = Unit {0}
 IsStillPaid price weight bound (Some tenant) = IsPaid price weight bound tenant

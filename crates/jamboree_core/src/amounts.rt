@@ -1,4 +1,5 @@
-//! What suffices for a search.
+//! What suffices for a search: how many segments and nodes a tenant with no other search must have left, so that this
+//! one is never spent.
 ghost use Rattle.std.specs.Prelude.{◌≡◌, ◌≤◌, ◌-◌, ◌^◌, ◌↔◌, IsSome, IfSome, min};
 ghost use Rattle.othello_board.specs.Words.{cells};
 ghost use Rattle.tenant_quota.specs.Quota.{IsWithinLimits};

@@ -1,4 +1,4 @@
-//! The step that asks for a search.
+//! The step that asks the core for a search.
 ghost use Rattle.std.specs.Prelude.{◌≡◌, ◌≤◌};
 ghost use Rattle.sched_rules.specs.declared.step.StepOf.TheVariants.{Submit};
 ghost use Rattle.jamboree_rules.specs.declared.leaf.LeafAnswer.{LeafAnswer};

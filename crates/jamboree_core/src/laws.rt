@@ -1,4 +1,4 @@
-//! What every list of searches comes to, and what cores and tenants of searches keep and hold.
+//! What every list of searches on a core comes to, and what cores and tenants of searches keep and hold.
 ghost use Rattle.std.specs.Prelude.{◌≡◌, ◌≢◌, ℕ, ◌<◌, List, [], ◌∷◌, ◌++◌, Some, Result, Ok, Err};
 ghost use Rattle.tenant_quota.specs.Quota.{Quota};
 ghost use Rattle.sched_rules.specs.declared.refusal.Refusal.{Refusal};

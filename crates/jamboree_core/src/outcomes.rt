@@ -1,4 +1,4 @@
-//! What has become of a job.
+//! What has become of a tenant's job that is a search.
 ghost use Rattle.std.specs.Prelude.{◌≡◌, ℕ, List, Some};
 ghost use Rattle.sched_rules.specs.Trees.{Tenant};
 ghost use Rattle.sched_rules.specs.Cores.{tenant_in};

@@ -1,4 +1,4 @@
-//! What is reserved suffices, whatever the order of steps.
+//! What a tenant of searches reserved suffices, whatever the order of steps: laws.
 ghost use Rattle.std.specs.Prelude.{◌≡◌, ◌≢◌, ℕ, ◌≤◌, List, [], None, Some, Ok};
 ghost use Rattle.othello_board.specs.declared.cells.Cell.{Cell};
 ghost use Rattle.othello_board.specs.Words.{cells_of};

@@ -1,6 +1,7 @@
-//! What a search is asked and what it answers, journals and outcomes in small cases, on the opening searched
-//! to depth 1: Black is worth -3, by d3. Each contract is computed from the definitions alone, but for the law
-//! that it stands on.
+//! What a search is asked and what it answers, journals and outcomes in small cases, on the opening searched to depth
+//! 1: Black is worth -3, by d3. Each contract is computed from the definitions alone, but for the law that it stands
+//! on. A root's words are the two words of its board, the depth, the window's ends (each plus 1,000,000: 800000 and
+//! 1200000 are the full window), and zeros; `kept` has the depth, the value (plus 1,000,000) and the choice's code.
 ghost use Rattle.std.specs.Prelude.{◌≡◌, ℕ, [], ◌∷◌, Some, None};
 ghost use Rattle.sched_rules.specs.declared.job.Job.TheVariants.{Live, Done, Spent as SpentJob, Cancelled as CancelledJob};
 ghost use Rattle.sched_rules.specs.declared.step.StepOf.TheVariants.{Admit, Leave, Submit};
@@ -36,7 +37,7 @@ pub fn what_a_search_answers()
     ensures untrue { IsReplyTo asked (kept_with (entry 2 1 999996) 1 999997 19) → ⊥ }
 {}
 
-/// As many jobs as Submits, each that is done with the reply to its own.
+/// There are as many jobs as Submits, in their order, and each job that is done has the reply to its own Submit.
 pub fn what_jobs_answer()
     ensures in_order { AreReplies (asked ∷ (1 ∷ 2 ∷ 3 ∷ []) ∷ asked ∷ (4 ∷ []) ∷ []) (Done (kept 1 999997 19) ∷ Live 7 ∷ SpentJob ∷ CancelledJob ∷ []) }
     ensures another { AreReplies ((1 ∷ 2 ∷ 3 ∷ []) ∷ asked ∷ []) (Done (kept 1 999997 19) ∷ Live 7 ∷ []) → ⊥ }
@@ -63,7 +64,7 @@ pub fn searches()
     ensures fewer { TenantSearches [] asked_once → ⊥ }
 {}
 
-/// The words of a job by its number, and outcomes beside them.
+/// Of two jobs the words of 1 and of 2 are found, and there is no job 0 or 3; and which outcomes answer a job's words.
 pub fn outcomes_in_small()
     ensures first { origin_at (asked ∷ (7 ∷ []) ∷ []) 1 ≡ Some asked }
     ensures second { origin_at (asked ∷ (7 ∷ []) ∷ []) 2 ≡ Some (7 ∷ []) }

@@ -1,4 +1,4 @@
--- The next act of a frame that fits, case by case.
+-- The next act of a right frame of the search, case by case.
 use Rattle.jamboree_rules.proofs.Common.{◌≡◌, ◌≢◌, ℕ, ◌<◌, ◌==◌, ◌&&◌, nat_lt, nat_le, suc, ◌≤◌, Bool, true, false, List, [], ◌∷◌, length, refl, slice_index, sym, subst, arith, inl, inr, eqb-true, ltb-true, nat_tests, Cell, cells_of, choices, after, Act, Wait, Neither, Frame, board, choice_at, own_word, opp_word, frame_of, returns, is_computed, opening, opening_on, opening_under, first_search, tests, first_open, act_by, act_of, parent_in, next_act, AreFitting, length-after, length-cells_of}
 use Rattle.jamboree_rules.proofs.Forms.{formed-told}
 use Rattle.jamboree_rules.proofs.Steps.{Lists, failed-told}

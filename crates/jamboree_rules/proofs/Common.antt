@@ -1,4 +1,4 @@
--- The names that the proofs take of the library, of the crates below and of this crate's definitions, from one place.
+-- The names that the proofs of the search's rules use, imported in one place.
 pub use Rattle.std.proofs.Common.{ap, arith, eqb, inl, inr, min, of_z, subst, sym, to_z, w32, ⊎_elim, ◌∙◌}
 pub use Rattle.std.proofs.Math.Logic.{∥∥₁_elim}
 pub use Rattle.std.proofs.Math.Seq.{drop-append_seam}

@@ -1,4 +1,5 @@
--- What is packed into an entry is read again; stores, the form of a frame, and the codes of choices.
+-- The words of a search's frame: what is packed into an entry is read again; stores, the form of a frame, and the
+-- codes of choices.
 use Rattle.jamboree_rules.proofs.Common.{◌≡◌, ◌≢◌, ℕ, zero, suc, ◌+◌, ◌<◌, ◌≤◌, ◌==◌, true, ℤ, ◌≤ℤ◌, if◌then◌else◌, List, [], ◌∷◌, map, refl, slice_index, ◌++◌, drop, replicate, length, slice_set, ◌⊎◌, ◌&&◌, nat_le, nat_lt, Bool, Option, Some, None, IfSome, Contains, ◌∙◌, ap, arith, sym, subst, and_parts, le-leb, and_from, eqb-true, eq-eqb, leb-true, nat_tests, ints, BoundKind, least, greatest, is_score, Frame, board, unscored, is_leaf, is_searching, counts_choices, is_frame, may_be_child, code_of, code_at, coded, score_of, word_of, status_of, entry_rest, entry_of, kind_number, kind_in, score_in, rest_with, is_rest, is_entry, are_entries, frame_of, Change, Best, Status, pair_of, pairs_of, changed, is_formed, common_steps, get_or-set_other, get_or-set_same, map-set, drop-set-lt, drop-set-add, get_or_past, and_set, drop-append_seam, stored, int_eq, choices, IsAllowed, IsLeaf, leaf-told, All-get_or, Cell, Choice, choices_allowed, contained-allowed, length-stored}
 
 -- the word of a score holds it

@@ -1,4 +1,5 @@
--- What an inlet leaves of a frame that fits, and what an answer leaves.
+-- What an inlet (the taking in of a returned child) leaves of a right frame of the search, and what a leaf's answer
+-- leaves.
 use Rattle.jamboree_rules.proofs.Common.{◌||◌, ◌≡◌, ◌≢◌, ℕ, ◌<◌, ◌≤◌, ◌⊎◌, ◌==◌, Bool, true, false, ℤ, neg_ℤ, ◌<ℤ◌, ◌≤ℤ◌, int_le, int_lt, List, [], ◌∷◌, ◌++◌, refl, zero, suc, ◌&&◌, nat_lt, nat_le, bit_and, length, slice_index, if◌then◌else◌, sym, subst, arith, ⊎_elim, ints, clamps, stored, is_outside, Neither, HasReturned, ParentFits, NextKeeps, InletKeeps, grown, has_one, children_left, Frame, code_at, value_at, value, floor, least, greatest, board, choice_at, own_word, opp_word, may_be_child, frame_of, Change, is_formed, is_placed, seen, found_rest, changes_by, changes_of, returns, is_computed, opening_on, opening_under, first_open, act_by, act_of, parent_in, next_act, inlet_of, inlet_act, Exact, IsBound, IsOfKind, IsTrueRest, IsFirst, IsTest, IsAgain, IsInRole, IsChildOf, IsSearchingFrame, Fits, AreFitting, IsRoot, and_from, eq-eqb, nat_tests, Cell, cells_of, choices, after, entered, Act, InletAct, is_bad_act, length-after, eqb-true, map-append, ActFits, Functions, ap, ◌∙◌, length-cells_of}
 use Rattle.jamboree_rules.proofs.Searching.{IsSearching-low, IsSearching-higher, le-told, not-le-told, found-true, found-exact, found-passes, entered-none}
 use Rattle.jamboree_rules.proofs.Kinship.{taken_in, child-of, in-search, unsettled, scored, inlet-failed, inlet-low, inlet-higher, inlet-first, inlet-cut, first-low, first-exact, again-low, again-exact, test-low, over-beta, parent-kept, HasSameGoal, best_with, has-begun}

@@ -1,4 +1,4 @@
--- The inlets keep that a frame fits.
+-- Taking in a returned child keeps the search's frame right towards its parent and its children.
 use Rattle.jamboree_rules.proofs.Common.{◌≡◌, ◌≢◌, ℕ, ◌+◌, ◌<◌, ◌≤◌, ◌⊎◌, ℤ, neg_ℤ, ◌<ℤ◌, ◌≤ℤ◌, List, [], ◌∷◌, ◌++◌, length, refl, slice_index, slice_set, int_max, sym, ◌∙◌, arith, inr, ⊎_elim, common_steps, ints, clamps, after, IsBound, Neither, HasReturned, best_choice, Exact, entered, IsSearching, IsTabled, IsOfKind, IsTrueRest, found_rest, Frame, coded, board, choice_at, code_at, rest_at, value_at, value, floor, IsFirst, IsTest, IsAgain, IsInRole, First, Test, Again, IsChildOf, AreChildren, how_many, IsSearchingFrame, Fits, Status, changed, seen, ap, by_lt_z}
 use Rattle.jamboree_rules.proofs.Searching.{IsSearching-mark, IsSearching-low, IsSearching-higher, set-there, set-beside, set-length, worth-of, role-kept-mark, found-said, tabled-set, AreAllSettled, all-bound, greatest-of, named-best}
 use Rattle.jamboree_rules.proofs.Forms.{IsInSearch}

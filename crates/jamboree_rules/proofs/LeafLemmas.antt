@@ -1,4 +1,4 @@
--- The two words of a list of cells, and leaves by their numbers.
+-- The two words of a list of cells, and the leaves of the search by their numbers.
 use Rattle.jamboree_rules.proofs.Common.{◌≡◌, ℕ, ◌<◌, ◌≤◌, ◌^◌, ◌==◌, Bool, true, cond, if◌then◌else◌, bit_and, List, map, filter, length, ℤ, ◌<ℤ◌, bit_at, sym, ◌∙◌, ap, arith, inl, inr, min, eqb, cases_lt, ext_get_or, length-map, get_or-map-range_with_len, bit_at_and, bit_at-zero, bit_at-lt, bit_at_above, same_from_bits, Cell, Empty, Own, Opp, squares, cell_at, is_own_cell, is_opp_cell, cell_of, cells_of, bits_of, apart, cell_at-cells_of, map-squares-same, bit-cases, bit_at-bits_of, is_among-filter, is-square, own_word, opp_word, is_leaf, coded, ints, props, ∥∥₁_elim, minimax, best_choice, IsBound, Leaf, LeafAnswer, IsLeaf, leaf-told, leaf_with, leaf_by, leaf_from, same_leaf, squares-length, no-square}
 use Rattle.jamboree_rules.proofs.Forms.{leaf-passes, coded-small}
 

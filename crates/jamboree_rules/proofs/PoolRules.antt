@@ -1,3 +1,4 @@
+-- The proofs' lemmas on what a pool's worker does next.
 pub mod Common
 pub mod ReadyFrames
 pub mod ReadiedLemmas

@@ -1,5 +1,5 @@
--- Choices stand once each; an accepted answer and a new root fit; a returned root holds the minimax value, the best choice and a true
--- table; a frame that fits is sound.
+-- The search's choices stand once each; an accepted answer and a new root are right; a returned root holds the minimax
+-- value, the best choice and a true table; a right frame is sound.
 use Rattle.jamboree_rules.proofs.Common.{◌≡◌, ◌≢◌, ℕ, suc, ◌<◌, ◌&&◌, not, Bool, true, false, List, [], ◌∷◌, map, filter, length, refl, slice_index, slice_index_or, if◌then◌else◌, ◌≤◌, ℤ, negsuc, ◌≤ℤ◌, ◌<ℤ◌, bit_and, Some, All, neg_ℤ, sym, ◌∙◌, ap, arith, subst, and_parts, eq-eqb, Cell, squares, is_among, is_legal, is_nil, exchanged, Choice, Square, Pass, choices, choices_without_move, legal_squares, in_order, is_among-filter, Frame, board, choice_at, code_of, value, coded, least, greatest, rest_at, ints, padded, best_choice, IsWithin, minimax-within, IsBound, stored, is_outside, kept_words, AcceptKeeps, Neither, Computes, HasReturned, Mark, LeafAnswer, frame_of, is_formed, pairs_of, root_words, frame_size, kind_number, kind_in, leaf_in, same_leaf, changes_of_answer, accepts, IsDoneFrame, Fits, AreFitting, IsRoot, IsInRole, First, Test, Again, AreChildren, IsSearchingFrame, take_all, get_or_past, All-cons, Bound, Exact, IsTrueBound, IsExactIfBest, IsTable, entered, kind_numbered, bound_in, bounds_in, bounds_of, IsSettled, HasWindow, HaveGoals, IsSound, by_lt_z, Functions, Leaf, leaf_of_answer, choices-fit, length-cells_of, length-map, greatest_depth}
 use Rattle.jamboree_rules.proofs.LeafLemmas.{Has, has-from, same-has, moved, named-by, choice-small}
 use Rattle.jamboree_rules.proofs.Steps.{accepted, status-count, new-form, Lists, frames, good-store}

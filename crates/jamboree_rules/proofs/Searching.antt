@@ -1,4 +1,5 @@
--- One frame's search, over the values v of its choices, the codes of its choices, their statuses and what is found of them.
+-- One frame's search in the abstract: over the values v of its choices, the codes of its choices, their statuses and
+-- what is found of them.
 use Rattle.jamboree_rules.proofs.Common.{◌≡◌, ◌≢◌, ℕ, ◌<◌, ℤ, neg_ℤ, ◌<ℤ◌, ◌≤ℤ◌, List, length, refl, slice_index, slice_set, suc, Bool, true, false, [], ◌∷◌, Some, map, find, slice_index_or, ◌⊎◌, int_le, replicate, int_max, sym, ◌∙◌, ap, subst, arith, inl, inr, common_steps, ints, clamps, by_lt_z, IsBound, kind_in, kind_number, score_in, is_rest, IsOfKind, IsTrueRest, IsFound, IsSearching, IsInRole, IsChildOf, IsTabled, Choice, Pass, choices, final_value, best_choice, choice_value, greatest_or, minimax-deeper, best_choice-deeper, int_equal-same, int_equal-below, Frame, board, choice_at, code_at, coded, value_at, value, least, greatest, Cell, cases_eq, get_or_past, BoundKind, Exact, Says, entered, seen, kind_by, kind_of, found_rest, IsSearchingFrame, Status, changed}
 use Rattle.jamboree_rules.proofs.Forms.{kind-some, kind-read, score-read, same-kind, rest-passes}
 

@@ -1,4 +1,4 @@
--- The acts of a running frame keep that it fits, and that a new child does.
+-- The acts of a running frame of the search keep it right, and open a right child.
 use Rattle.jamboree_rules.proofs.Common.{◌||◌, ◌≡◌, ◌≢◌, ℕ, ◌+◌, ◌-◌, ◌<◌, ℤ, pos, negsuc, neg_ℤ, ◌<ℤ◌, ◌≤ℤ◌, ◌+ℤ◌, List, [], ◌∷◌, ◌++◌, length, replicate, refl, slice_index, ◌≤◌, ◌⊎◌, ◌==◌, ◌&&◌, nat_lt, nat_le, Bool, true, false, map, drop, bit_and, sym, ◌∙◌, ap, arith, inl, inr, ⊎_elim, subst, common_steps, ints, clamps, choices, plies, cells_of, Choice, entered, Neither, Computes, NewChildFits, HasReturned, grown, children_after, mark_after, has_one, Frame, choice_at, rest_at, value_at, unscored, floor, least, greatest, First, IsSearchingFrame, IsDoneFrame, Fits, AreFitting, lt-leb, or_from, nat_tests, length-map, length-drop, padded, Act, Continuation, Grow, Wait, Compute, Return, stored, is_outside, is_bad_then, is_bad_act, status_of, frame_of, is_rest, are_entries, Change, OwnBits, OppBits, Phase, Best, Chosen, Count, Spawned, Status, pair_of, pairs_of, given_words, frame_size, returns, spawns, opening, first_search, tests, IsLeaf, IsInRole, eqb-true, leb-true, ltb-true, map-append, choices-fit, length-stored, greatest_depth}
 use Rattle.jamboree_rules.proofs.Searching.{set-there, set-beside, set-length, zero-at, tabled-zeros, tabled-none, entered-deep}
 use Rattle.jamboree_rules.proofs.Kinship.{with_place, spawned-child, next-settled, next-done, HasSameGoal}

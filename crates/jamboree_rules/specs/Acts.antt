@@ -103,7 +103,7 @@ abbrev pub next_act : ℕ → List (List ℕ) → Act
 next_act grain [] = returns
 next_act grain (own ∷ above) = if is_formed own && is_placed own above then act_of grain (frame_of own) (parent_in above) else returns
 
--- a child's score, seen from the parent
+-- a child's score, seen from its parent: negated
 abbrev pub seen : Frame → ℤ
 seen c = neg_ℤ c.best
 

@@ -1,4 +1,4 @@
--- Meaning: what the entries of a frame say of its choices, and the table that a root holds.
+-- Meaning: what the entries of a search's frame say of its choices, and the table that a root holds.
 use Rattle.std.specs.Prelude.{◌≡◌, ℕ, ◌==◌, ℤ, List, [], ◌∷◌, if◌then◌else◌}
 use Rattle.othello_moves.specs.declared.choices.Choice.{Choice}
 use Rattle.othello_moves.specs.Choices.{choices}
@@ -9,7 +9,7 @@ use Rattle.leaf_search.specs.othello_eval.Tables.{Says}
 use Rattle.jamboree_rules.specs.Frames.{Frame, board, rest_at}
 use Rattle.jamboree_rules.specs.Places.{kind_number, kind_in, score_in}
 
--- the rest of an entry (all of it but the status) is a bound of this kind
+-- the rest of a choice's entry (all of it but the status) says a bound of this kind
 abbrev pub IsOfKind : ℕ → BoundKind → Type 0
 IsOfKind rest kind = kind_in rest ≡ kind_number kind
 

@@ -1,4 +1,5 @@
--- Meaning: what is kept true of each frame: it fits its children, and they fit it.
+-- Meaning: when a frame of the search is right (fits): by its own numbers, by its children's, and by its parent's.
+-- This is kept true of each frame.
 use Rattle.std.specs.Prelude.{◌≡◌, ◌≢◌, ℕ, ◌-◌, ◌<◌, ◌≤◌, ◌⊎◌, ◌==◌, true, ℤ, pos, neg_ℤ, ◌<ℤ◌, ◌≤ℤ◌, ◌+ℤ◌, List, [], ◌∷◌, map, length, slice_index, count_by}
 use Rattle.othello_moves.specs.Choices.{choices, after, plies}
 use Rattle.leaf_search.specs.othello_eval.declared.bound.BoundKind.TheVariants.{Exact}
@@ -52,7 +53,7 @@ pub record IsChildOf (f c : Frame) : Type 0 where
   pub known : c.phase ≢ phase_new → board c ≡ after (board f) (choice_at f c.number)
   pub in_role : IsInRole f c
 
--- each of these is a child of f
+-- each of these frames is a child of the frame f
 abbrev pub AreChildren : Frame → List Frame → Type 0
 AreChildren f [] = Unit {0}
 AreChildren f (c ∷ cs) = IsChildOf f c × AreChildren f cs

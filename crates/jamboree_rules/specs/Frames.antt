@@ -28,11 +28,11 @@ phase_first = 2
 abbrev pub phase_tests : ℕ
 phase_tests = 3
 
--- the phase of a frame that has its score
+-- the phase of a frame that is done: it has its score
 abbrev pub phase_done : ℕ
 phase_done = 4
 
--- the role of a root, which has no parent
+-- the role of the search's root, which has no parent
 abbrev pub role_root : ℕ
 role_root = 0
 
@@ -69,7 +69,7 @@ status_failed = 3
 abbrev pub status_runs_again : ℕ
 status_runs_again = 4
 
--- what a frame's words say
+-- a frame of the search: what its words say
 pub record Frame : Type 0 where
   -- the two words of the board, seen by the mover
   pub own : ℕ
@@ -104,7 +104,7 @@ greatest = pos 200000
 abbrev pub unscored : ℤ
 unscored = negsuc 999999
 
--- the board
+-- the frame's board, as 64 cells seen by the mover
 abbrev pub board : Frame → List Cell
 board f = cells_of f.own f.opp
 
@@ -117,11 +117,11 @@ abbrev pub code_of : Choice → ℕ
 code_of (Square s) = s
 code_of Pass = 64
 
--- the code of the choice with this number
+-- the code (0 to 63 a square, 64 a pass) of the frame's choice with this number
 abbrev pub code_at : Frame → ℕ → ℕ
 code_at f i = code_of (choice_at f i)
 
--- the code of a choice, or 65 for none
+-- the code of a choice (0 to 63 a square, 64 a pass), or 65 for none
 abbrev pub coded : Option Choice → ℕ
 coded None = 65
 coded (Some c) = code_of c

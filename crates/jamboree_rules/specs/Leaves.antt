@@ -1,4 +1,4 @@
--- Meaning: a leaf in a frame's words.
+-- Meaning: a leaf of the search (a board, depth and window that a worker computes) in a frame's words.
 use Rattle.std.specs.Prelude.{◌≡◌, ℕ, ◌≤◌, Bool, true, false, ◌==◌, ◌&&◌, nat_le, int_le, int_lt, ℤ, pos, ◌<ℤ◌, ◌≤ℤ◌, bit_and, List, [], ◌∷◌, Option, refl, if◌then◌else◌}
 use Rattle.std.specs.Ordering.{int_eq}
 use Rattle.std.proofs.Common.{lit≤}
@@ -74,7 +74,7 @@ leaf_from own opp depth alpha beta = leaf_by own opp depth alpha beta (is_leaf o
 abbrev pub leaf_of : Frame → Leaf
 leaf_of f = leaf_from f.own f.opp f.depth f.alpha f.beta
 
--- the leaf in a frame's words
+-- the leaf (board, depth and window) in a frame's words
 abbrev pub leaf_in : List ℕ → Leaf
 leaf_in words = leaf_of (frame_of words)
 
@@ -88,11 +88,11 @@ same_leaf one other =
 abbrev pub leaf_of_answer : LeafAnswer → Leaf
 leaf_of_answer answer = answer.leaf
 
--- the score of an answer
+-- the score of a worker's answer to a leaf
 abbrev pub score_of_answer : LeafAnswer → ℤ
 score_of_answer answer = answer.score
 
--- the choice of an answer, if it has one
+-- the choice of a worker's answer to a leaf, if it has one
 abbrev pub choice_of_answer : LeafAnswer → Option Choice
 choice_of_answer answer = answer.choice
 

@@ -1,4 +1,4 @@
--- Meaning: the words of a frame: which place holds what. No other file knows places.
+-- Meaning: the words of a search's frame: which place holds what. No other file knows places.
 --
 -- | Place | Holds |
 -- | 0, 1 | the bits of the mover's discs and of the opponent's (bit s is square s) |
@@ -30,7 +30,7 @@ status_of entry = entry % 8
 abbrev pub entry_rest : ℕ → ℕ
 entry_rest entry = entry / 8
 
--- the entry of a status and a rest
+-- the entry word of a choice with this status and this rest (what is known of it)
 abbrev pub entry_of : ℕ → ℕ → ℕ
 entry_of status rest = status + 8 * rest
 
@@ -44,7 +44,7 @@ kind_number Exact = 3
 abbrev pub kind_in : ℕ → ℕ
 kind_in rest = rest % 4
 
--- the score in the rest of an entry
+-- the score in the rest (all but the status) of a choice's entry
 abbrev pub score_in : ℕ → ℤ
 score_in rest = score_of (rest / 4)
 
@@ -52,7 +52,7 @@ score_in rest = score_of (rest / 4)
 abbrev pub rest_with : BoundKind → ℤ → ℕ
 rest_with kind score = kind_number kind + 4 * word_of score
 
--- the frame in these words
+-- the frame of the search that these words say
 abbrev pub frame_of : List ℕ → Frame
 frame_of words = record {
   own = slice_index words 0;
@@ -80,7 +80,7 @@ is_rest rest = if kind_in rest == 0 then rest == 0 else is_score (score_in rest)
 abbrev pub is_entry : ℕ → Bool
 is_entry entry = nat_le (status_of entry) status_runs_again && is_rest (entry_rest entry)
 
--- whether each of these may be an entry
+-- whether each of these words may be an entry of a choice
 abbrev pub are_entries : List ℕ → Bool
 are_entries [] = true
 are_entries (entry ∷ entries) = is_entry entry && are_entries entries
@@ -107,7 +107,7 @@ pub data Change : Type 0 where
   Spawned : (count : ℕ) → Change
   Status : (i status rest : ℕ) → Change
 
--- the place and the word of a store
+-- the place and the word of a store into a frame
 abbrev pub pair_of : Change → ℕ × ℕ
 pair_of (OwnBits word) = (0, word)
 pair_of (OppBits word) = (1, word)
@@ -118,12 +118,12 @@ pair_of (Count count) = (10, count)
 pair_of (Spawned count) = (11, count)
 pair_of (Status i status rest) = (12 + i, entry_of status rest)
 
--- stores as places and words
+-- stores into a frame as places and words
 abbrev pub pairs_of : List Change → List (ℕ × ℕ)
 pairs_of [] = []
 pairs_of (change ∷ changes) = pair_of change ∷ pairs_of changes
 
--- the frame after a store
+-- the frame after a store into its words
 abbrev pub changed : Change → Frame → Frame
 changed (OwnBits word) f = record f { own = word }
 changed (OppBits word) f = record f { opp = word }

@@ -1,4 +1,4 @@
--- Meaning: Jamboree as a procedure of the scheduler: five functions of the words shown and of the values passed.
+-- Meaning: the Jamboree search as a procedure of the core: five functions of the words shown and of the values passed.
 use Rattle.std.specs.Prelude.{ℕ}
 use Rattle.sched_rules.specs.Functions.{Functions}
 use Rattle.jamboree_rules.specs.declared.leaf.Leaf.{Leaf}

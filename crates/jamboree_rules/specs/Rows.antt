@@ -1,4 +1,5 @@
--- Representation: words and frames on which acts and definitions are tried: the opening, Black to move, searched to depth 1 with grain 0.
+-- Representation: words and frames of a search on which acts and definitions are tried: the opening, Black to move,
+-- searched to depth 1 with grain 0.
 use Rattle.std.specs.Prelude.{ℕ, ◌+◌, ◌*◌, ℤ, pos, List, [], ◌∷◌}
 use Rattle.leaf_search.specs.othello_eval.declared.bound.BoundKind.{BoundKind}
 use Rattle.jamboree_rules.specs.Frames.{Frame, role_root, status_settled, status_not_spawned, least, greatest}
@@ -43,23 +44,23 @@ returned alpha beta role number best = 68719476736 ∷ 34762915840 ∷ 0 ∷ alp
 abbrev pub root_with : ℤ → ℤ → ℕ → ℤ → ℕ → List ℕ → List ℕ → Frame
 root_with alpha beta phase best choice statuses rests = record { own = 34628173824; opp = 68853694464; depth = 1; alpha = alpha; beta = beta; role = role_root; number = 0; phase = phase; best = best; choice = choice; count = 4; spawned = 4; statuses = statuses; rests = rests }
 
--- the statuses of the four choices where none is settled
+-- the statuses of the opening's four choices where none is settled
 abbrev pub none_settled : List ℕ
 none_settled = status_not_spawned ∷ status_not_spawned ∷ status_not_spawned ∷ status_not_spawned ∷ []
 
--- the statuses where d3 alone is settled
+-- the statuses of the opening's four choices where d3 alone is settled
 abbrev pub d3_settled : List ℕ
 d3_settled = status_settled ∷ status_not_spawned ∷ status_not_spawned ∷ status_not_spawned ∷ []
 
--- the statuses where d3 and c4 are settled
+-- the statuses of the opening's four choices where d3 and c4 are settled
 abbrev pub two_settled : List ℕ
 two_settled = status_settled ∷ status_settled ∷ status_not_spawned ∷ status_not_spawned ∷ []
 
--- the rests of the four entries where nothing is known of any choice
+-- the rests of the entries of the opening's four choices, where nothing is known of any
 abbrev pub nothing_found : List ℕ
 nothing_found = 0 ∷ 0 ∷ 0 ∷ 0 ∷ []
 
--- the rests where a bound of c4, of this kind and this score, is all that is known
+-- the rests of the entries of the opening's four choices, where only c4 has a bound, of this kind and this score
 abbrev pub found_of_c4 : BoundKind → ℤ → List ℕ
 found_of_c4 kind score = 0 ∷ rest_with kind score ∷ 0 ∷ 0 ∷ []
 

@@ -1,4 +1,5 @@
--- Meaning: that a frame is sound: what its numbers say of the minimax value of its board, and what its children search.
+-- Meaning: that a frame of the search is sound: what its numbers say of the minimax value of its board, and what its
+-- children search.
 use Rattle.std.specs.Prelude.{◌≡◌, ◌≢◌, ℕ, ◌-◌, ◌<◌, ◌⊎◌, ℤ, pos, neg_ℤ, ◌<ℤ◌, ◌≤ℤ◌, ◌+ℤ◌, List, [], ◌∷◌, length, slice_index}
 use Rattle.othello_moves.specs.Choices.{after, choices, plies}
 use Rattle.leaf_search.specs.othello_eval.declared.bound.BoundKind.{BoundKind}
@@ -8,7 +9,7 @@ use Rattle.leaf_search.specs.Bounds.{IsBound}
 use Rattle.jamboree_rules.specs.Frames.{Frame, phase_done, phase_first, phase_new, phase_tests, role_again, role_first_child, role_test, status_settled, board, choice_at, code_at, coded, value_at, value, floor}
 use Rattle.jamboree_rules.specs.Entries.{HasKind, score_at}
 
--- choice i of the frame is settled
+-- the frame's choice number i is settled: its value needs no more search
 abbrev pub IsSettled : Frame → ℕ → Type 0
 IsSettled f i = slice_index f.statuses i ≡ status_settled
 
@@ -38,7 +39,8 @@ pub record HasGoal (f c : Frame) : Type 0 where
   pub depth : c.depth ≡ f.depth - plies (choice_at f c.number)
   pub window : HasWindow f c
 
--- `HasGoal` holds of each of these children of f
+-- each of these children of f searches the board after its choice, to the depth that this leaves and in the window of
+-- its role (`HasGoal`)
 abbrev pub HaveGoals : Frame → List Frame → Type 0
 HaveGoals f [] = Unit {0}
 HaveGoals f (c ∷ cs) = HasGoal f c × HaveGoals f cs

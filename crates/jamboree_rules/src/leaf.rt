@@ -1,4 +1,4 @@
-//! What a frame is computed from, and what a computation gives.
+//! What a leaf of the search is computed from, and what a worker's computation gives.
 ghost use Rattle.std.specs.Prelude.{◌≡◌, ◌≤◌, ◌<ℤ◌, ◌≤ℤ◌, pos, negsuc, IfSome, Contains};
 ghost use Rattle.std.proofs.Props.{props};
 ghost use Rattle.othello_board.specs.Words.{cells};
@@ -59,7 +59,7 @@ impl LeafAnswer {
         }
     }
 
-    /// The leaf that it was computed for.
+    /// The leaf (board, depth and window) that this answer was computed for.
     pub fn leaf(&self) -> Leaf
         ensures { result ≡ leaf_of_answer self.now }
     {

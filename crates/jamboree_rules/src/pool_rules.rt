@@ -1,4 +1,4 @@
-//! What a worker does next, as values: no thread, no deque, no hall.
+//! What a pool's worker does next, as values: no thread, no deque, no hall.
 //!
 //! The workers of a pool are driven by it, and so is the one worker of a search that has a core to itself
 //! (`solve_engine`). A worker has a frame or is without one. What it holds is a [`Holding`]; from that follows

@@ -1,7 +1,8 @@
-//! The acts, and what no sound frame is, tried on the opening searched to depth 1 with grain 0: each
-//! contract is computed from the definitions alone. Each of the four choices (d3, c4, f5, e6, of codes
-//! 19, 26, 37, 44) is worth -3, which is `negsuc 2`. A frame that isn't sound lacks one part of the
-//! definition, and has all others.
+//! The acts, and what no sound frame is, tried on the opening searched to depth 1 with grain 0: each contract is
+//! computed from the definitions alone. Each of the four choices (d3, c4, f5, e6, of codes 19, 26, 37, 44) is worth -3,
+//! which is `negsuc 2`. A frame that isn't sound lacks one part of the definition, and has all others. A frame's words
+//! are its board (34628173824 and 68853694464: the opening's discs), the depth, the window's ends and later the best
+//! score (each plus 1,000,000), its role, number and phase; stores stand as place and word.
 #![tactic(auto, unfolding(othello_board::specs::Rules::squares, othello_board::specs::Rules::squares_beside, othello_moves::specs::Choices::in_order))]
 
 ghost use Rattle.std.specs.Prelude.{◌≡◌, [], ◌∷◌, true, false, pos, negsuc};
@@ -70,13 +71,15 @@ pub fn a_search_again()
         record { stores = (8, 999998) ∷ (9, 26) ∷ (13, entry 2 3 999998) ∷ (7, 3) ∷ []; abort = false; wake = true } }
 {}
 
-/// A score of at least beta ends the frame and all else below it; it bounds the choice from below.
+/// A frame searches the opening up to beta -4; its first child comes back with -3 for d3: that is at least beta, so the
+/// frame is done, all else below it is aborted, and d3's entry is a lower bound.
 pub fn an_abort_at_beta()
     ensures { inlet_act (34628173824 ∷ 68853694464 ∷ 1 ∷ 800000 ∷ 999996 ∷ 1 ∷ 0 ∷ 2 ∷ 800000 ∷ 65 ∷ 4 ∷ 1 ∷ 1 ∷ 0 ∷ 0 ∷ 0 ∷ []) (returned 1000004 1200000 1 0 1000003) ≡
         record { stores = (8, 999997) ∷ (9, 19) ∷ (12, entry 2 2 999997) ∷ (7, 4) ∷ []; abort = true; wake = true } }
 {}
 
-/// Where all choices are settled the frame is done, and returns.
+/// With all four choices of the root settled (d3 exactly -3, the others at most that) it stores phase 4, done, and
+/// returns.
 pub fn all_settled()
     ensures { next_act 0 ((34628173824 ∷ 68853694464 ∷ 1 ∷ 800000 ∷ 1200000 ∷ 0 ∷ 0 ∷ 3 ∷ 999997 ∷ 19 ∷ 4 ∷ 4 ∷ entry 2 3 999997 ∷ entry 2 1 999997 ∷ entry 2 1 999997 ∷ entry 2 1 999997 ∷ []) ∷ []) ≡
         record { stores = (7, 4) ∷ []; after = Return } }

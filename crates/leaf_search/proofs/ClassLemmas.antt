@@ -1,4 +1,5 @@
--- The choices of a board by classes of squares: a rearrangement of its choices, and what is left when the first is taken.
+-- For the ordered serial search: the choices of a board by classes of squares, which are a rearrangement of its
+-- choices, and what is left when the first is taken.
 use Rattle.leaf_search.proofs.Common.{append_assoc, ◌+◌, cond, length, length-append, length-map, bit_or, count_ones, zero_from_ones, le_or_l, le_or_r, ◌≡◌, ◌<◌, ◌-◌, ◌*◌, ◌%◌, ◌^◌, ℕ, Bool, true, false, not, ◌&&◌, eqb, min, [], ◌∷◌, ◌++◌, map, refl, sym, ◌∙◌, ap, ap₂, subst, arith, map-append, bit_and, bit_at, bit_not, trailing_zeros, w64, bit_at-lt, bit_at_and, bit_at_not, squares, squares_of, pass_if, sequence, classed, Pass, Square, IsPermutation, IsPermutation-map, IsPermutation-refl, IsPermutation-append, IsPermutation-filter_both}
 use Rattle.othello_moves.proofs.BitLemmas.{filter-filter, filter-agree-between, squares-ascend, squares_of-zero, squares_of-first, sequence-first, sequence-second, sequence-pass, sequence-none, length-sequence, count_ones-squares}
 

@@ -1,4 +1,4 @@
--- The names that the proofs take of the library, of the crates below and of this crate's definitions, from one place.
+-- The names that the proofs of the serial search use, imported in one place.
 pub use Rattle.std.proofs.Common.{All, Bool, Contains, IfSome, IsSome, IsTrue, List, None, Option, Some, [], add-one, ap, ap₂, append-nil, append_assoc, arith, drop, false, find, get_or, length, length-append}
 pub use Rattle.std.proofs.Common.{map, neg_ℤ, negsuc, pos, refl, rules, subst, suc, sym, take, true, ℕ, ℤ, ◌*◌, ◌++◌, ◌+ℤ◌, ◌+◌, ◌-◌, ◌<ℤ◌, ◌<◌, ◌↔◌, ◌∙◌, ◌∷◌, ◌≡◌, ◌≤ℤ◌, ◌≤◌}
 pub use Rattle.std.proofs.lemmas.Grind.{common_steps}

@@ -1,4 +1,4 @@
--- The value of a board at depth 0, by how many moves each player has.
+-- For the serial search: the value of a board at depth 0, by how many moves each player has.
 use Rattle.std.specs.Prelude.{if◌then◌else◌}
 use Rattle.leaf_search.proofs.Common.{◌≡◌, ◌<◌, ◌≤◌, ◌+◌, ℕ, ℤ, pos, ◌+ℤ◌, ◌-ℤ◌, ◌*ℤ◌, List, [], ◌∷◌, map, length, refl, sym, ◌∙◌, ap, arith, ints, FitsSigned, of_z, to_z, w32, Cell, Choice, Pass, Square, exchanged, is_nil, legal_squares, final_value, weights, discs_value, minimax, minimax-leaf-there, minimax-over, IsWithin}
 

@@ -1,4 +1,4 @@
--- The list of the choices of a board, one choice after another.
+-- For the ordered serial search: the list of the choices of a board, made one choice after another.
 use Rattle.leaf_search.proofs.Common.{append-nil, append_assoc, ◌≡◌, ◌<◌, ◌≤◌, ◌+◌, ℕ, suc, length, List, [], ◌∷◌, ◌++◌, map, refl, sym, ◌∙◌, ap, ap₂, subst, arith, Contains, Contains-append_right, length-append, length-map, map-append, choices, Choice, Cell, Ranked, numbered, numbered_choice, IsPermutation, IsPermutation-map, length_permutation, take, drop, refill, take-append_seam, drop-cons, get_or, length-drop, eqb, Bool, false, pos, Square}
 use Rattle.leaf_search.proofs.RankingLemmas.{length-numbered, numbered-push}
 

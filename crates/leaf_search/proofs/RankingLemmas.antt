@@ -1,4 +1,5 @@
--- The steps of a search that takes the choices of a position in another order than theirs, over any choices and what each is worth.
+-- The turns of a serial search that takes the choices of a position in another order than the rules', over any choices
+-- and what each is worth.
 use Rattle.leaf_search.proofs.Common.{append-nil, append_assoc, ◌≡◌, ◌<◌, ◌≤◌, ◌+◌, length, ℕ, suc, ℤ, pos, negsuc, neg_ℤ, ◌+ℤ◌, List, [], ◌∷◌, ◌++◌, map, Option, Some, refl, sym, ◌∙◌, ap, subst, arith, find, ◌≤ℤ◌, ◌<ℤ◌, IfSome, All, Contains, Bool, IsTrue, int_max, ints, clamps, by_lt_z, All-nil, All-cons, All-head, All-tail, All-push, All-weaker, All-contains, All-permutation, IsPermutation, IsPermutation-sym, Contains-append_right, length-append, length_permutation, numbered, greatest_or, int_equal, IsBound, IsWithin, find-new, greatest_or-upper, greatest_or-lower}
 use Rattle.leaf_search.proofs.WindowLemmas.{IsChild, child-under, child-over, child-exact, cut-bound}
 

@@ -1,4 +1,4 @@
--- The steps of a window search at one position, over any choices and what each is worth.
+-- The turns of a serial search through a window at one position, over any choices and what each is worth.
 use Rattle.leaf_search.proofs.Common.{◌↔◌, append-nil, append_assoc, ◌≡◌, ◌<◌, length, ℤ, pos, negsuc, neg_ℤ, ◌+ℤ◌, List, [], ◌∷◌, ◌++◌, map, Option, None, Some, refl, sym, ◌∙◌, ap, subst, arith, find, ◌≤ℤ◌, ◌<ℤ◌, IsSome, IfSome, All, Contains, ℕ, ◌-◌, Bool, IsTrue, true, false, int_max, ints, clamps, by_lt_z, All-nil, All-cons, All-append, All-weaker, All-permutation, Contains-append_right, Contains-permutation, IsPermutation, IsPermutation-sym, length_permutation, common_steps, choices, after, plies, Choice, Cell, greatest_or, int_equal, minimax, choice_value, IsBound, IsWithin, find-kept, find-new, greatest_or-upper, greatest_or-lower, found-below-greatest}
 
 -- what is known once these choices were searched, none of which ended the search: no value is above the

@@ -1,4 +1,4 @@
--- Meaning: what a search through a window promises of a value.
+-- Meaning: what a serial search through a window (alpha, beta) promises of a value: a bound.
 use Rattle.std.specs.Prelude.{◌≡◌, ℤ, ◌<ℤ◌, ◌≤ℤ◌}
 
 -- what a score s that a search with the window from a to z gave says of the value m: at most a, it is an upper bound

@@ -1,4 +1,5 @@
--- Representation: the choices of a board that are left, kept as the squares that are set in three words.
+-- Representation: for the ordered serial search, the choices of a board that are left, kept as the squares that are
+-- set in three words.
 use Rattle.std.specs.Prelude.{ℕ, Bool, List, ◌++◌, map}
 use Rattle.othello_eval.specs.othello_moves.Sequence.{sequence, squares_of}
 use Rattle.othello_eval.specs.othello_moves.declared.choices.Choice.{Choice}

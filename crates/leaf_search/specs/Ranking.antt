@@ -1,4 +1,4 @@
--- Representation: the choices of a board, rearranged.
+-- Representation: the choices of a board, rearranged for the ordered serial search.
 use Rattle.std.specs.Prelude.{ℕ, suc, List, [], ◌∷◌}
 use Rattle.othello_eval.specs.othello_moves.declared.choices.Choice.{Choice}
 use Rattle.leaf_search.specs.declared.ranking.Ranked.{Ranked}
@@ -8,6 +8,6 @@ abbrev pub numbered : {X : Type 0} → ℕ → List X → List (ℕ × X)
 numbered k [] = []
 numbered k (x ∷ xs) = (k, x) ∷ numbered (suc k) xs
 
--- a ranked choice with its place in the rules' order
+-- a choice that was ranked by the ordered search, with its place in the rules' order
 abbrev pub numbered_choice : Ranked → ℕ × Choice
 numbered_choice r = (r.place, r.choice)

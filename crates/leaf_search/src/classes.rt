@@ -1,4 +1,5 @@
-//! The choices of a board by classes of squares, for the last plies: there a list by keys takes longer to make than it saves.
+//! The choices of a board by classes of squares, for the last plies of the ordered serial search: there a list by keys
+//! takes longer to make than it saves.
 ghost use Rattle.std.specs.Prelude.{◌≡◌, ◌↔◌, ◌∷◌, [], IsTrue, MatchOption};
 ghost use Rattle.std.specs.List.Sorted.{IsPermutation};
 ghost use Rattle.othello_board.specs.Words.{cells};
@@ -50,7 +51,7 @@ impl Classed {
         }
     }
 
-    /// Whether none is left.
+    /// Whether no choice of the board is left to be searched.
     #[inline(always)]
     pub(crate) fn is_empty(&self) -> bool
         ensures { IsTrue result ↔ (self.now ≡ []) }

@@ -1,4 +1,4 @@
-//! The positions at depth 0, below which none is entered.
+//! The positions at depth 0 of a serial search, below which none is entered.
 ghost use Rattle.std.specs.Prelude.{◌≡◌, ◌<◌, ◌≤ℤ◌, length};
 ghost use Rattle.othello_board.specs.Rules.{exchanged};
 ghost use Rattle.othello_board.specs.Words.{cells};

@@ -1,4 +1,4 @@
-//! The search that takes the choices in the order of a key, and tests all but the first by windows of width one.
+//! The serial search that takes the choices in the order of a key, and tests all but the first by windows of width one.
 ghost use Rattle.std.specs.Prelude.{◌≡◌, ◌<◌, ◌≤◌, ◌<ℤ◌, ◌≤ℤ◌, ◌+ℤ◌, IfSome, IsTrue, Contains, None, Some, neg_ℤ, pos};
 ghost use Rattle.std.specs.Int.{int_max};
 ghost use Rattle.othello_board.specs.Words.{cells};
@@ -20,8 +20,8 @@ use othello_eval::{Weighed, final_value};
 /// would take longer than it saves (at the first position in the rules' order).
 const LEAST_ORDERED: u8 = 3;
 
-/// As [`search`], with the choices of each position taken in the order of a key, by which far fewer positions are entered.
-/// Takes no memory and refuses nothing.
+/// Searches a board through a window, as [`search`] does, but takes the choices of each position in the order of a key,
+/// by which far fewer positions are entered. Takes no memory and refuses nothing.
 pub fn search_ordered(board: Board, depth: u8, alpha: i32, beta: i32) -> Scored
     requires shallow { depth ≤ DEEPEST }
     requires least { neg_ℤ INF ≤ℤ alpha }
@@ -38,7 +38,7 @@ pub fn search_ordered(board: Board, depth: u8, alpha: i32, beta: i32) -> Scored
     best_ranked(Weighed::of(board), depth, Window { alpha, beta }, true)
 }
 
-/// As [`search_full`](super::search_full), by [`search_ordered`].
+/// Searches a board through the full window, as [`search_full`](super::search_full) does, by [`search_ordered`].
 pub fn search_ordered_full(board: Board, depth: u8) -> Scored
     requires { depth ≤ DEEPEST }
     ensures score { result.score ≡ minimax depth (cells board) }
@@ -85,9 +85,9 @@ impl Best {
         self.found.score
     }
 
-    /// Adds the result of searching the position after a choice, seen by the opponent, through this window. Where its
-    /// negated score is above the score here or above that which the window asked for, that and the choice replace those
-    /// here.
+    /// Adds to what was found so far the result of searching the position after a choice, seen by the opponent, through
+    /// this window. Where the negated score is above the score so far, or above what the window asked for, the choice
+    /// takes the place of the one so far, and the score is the greater of both.
     #[inline(always)]
     fn take_in(&mut self, ranked: Ranked, child: Counted, window: Window)
         requires { IsWithin 128000 child.score }

@@ -1,4 +1,4 @@
-//! The choices of a board in the order in which an ordered search takes them.
+//! The choices of a board in the order in which the ordered serial search takes them.
 ghost use Rattle.std.specs.Prelude.{◌≡◌, [], map};
 ghost use Rattle.std.specs.List.Sorted.{IsPermutation};
 ghost use Rattle.othello_board.specs.Words.{cells};
@@ -36,6 +36,7 @@ pub(crate) struct Ranked {
 impl Default for Ranked {
     ghost is_default = { λ _. Unit {0} };
 
+    /// A filler for the places of a list that aren't used.
     fn default() -> Self {
         Ranked {
             key: 0,
@@ -48,7 +49,7 @@ impl Default for Ranked {
 /// The least depth at which a key counts the moves of both players: below it they would take longer to count than better keys save.
 const LEAST_COUNTED: u8 = 4;
 
-/// How many squares a word has.
+/// How many squares are set in a word.
 #[inline(always)]
 fn count(squares: u64) -> i32
     ensures { IsWithin 64 result }
@@ -67,9 +68,10 @@ fn beside(discs: u64, empty: u64) -> i32
     count((rows | rows << 8 | rows >> 8) & empty)
 }
 
-/// The key of a choice that is made at this depth, by the board after it: what the opponent's discs are worth there, and how
-/// many empty squares touch the mover's discs, where the opponent could come to move to, less those that touch its own; from a
-/// depth of 4 on also how many moves each has. No search is made for it, and no contract speaks of it.
+/// The key by which a choice that is made at this depth is ranked. It is made of the board after the choice, seen by the
+/// opponent: what its discs are worth there less the mover's, and how many empty squares touch the mover's discs (the
+/// opponent could come to move there) less those that touch its own; from a depth of 4 on also how many moves each side
+/// has. No search is made for it, and no contract speaks of it.
 #[inline(always)]
 fn key_of(after: Weighed, depth: u8) -> i32 {
     let Board { own, opp, .. } = after.board;

@@ -1,4 +1,4 @@
-//! What a search of a position gives.
+//! What a serial search of a position gives: score, choice, and how many positions were entered.
 ghost use Rattle.std.specs.Prelude.{◌≡◌, ◌<ℤ◌, ◌≤ℤ◌, ◌+◌, ◌-◌, ◌^◌, ℤ, neg_ℤ, min};
 ghost use Rattle.std.specs.Int.{int_max};
 ghost use Rattle.othello_eval.specs.Values.{IsWithin};
@@ -30,7 +30,7 @@ impl Scored {
         }
     }
 
-    /// The result without its choice.
+    /// The search's score and the number of positions entered, without the choice.
     #[inline(always)]
     pub(crate) fn counted(self) -> Counted
         ensures { result ≡ record { score = self.score; visited = self.visited } }
@@ -75,8 +75,8 @@ impl Counted {
         Counted { score, visited: 1 }
     }
 
-    /// With the result of searching the position after another choice, seen by the opponent: the greater score, and the
-    /// sum of the counts.
+    /// The score and the count so far, with the result of searching the position after one more choice, seen by the
+    /// opponent: the greater score, and the sum of the counts.
     #[inline(always)]
     pub(crate) fn with(self, child: Counted) -> Counted
         requires { IsWithin 128000 child.score }

@@ -1,4 +1,4 @@
-//! The search of a position and all that is entered below it.
+//! The serial search of a position, and of all that is entered below it.
 ghost use Rattle.std.specs.Prelude.{◌≡◌, ◌<◌, ◌≤◌, ◌<ℤ◌, ◌≤ℤ◌, IfSome, Contains, neg_ℤ};
 ghost use Rattle.othello_board.specs.Words.{cells};
 ghost use Rattle.othello_eval.specs.othello_moves.Choices.{choices};
@@ -77,9 +77,10 @@ fn best_of(weighed: Weighed, depth: u8, window: Window) -> Scored
     best
 }
 
-/// Searches one position below the first, and what has to be entered below it. Within `score_of` it is no call: most
-/// positions are leaves, which have none below them. `whole` says that the search is the specified one: choices in the rules'
-/// order, and each leaf's value. Else squares of the edges are taken early, and a leaf is looked at as far as the window asks.
+/// Searches one position below the first, and all that has to be entered below it. It is inlined in `score_of`, so that a
+/// leaf costs no call: most positions are leaves, which have none below them. Where `whole` is true the search is the
+/// specified one: choices in the rules' order, and the value of each leaf. Else squares of the edges are taken early, and
+/// a leaf is looked at only as far as the window asks.
 #[cycle(search)]
 #[inline(always)]
 pub(crate) fn search_below(weighed: Weighed, depth: u8, window: Window, whole: bool) -> Counted
@@ -92,7 +93,8 @@ pub(crate) fn search_below(weighed: Weighed, depth: u8, window: Window, whole: b
     Counted::entered(leaf_score(weighed, window, whole))
 }
 
-/// As `best_of`, without the choice. The board and the value of its discs are handed on by themselves, in registers.
+/// The score of a position below the first and how many positions were entered, as `best_of` finds them, without the
+/// choice. The board and the value of its discs are handed on by themselves, in registers.
 #[cycle(search)]
 fn score_of(board: Board, discs: i32, depth: u8, window: Window, whole: bool) -> Counted
     requires weighed { discs ≡ discs_value (cells board) weights }

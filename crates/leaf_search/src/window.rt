@@ -1,4 +1,4 @@
-//! The window that a search looks through.
+//! The window (alpha, beta) that a serial search looks through.
 ghost use Rattle.std.specs.Prelude.{◌≡◌, ◌<ℤ◌, ◌≤ℤ◌, ◌+ℤ◌, neg_ℤ, pos};
 ghost use Rattle.std.specs.Int.{int_max};
 ghost use Rattle.leaf_search.specs.declared.window.TheConstants.{INF};

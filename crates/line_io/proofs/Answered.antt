@@ -1,4 +1,4 @@
--- The answers to some lines, and their writes.
+-- Lines in, answers out: the answers to some lines of an input, and their writes.
 use Rattle.line_io.proofs.Common.{◌≡◌, ℕ, List, [], ◌∷◌, ◌++◌, map, refl, sym, ap, ◌∙◌, subst, append_assoc, Result, Ok, Err, arith, append-nil, map-append, concat-append, flat_map-append, concat, WriteFailed, LineText, Leads, Took, IsWritten, LinesAnswered, IsAnswered, with_newline, written_texts, writes_of}
 use Rattle.line_io.proofs.Chains.{Answering, Writing, Leads-append, Answers-append}
 

@@ -1,4 +1,4 @@
--- The lines that end in one block.
+-- Lines in, answers out: the lines that end in one block of the input.
 use Rattle.line_io.proofs.Common.{◌≡◌, ◌≢◌, ℕ, ◌+◌, ◌<◌, ◌≤◌, List, [], ◌∷◌, ◌++◌, length, get_or, drop, cond, eqb, false, refl, sym, ap, ◌∙◌, append_assoc, arith, Option, Some, Result, Ok, Err, at_drop_more, drop_all, nat_tests, WriteFailed, LineText, LinesAnswered, with_byte, ended_line, held_after, ended_within}
 use Rattle.line_io.proofs.Chains.{Answering, Writing}
 use Rattle.line_io.proofs.Answered.{LinesAnswered-none, LinesAnswered-append, LinesAnswered-before, LinesAnswered-same}

@@ -1,4 +1,4 @@
--- Where each answer is that of a function, what is written is a function of what is read.
+-- Lines in, answers out: where each answer is that of a function, what is written is a function of what is read.
 use Rattle.line_io.proofs.Common.{◌≡◌, ℕ, ◌<◌, List, [], ◌∷◌, ◌++◌, length, map, refl, sym, ap, ◌∙◌, append_assoc, arith, length-append, Result, Ok, Err, append-nil, flat_map-map, flat_map-append, concat, flat_map, LineFault, WriteFailed, LineText, lines_of, Answers, IsPrefixOf, IsAnswered, written_texts, with_newline, Run, FunctionRun, IsProperPrefix, IsOutput, answers_to, bytes_due, write_result}
 use Rattle.line_io.proofs.Chains.{Answering, Reading, Writing}
 

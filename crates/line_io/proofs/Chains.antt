@@ -1,4 +1,4 @@
--- Chains of states, and the relations that make them.
+-- Lines in, answers out: chains of states, from read to read and write to write, and the relations that make them.
 use Rattle.line_io.proofs.Common.{◌≡◌, ℕ, List, [], ◌∷◌, ◌++◌, refl, sym, ap, ◌∙◌, subst, append-nil, concat-append, concat, LineText, Leads, Answers, ReadAnswer, WriteAnswer}
 
 -- what reads do to a source, writes to a sink, and answers to lines to an answerer

@@ -1,4 +1,4 @@
--- Readers whose bytes are known, and writers whose contents are.
+-- Readers whose bytes are known, and writers whose contents are: what reads and writes come to for them.
 use Rattle.line_io.proofs.Common.{◌≡◌, ℕ, List, [], ◌∷◌, ◌++◌, map, sym, ap, ◌∙◌, append_assoc, subst, Option, Some, Result, Ok, Err, arith, append-nil, concat, Keeps, Appends, Consumes, IsAtEnd, WriteFailed, Leads, Gave, Ended, ReadsKnown, WritesKnown, writes_of, FunctionRun}
 use Rattle.line_io.proofs.Chains.{Reading, Writing}
 

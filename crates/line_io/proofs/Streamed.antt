@@ -1,4 +1,4 @@
--- Lines that are cut byte by byte are the lines of all bytes.
+-- Lines that are cut from an input byte by byte are the lines of all its bytes.
 use Rattle.line_io.proofs.Common.{◌≡◌, ℕ, ◌+◌, ◌≤◌, List, [], ◌∷◌, ◌++◌, length, map, cond, eqb, Bool, true, false, refl, sym, ap, ◌∙◌, append_assoc, arith, Option, Some, None, inl, inr, cases_Bool, nat_le, length-append, append-nil, nat_tests, slice_split, onto_first, list_any, option_to_list, lines_of_parts, strip_carriage_return, common_steps, LineText, Whole, TooLong, line_text, lines_of, up_to_last_end, held, with_byte, ended_line, last_line, held_after, ended_within}
 
 -- what is cut off is one byte at most

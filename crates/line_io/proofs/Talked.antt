@@ -1,4 +1,4 @@
--- Lines that are answered up to one that ends the talk.
+-- Lines of an input that are answered up to one that ends the talk.
 use Rattle.line_io.proofs.Common.{◌≡◌, ◌≢◌, ℕ, ◌+◌, ◌<◌, ◌≤◌, List, [], ◌∷◌, ◌++◌, length, get_or, drop, Bool, true, false, not, ◌&&◌, refl, sym, ap, ◌∙◌, append_assoc, Option, Some, Ok, Err, arith, if◌then◌else◌, append-nil, drop_all, not-true, WriteFailed, LineText, LinesAnswered, with_byte, ended_line, held_after, ended_within, upto, none_ends}
 use Rattle.line_io.proofs.Chains.{Answering, Writing}
 use Rattle.line_io.proofs.Answered.{LinesAnswered-append, LinesAnswered-before, LinesAnswered-same}

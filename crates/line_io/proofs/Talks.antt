@@ -1,4 +1,4 @@
--- A whole talk.
+-- A whole talk: lines of an input and their answers, up to a line that ends it, the end or a fault.
 use Rattle.line_io.proofs.Common.{◌≡◌, ℕ, ◌+◌, List, [], ◌∷◌, ◌++◌, length, Bool, true, false, true≢false, not, ◌&&◌, refl, sym, ap, ◌∙◌, Option, Some, Ok, Err, inl, map, arith, if◌then◌else◌, append-nil, concat, option_to_list, WriteFailed, Read, Write, TalkEnd, Line as by_line, LineText, lines_of, IsPrefixOf, Gave, Ended, Failed, LinesAnswered, held_after, ended_within, last_line, Talk, IsTalkEnd, upto, none_ends, end_of}
 use Rattle.line_io.proofs.Chains.{Answering, Reading, Writing, Leads-more}
 use Rattle.line_io.proofs.Answered.{LinesAnswered-append, LinesAnswered-before, LinesAnswered-same}

@@ -1,4 +1,4 @@
--- The lines of all blocks.
+-- A whole input: the lines of all its blocks, and their answers.
 use Rattle.line_io.proofs.Common.{◌≡◌, ◌≢◌, ℕ, ◌+◌, ◌≤◌, ◌^◌, List, [], ◌∷◌, ◌++◌, length, map, take, cond, eqb, refl, sym, ap, ◌∙◌, subst, arith, Option, Some, inl, Ok, Err, length-append, append-nil, map-append, length-take, concat, option_to_list, WriteFailed, Read, Write, TooMuch, LineText, lines_of, Leads, Gave, Ended, Failed, LinesAnswered, held_after, ended_within, last_line, Run}
 use Rattle.line_io.proofs.Chains.{Answering, Reading, Writing, Leads-more, concat-more}
 use Rattle.line_io.proofs.Answered.{LinesAnswered-none, LinesAnswered-append, LinesAnswered-before, LinesAnswered-same}

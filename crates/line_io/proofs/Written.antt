@@ -1,4 +1,4 @@
--- The writes of one text.
+-- The writes of one text: as many calls as it takes, each of which may take a part of it.
 use Rattle.line_io.proofs.Common.{◌≡◌, ℕ, ◌+◌, ◌-◌, ◌<◌, List, [], ◌∷◌, ◌++◌, length, map, take, drop, sym, ap, ◌∙◌, subst, append_assoc, arith, Err, take-append-drop, drop-drop, take_all, length-drop, map-append, concat, WriteFailed, Leads, Took, Refused, IsWritten}
 use Rattle.line_io.proofs.Chains.{Writing, Leads-more, concat-more}
 

@@ -1,4 +1,4 @@
--- Representation: what is seen of a cutter of lines.
+-- Representation: what contracts see of a cutter, which cuts an input into lines.
 use Rattle.std.specs.Prelude.{◌≡◌, ◌≢◌, ℕ, ◌≤◌, List, [], ◌∷◌, ◌++◌, take, Option, Some, None}
 use Rattle.line_io.specs.declared.cutting.Beyond.{Beyond}
 use Rattle.line_io.specs.declared.cutting.Beyond.TheVariants.{Nothing, Return, More}

@@ -1,4 +1,5 @@
--- Meaning: chains of states.
+-- Meaning: chains of states of an input, an output or an answerer: each state leads to the next by one read, write or
+-- answer.
 use Rattle.std.specs.Prelude.{◌≡◌, ℕ, List, [], ◌∷◌, ◌++◌}
 use Rattle.line_io.specs.Lines.{LineText}
 

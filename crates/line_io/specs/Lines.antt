@@ -1,5 +1,6 @@
--- Meaning: the lines of a stream of bytes. A line ends with LF (10), and one CR (13) directly before that LF is dropped.
--- Bytes after the last LF, if there are any, are a line too, and keep a CR at their end. This is std's `lines`.
+-- Meaning: the lines of an input, which is a stream of bytes. A line ends with LF (10), and one CR (13) directly
+-- before that LF is dropped. Bytes after the last LF, if there are any, are a line too, and keep a CR at their end.
+-- This is std's `lines`.
 use Rattle.std.specs.Prelude.{ℕ, List, [], ◌∷◌, length, map, nat_le, ◌==◌, if◌then◌else◌}
 use Rattle.std.specs.List.{list_any}
 use Rattle.std.specs.Str.Lines.{lines}
@@ -13,7 +14,7 @@ pub data LineText : Type 0 where
 abbrev pub line_text : List ℕ → LineText
 line_text bytes = if nat_le (length bytes) 128 then Whole bytes else TooLong
 
--- all lines of these bytes
+-- all lines of an input of these bytes
 abbrev pub lines_of : List ℕ → List LineText
 lines_of bytes = map line_text (lines bytes)
 

@@ -1,4 +1,4 @@
--- Meaning: a whole run: what was read, which lines were answered, and what was written.
+-- Meaning: a whole run over an input: what was read, which lines were answered, and what was written.
 use Rattle.std.specs.Prelude.{◌≡◌, ◌⊎◌, ℕ, ◌<◌, ◌≤◌, ◌^◌, List, [], ◌∷◌, ◌++◌, map, length, Result, Ok, Err}
 use Rattle.std.specs.List.{concat, flat_map}
 use Rattle.line_io.specs.declared.faults.LineFault.{LineFault}

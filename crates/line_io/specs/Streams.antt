@@ -1,4 +1,4 @@
--- Meaning: what one read or one write did.
+-- Meaning: what one read of an input or one write of an output did.
 use Rattle.std.specs.Prelude.{ℕ, List, [], take, ◌==◌, if◌then◌else◌, Option, Result, Ok, Err}
 use Rattle.std.specs.Io.KnownBytes.{Keeps, Appends, Consumes, IsAtEnd}
 use Rattle.line_io.specs.declared.faults.ReadFailed.{ReadFailed}
@@ -10,17 +10,17 @@ pub data ReadAnswer : Type 0 where
   Ended : ReadAnswer
   Failed : ReadAnswer
 
--- what one write did: it took these bytes, the first of those that it was offered, or it failed
+-- what one write of an output did: it took these bytes (the first of those that were offered), or it failed
 pub data WriteAnswer : Type 0 where
   Took : (bytes : List ℕ) → WriteAnswer
   Refused : WriteAnswer
 
--- what a call of `fill` did, by its result and the block after it
+-- what one read of an input (a call of `fill`) did, by its result and by the block of bytes after it
 abbrev pub read_answer : Result ℕ ReadFailed → List ℕ → ReadAnswer
 read_answer (Ok n) block = if n == 0 then Ended else Gave (take n block)
 read_answer (Err _) block = Failed
 
--- what a call of `put` did, by its result and the bytes that it was offered
+-- what one write of an output (a call of `put`) did, by its result and by the bytes that it was offered
 abbrev pub write_answer : Result ℕ WriteFailed → List ℕ → WriteAnswer
 write_answer (Ok n) bytes = Took (take n bytes)
 write_answer (Err _) bytes = Refused

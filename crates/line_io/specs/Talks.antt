@@ -1,4 +1,4 @@
--- Meaning: a talk: lines are answered up to one that ends it.
+-- Meaning: a talk: the lines of an input are answered up to one that ends it.
 use Rattle.std.specs.Prelude.{◌≡◌, ◌⊎◌, ℕ, List, [], ◌∷◌, ◌++◌, map, Bool, true, false, not, ◌&&◌, if◌then◌else◌, Result, Ok, Err}
 use Rattle.std.specs.List.{concat}
 use Rattle.line_io.specs.declared.faults.LineFault.{LineFault}

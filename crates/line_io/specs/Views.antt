@@ -1,4 +1,4 @@
--- Meaning: the numbers of faults, and a line as data.
+-- Meaning: the numbers of the faults of a run over an input, and a line as data.
 use Rattle.std.specs.Prelude.{ℕ}
 use Rattle.line_io.specs.declared.faults.LineFault.{LineFault}
 use Rattle.line_io.specs.declared.faults.LineFault.TheVariants.{Read, Write, TooMuch}

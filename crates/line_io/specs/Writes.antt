@@ -1,4 +1,4 @@
--- Meaning: the writes of a text, and of the answers to some lines.
+-- Meaning: the writes of a text, and of the answers to some lines of an input.
 use Rattle.std.specs.Prelude.{◌≡◌, ℕ, ◌<◌, List, [], ◌∷◌, ◌++◌, map, length, Result, Ok, Err}
 use Rattle.std.specs.List.{concat, flat_map}
 use Rattle.line_io.specs.declared.faults.WriteFailed.{WriteFailed}
@@ -10,7 +10,7 @@ use Rattle.line_io.specs.Streams.{WriteAnswer, Took, Refused}
 abbrev pub with_newline : List ℕ → List ℕ
 with_newline text = text ++ 10 ∷ []
 
--- these texts, each followed by LF
+-- these answers as they are written, each followed by LF
 abbrev pub written_texts : List (List ℕ) → List ℕ
 written_texts texts = flat_map with_newline texts
 

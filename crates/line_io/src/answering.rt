@@ -1,4 +1,4 @@
-//! Answering each line as soon as it is complete.
+//! Answering each line of an input as soon as it is complete.
 ghost use Rattle.std.specs.Prelude.{◌≡◌, ℕ, List, [], ◌∷◌, OnOk};
 ghost use Rattle.std.specs.Option.{option_to_list};
 ghost use Rattle.line_io.specs.Lines.{LineText};
@@ -27,11 +27,11 @@ pub trait LineAnswerer {
     /// The last answer, with its LF.
     ghost kept: { Self → List ℕ };
 
-    /// Answers the next line.
+    /// Answers the next line of the input.
     fn answer(&mut self, line: Line<'_>)
         ensures { (text : List ℕ) × answers self.old (text_of line.entry) text self.new × (kept self.new ≡ with_newline text) };
 
-    /// The last answer, with its LF.
+    /// The text of the last answer, with its LF.
     fn text(&self) -> &[u8]
         ensures { result.now ≡ kept self.now };
 }

@@ -1,4 +1,4 @@
-//! Cutting bytes into lines.
+//! Cutting the bytes of an input into lines.
 ghost use Rattle.std.specs.Prelude.{◌≡◌, ◌≢◌, [], Some, option_map};
 ghost use Rattle.line_io.specs.Held.{with_byte, ended_line, last_line};
 ghost use Rattle.std.specs.Str.Lines.{strip_carriage_return};
@@ -57,7 +57,7 @@ impl Model for LineCutter {
 }
 
 impl LineCutter {
-    /// A cutter at the start of a line.
+    /// A cutter that has no byte of a line yet.
     pub fn new() -> LineCutter
         ensures { result ≡ Some [] }
     {
@@ -68,7 +68,7 @@ impl LineCutter {
         }
     }
 
-    /// Begins the next line.
+    /// Forgets the bytes held: the next line begins.
     pub fn clear(&mut self)
         ensures { self.new ≡ Some [] }
     {
@@ -92,7 +92,7 @@ impl LineCutter {
         };
     }
 
-    /// The line, where an LF ends it now.
+    /// The line of the bytes held, where an LF ends it now.
     pub fn line(&self) -> Line<'_>
         ensures { text_of result ≡ ended_line self.now }
     {

@@ -1,4 +1,4 @@
-//! Why a run ended before its input did.
+//! Why a run over an input ended before the input did.
 ghost use Rattle.std.specs.Prelude.{◌≡◌};
 ghost use Rattle.line_io.specs.Views.{line_fault_number};
 ghost use Rattle.line_io.specs.declared.faults.LineFault.TheVariants.{Read, Write};
@@ -30,7 +30,7 @@ pub enum LineFault {
 }
 
 impl LineFault {
-    /// The number of the fault.
+    /// The fault's number: 1 to 3.
     pub fn number(self) -> u8
         ensures { result ≡ line_fault_number self }
     {
@@ -45,6 +45,7 @@ impl LineFault {
 impl From<ReadFailed> for LineFault {
     ghost from_gives = { λ _ fault. fault ≡ Read };
 
+    /// A read that failed ends the run with fault 1.
     fn from(_: ReadFailed) -> LineFault {
         LineFault::Read
     }
@@ -53,6 +54,7 @@ impl From<ReadFailed> for LineFault {
 impl From<WriteFailed> for LineFault {
     ghost from_gives = { λ _ fault. fault ≡ Write };
 
+    /// A write that failed ends the run with fault 2.
     fn from(_: WriteFailed) -> LineFault {
         LineFault::Write
     }

@@ -1,4 +1,4 @@
-//! Where bytes come from.
+//! Where the bytes of an input come from: sources, over std's readers.
 ghost use Rattle.std.specs.Prelude.{◌≡◌, ◌<◌, ◌≤◌, length, IfOk};
 ghost use Rattle.line_io.specs.Streams.{ReadAnswer, read_answer, ReadsKnown};
 
@@ -32,6 +32,7 @@ pub struct FromReader<R> {
 impl<R: Read> Source for FromReader<R> {
     ghost gives = { λ s answer t. ReadsKnown (R.remaining s.reader) answer (R.remaining t.reader) };
 
+    /// Reads into the block. A read that a signal interrupts is made again; it fails after 65,536 of them.
     fn fill(&mut self, block: &mut [u8]) -> Result<usize, ReadFailed> {
         for _ in 0..READ_TRIES {
             match self.reader.read(block) {

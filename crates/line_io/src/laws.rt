@@ -1,4 +1,4 @@
-//! Laws of lines and of runs. A function here does nothing: its contract is the law.
+//! Laws of an input's lines and of runs over it. A function here does nothing: its contract is the law.
 ghost use Rattle.std.specs.Prelude.{◌≡◌, ℕ, List, [], ◌∷◌, ◌++◌, map, Result, Ok, Some};
 ghost use Rattle.std.specs.List.{concat};
 ghost use Rattle.line_io.specs.declared.faults.WriteFailed.{WriteFailed};

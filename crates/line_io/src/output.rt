@@ -1,4 +1,4 @@
-//! Where answers go.
+//! Where the answers to an input's lines go: sinks, over std's writers.
 ghost use Rattle.std.specs.Prelude.{◌≡◌, ◌<◌, ◌≤◌, length, None, IfOk, OnOk};
 ghost use Rattle.line_io.specs.Streams.{WriteAnswer, write_answer, WritesKnown};
 ghost use Rattle.line_io.specs.Writes.{IsWritten};
@@ -33,7 +33,7 @@ pub struct FromWriter<W> {
 }
 
 impl<W> FromWriter<W> {
-    /// A sink that has written nothing.
+    /// A sink over this writer, by which nothing was written yet.
     pub fn new(writer: W) -> FromWriter<W>
         ensures { result ≡ record { writer = writer; failure = None } }
     {
@@ -56,6 +56,8 @@ impl<W> FromWriter<W> {
 impl<W: Write> Sink for FromWriter<W> {
     ghost takes = { λ s answer t. WritesKnown (W.contents s.writer) answer (W.contents t.writer) };
 
+    /// Writes to the writer. A write that a signal interrupts is made again; it fails after 65,536 of them, and where the
+    /// writer takes no byte.
     fn put(&mut self, bytes: &[u8]) -> Result<usize, WriteFailed> {
         for _ in 0..WRITE_TRIES {
             match self.writer.write(bytes) {

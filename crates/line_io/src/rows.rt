@@ -1,5 +1,5 @@
-//! The definitions of lines, tried on small inputs: each contract is computed from the definitions alone. `a` is 97,
-//! `b` is 98, CR is 13 and LF is 10.
+//! The definitions of an input's lines, tried on small inputs: each contract is computed from the definitions alone.
+//! `a` is 97, `b` is 98, CR is 13 and LF is 10.
 ghost use Rattle.std.specs.Prelude.{◌≡◌, [], ◌∷◌, ◌++◌, replicate};
 ghost use Rattle.line_io.specs.Lines.{Whole, TooLong, lines_of, up_to_last_end};
 
@@ -21,7 +21,7 @@ pub fn longer_lines_are_skipped()
     ensures return_and_no_end { lines_of (replicate 128 97 ++ 13 ∷ []) ≡ TooLong ∷ [] }
 {}
 
-/// Where a read fails, the bytes after the last LF are no line.
+/// Where a read fails, the bytes after the last LF are no line: of LF, a, LF, b the first three count, of a, b none.
 pub fn bytes_after_the_last_end_are_left_out()
     ensures some { up_to_last_end (10 ∷ 97 ∷ 10 ∷ 98 ∷ []) ≡ 10 ∷ 97 ∷ 10 ∷ [] }
     ensures none { up_to_last_end (97 ∷ 98 ∷ []) ≡ [] }

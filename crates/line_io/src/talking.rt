@@ -1,4 +1,4 @@
-//! Answering lines until one of them ends the talk.
+//! Answering the lines of an input until one of them ends the talk.
 ghost use Rattle.std.specs.Prelude.{◌≡◌, [], ◌∷◌, Some, Ok, Bool, false, not, IfOk, OnOk};
 ghost use Rattle.std.specs.Option.{option_to_list};
 ghost use Rattle.line_io.specs.Lines.{LineText};
@@ -19,7 +19,7 @@ pub trait Ends {
     /// Which lines end a talk.
     ghost ends: { LineText → Bool };
 
-    /// Whether this line ends the talk.
+    /// Whether this line of the input ends the talk.
     fn is_last(&self, line: Line<'_>) -> bool
         ensures { result ≡ ends (text_of line.entry) };
 }

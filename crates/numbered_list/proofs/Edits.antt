@@ -1,4 +1,5 @@
--- What a change of one thing, a removal and an insertion leave: of the thing itself, of all others, of the order, and of lengths and sums.
+-- A list of things that each have a number (such as accounts by tenant): what a change of one thing, a removal and an
+-- insertion leave of the thing itself, of all others, of the order, and of lengths and sums.
 use Rattle.std.proofs.Common.{◌≡◌, ◌≢◌, ℕ, zero, suc, ◌+◌, ◌-◌, ◌<◌, ◌≤◌, true, false, cond, eqb, ltb, List, [], ◌∷◌, ◌++◌, length, get_or, set, Option, Some}
 use Rattle.std.proofs.Common.{None, refl, ap, sym, ◌∙◌, subst, inl, inr, arith}
 use Rattle.std.specs.Prelude.{sum_by, IfSome, IfNone, option_copied}

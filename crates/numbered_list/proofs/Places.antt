@@ -1,4 +1,4 @@
--- Where the thing of a number stands in a list that rises.
+-- A list of things that rise by number (such as accounts by tenant): where the thing of a number stands.
 use Rattle.std.proofs.Common.{◌≡◌, ◌≢◌, ℕ, zero, suc, ◌<◌, ◌≤◌, true, false, ltb, List, [], ◌∷◌, length, get_or, Some, None, refl, ap, arith, ◌+◌, ◌-◌, ◌%◌}
 use Rattle.std.proofs.Common.{◌^◌, bit_and, length-set}
 use Rattle.std.proofs.lemmas.Bool.{ltb-true, ltb-false, lt-ltb, eq-eqb, ne_eqb}

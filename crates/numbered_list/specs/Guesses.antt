@@ -1,4 +1,5 @@
--- Representation: what a guess is, and a table after guesses were put down.
+-- Representation: where a list's index guesses that a number's thing stands, and its table after guesses were put
+-- down.
 use Rattle.std.specs.Prelude.{ℕ, suc, ◌%◌, ◌^◌, List, [], ◌∷◌, length, slice_index, slice_set}
 
 -- the guess for a number: the entry of the table at the number's remainder by the table's length

@@ -1,4 +1,4 @@
--- Meaning: what a list by number ends as, where a `&mut` to one of its things is returned.
+-- Meaning: what a list of things by number ends as, where a `&mut` to one of its things is returned.
 use Rattle.std.specs.Prelude.{ℕ}
 use Rattle.std.specs.Borrow.{Lends, Fml, RattleType, MutBor}
 use Rattle.std.specs.declared.alloc.Allocator.{Ghosts}

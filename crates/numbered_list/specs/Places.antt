@@ -1,4 +1,4 @@
--- Meaning: where a number stands in a list of things that each have a number.
+-- Meaning: where a number's thing stands in a list of things that each have a number, such as accounts by tenant.
 use Rattle.std.specs.Prelude.{◌≡◌, ◌≢◌, ℕ, ◌<◌, ◌==◌, ◌||◌, Bool, false, nat_lt, if◌then◌else◌, List, [], ◌∷◌, Option, Some, None}
 use Rattle.std.specs.List.{AllByRecursion}
 use Prim.Native.Nat.{zero, suc}
@@ -14,7 +14,7 @@ abbrev pub find_by_number : {X : Type 0} → (X → ℕ) → ℕ → List X → 
 find_by_number number_of n [] = None
 find_by_number number_of n (x ∷ xs) = if number_of x == n then Some x else find_by_number number_of n xs
 
--- whether there is a thing of this number
+-- whether the list has a thing of this number
 abbrev pub has_by_number : {X : Type 0} → (X → ℕ) → ℕ → List X → Bool
 has_by_number number_of n [] = false
 has_by_number number_of n (x ∷ xs) = (number_of x == n) || has_by_number number_of n xs
@@ -45,7 +45,7 @@ IsAt number_of n [] at = ⊥
 IsAt number_of n (x ∷ xs) zero = number_of x ≡ n
 IsAt number_of n (x ∷ xs) (suc at) = (number_of x ≢ n) × IsAt number_of n xs at
 
--- each thing's number is above this one
+-- each thing of the list has a number above this one
 abbrev pub AreAbove : {X : Type 0} → (X → ℕ) → ℕ → List X → Type 0
 AreAbove number_of n xs = AllByRecursion (λ x. n < number_of x) xs
 

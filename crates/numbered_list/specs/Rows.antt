@@ -1,15 +1,16 @@
--- Representation: the things of a worked example: a number and what stands under it, one number twice.
+-- Representation: the things of a worked example of a list by number: a number and what stands under it, one number
+-- twice.
 use Rattle.std.specs.Prelude.{ℕ, ◌+◌, List, [], ◌∷◌}
 
--- the number of a thing
+-- the number of a thing of the example: the first of the pair
 abbrev pub number_in : ℕ × ℕ → ℕ
 number_in pair = pair.0
 
--- what stands under the number of a thing
+-- what stands under the number of a thing of the example: the second of the pair
 abbrev pub kept_in : ℕ × ℕ → ℕ
 kept_in pair = pair.1
 
--- four things; 5 is the number of two
+-- a list of four things, by their numbers 2, 5, 5 and 9
 abbrev pub four_things : List (ℕ × ℕ)
 four_things = (2, 20) ∷ (5, 50) ∷ (5, 51) ∷ (9, 90) ∷ []
 

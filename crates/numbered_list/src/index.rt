@@ -1,4 +1,4 @@
-//! The index of a list of things that rise by number.
+//! The index of a list of things that rise by number, such as accounts by tenant.
 //!
 //! Seen as the list of its 256 guesses, each below 64. Nothing that is promised of an answer rests on them.
 ghost use Rattle.std.specs.Prelude.{◌≡◌, ◌<◌, length, replicate, nat_lt, option_copied, slice_index_or, IfSome};

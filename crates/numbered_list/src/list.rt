@@ -1,4 +1,4 @@
-//! A list of things that rise by number, in memory for 64.
+//! A list of things that rise by number, such as accounts by tenant, in memory for 64.
 //!
 //! Seen as that list. That it rises is asked of each call, since a thing that is lent may come back under another
 //! number: who keeps such a list has it in the invariant.
@@ -46,14 +46,14 @@ impl<T: Numbered, A: Allocator> NumberedList<T, A> {
         })
     }
 
-    /// How many things there are.
+    /// How many things the list has.
     pub fn len(&self) -> usize
         ensures { result ≡ length self.now }
     {
         self.things.len()
     }
 
-    /// The things, by rising number.
+    /// The list's things, by rising number.
     #[inline(always)]
     pub fn as_slice(&self) -> &[T]
         ensures { result.now ≡ self.now }

@@ -1,9 +1,11 @@
-//! The definitions of a list of things that have numbers, tried on one small list: each contract is computed from the definitions alone.
+//! The definitions of a list of things that have numbers, tried on one small list: each contract is computed from the
+//! definitions alone. A thing stands as its number and what is kept under it.
 ghost use Rattle.std.specs.Prelude.{◌≡◌, Some, None, [], ◌∷◌, true, false};
 ghost use Rattle.numbered_list.specs.Places.{count_below, find_by_number, has_by_number, read_by_number, change_by_number, remove_by_number, inserted};
 ghost use Rattle.numbered_list.specs.Rows.{number_in, kept_in, four_things, raised};
 
-/// What is found: the first thing of a number, and none of another number.
+/// In a list of the numbers 2, 5, 5 and 9: the first thing of 5 is found, behind one of a lower number; 3 and 6 are not
+/// there.
 pub fn a_thing_is_found()
     ensures place { count_below number_in 5 four_things ≡ 1 }
     ensures thing { find_by_number number_in 5 four_things ≡ Some (5, 50) }

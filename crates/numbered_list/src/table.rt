@@ -1,4 +1,4 @@
-//! The table of guesses.
+//! The table of guesses where a number's thing stands in a list.
 //!
 //! Seen as the list of the places that were put down. Its length is a power of two, and the mask is
 //! that less one, so that the lowest bits of a number are its remainder.

@@ -1,4 +1,5 @@
--- The word of a list of squares, bit by bit; and the cells of two words, square by square.
+-- The two words of an Othello board: the word of a list of squares, bit by bit; and the cells of two words, square by
+-- square.
 use Rattle.othello_board.proofs.Common.{◌≡◌, ℕ, ◌^◌, Bool, cond, eqb, ◌||◌, List, [], ◌∷◌, ◌++◌, bit_or, bit_and, min, max, refl, sym, ap, ◌∙◌, arith, ◌≢◌, zero, suc, ◌+◌, ◌/◌, ◌<◌, ◌≤◌, nat_eq, map, length, ◌⊎◌, inl, inr, ◌%◌, count_by, bit_at, eqb_tells, bit_at_and, bit_at_or, bit_at-zero, bit_at-pow_same, bit_at-pow_other, same_from_bits, shr_and_one, bit_at-lt, bit_at_lowest, bit_at-suc, is_among, squares, cell_at, exchanged_cell, exchanged, is_own_cell, is_opp_cell, bits_of, cell_of, cells_of, cases_lt, range_with_len, get_or-map-range_with_len, length-map-range_with_len, Cell, Empty, Own, Opp, ones, ones_step, ones-le, div_below, pow-suc, is_count_by}
 
 -- the order and the grouping of `|` are free

@@ -1,4 +1,4 @@
--- The names that the proofs take of the library, of the crates below and of this crate's definitions, from one place.
+-- The names that the proofs of the Othello board use, imported in one place.
 pub use Rattle.std.proofs.Common.{Bool, List, None, Option, Some, [], add-one, ap, ap₂, arith, bit_and, bit_or, cond, count_by, eqb, false, get_or}
 pub use Rattle.std.proofs.Common.{if◌then◌else◌, inl, inr, leb, leb-true, length, ltb, ltb-true, map, max, min, nat_eq, nat_lt, refl, subst, suc, sym, true}
 pub use Rattle.std.proofs.Common.{unwrap_or, w64, zero, ℕ, ◌%◌, ◌&&◌, ◌*◌, ◌++◌, ◌+◌, ◌-◌, ◌/◌, ◌<◌, ◌^◌, ◌||◌, ◌∙◌, ◌∷◌, ◌≡◌, ◌≢◌, ◌≤◌, ◌⊎◌}

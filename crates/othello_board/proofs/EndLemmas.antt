@@ -1,4 +1,5 @@
--- The end of a run: the first square of a ray that isn't opposing, found in a list and in a word.
+-- The flips of an Othello board: where a run ends (the first square of a ray that isn't opposing), found in a list and
+-- in a word.
 use Rattle.othello_board.proofs.Common.{◌≡◌, ◌≢◌, ℕ, zero, suc, ◌+◌, ◌-◌, ◌*◌, ◌/◌, ◌%◌, ◌^◌, ◌<◌, ◌≤◌, Bool, true, false, cond, ◌||◌, eqb, ltb, List, [], ◌∷◌, ◌++◌, Some, None, unwrap_or, bit_and, bit_or, min, max, ◌⊎◌, inl, inr, refl, sym, ap, ap₂, ◌∙◌, arith, w64, add-one, bit_at, list_all, option_map, eqb-true, eq-eqb, and_from, cases_lt, and_parts, eqb_tells, and_comm, and_le_l, le_or_l, or_lt, shr_le, div-add-mod', mod_below, pow_pos, pow_below, and_pow, bit_at_and, bit_at_or, bit_at_not, bit_at-lt, bit_at-zero, bit_at-pow_same, bit_at-pow_other, bit_at_above, bit_at_ones, bit_at_ones_above, bit_at_cat_low, bit_at_cat_high, bit_at_mask_inside, bit_at_mask_below, same_from_bits_below, pow-suc, mul_comm, pow_mono, common_steps, Opp, cell_at, led_by, outflanked, is_among, cells_of, bits_of, negated, others, rising_run, lowered_to, falling_run}
 use Rattle.std.proofs.lemmas.Bool.{ltb-true}
 use Rattle.othello_board.proofs.CellLemmas.{apart, bit_at-bits_of, bits_of-append, bit-cases, own-here, opp-here, empty-here}

@@ -1,4 +1,4 @@
--- The flips, all directions together.
+-- The flips of an Othello board, all directions together.
 use Rattle.othello_board.proofs.Common.{◌≡◌, ℕ, ◌^◌, ◌<◌, true, false, List, bit_and, bit_or, ap, ap₂, ◌∙◌, arith, ◌-◌, Bool, cond, eqb, ◌∷◌, min, max, sym, w64, flat_map, bit_at_or, same_from_bits, bit_at_and, bit_at_not, bit_at-zero, bit_at-lt, same_from_bits_below, Direction, North, NorthEast, East, SouthEast, South, SouthWest, West, NorthWest, directions, ray, run, flips, squares, cell_at, is_among, made_own, exchanged_cell, exchanged, cells_of, bits_of, cell_of, rising_run, falling_run, bit_at, and_le_l, or_comm, Empty, Own, Opp}
 use Rattle.othello_board.proofs.CellLemmas.{or-assoc, or-zero, bits_of-append, apart, bit_at-bits_of, map-map, map-squares-same, cell_at-cells_of, exchanged-cell_of-by}
 use Rattle.othello_board.proofs.ShiftLemmas.{ray_at, stride, ordered, falls_by, table-read, ray-fits, ray-ordered, ray-falls}

@@ -1,4 +1,4 @@
--- Representation: directions as the words of bits see them.
+-- Representation: the directions of an Othello board as its words of bits see them: as shifts.
 use Rattle.othello_board.proofs.Common.{bit_at, Direction, North, NorthEast, East, SouthEast, South, SouthWest, West, NorthWest, ◌≡◌, zero, suc, ◌*◌, ◌/◌, ◌%◌, ◌^◌, ◌<◌, ◌≤◌, Bool, true, ◌&&◌, eqb, leb, ltb, inl, inr, sym, ap, ◌∙◌, arith, false, [], ◌∷◌, unwrap_or, ◌||◌, get_or, List, refl, subst, ℕ, ◌+◌, ◌-◌, nat_lt, if◌then◌else◌, Option, Some, None, ltb-true, leb-true, eqb-true, and_parts, div-add-mod', mod_below, pow_pos, eqb_tells, bit_at-zero, bit_at_above, bit_at_cat_low, bit_at_cat_high, option_map, step, squares_beside, ray, list_all, RAYS, bits_of}
 
 -- the opposite direction

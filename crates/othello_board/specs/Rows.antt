@@ -1,9 +1,9 @@
--- Representation: boards on which the definitions are tried.
+-- Representation: Othello boards on which the definitions are tried.
 use Rattle.std.specs.Prelude.{List, [], ◌∷◌, ◌++◌, replicate}
 use Rattle.othello_board.specs.declared.cells.Cell.{Cell}
 use Rattle.othello_board.specs.declared.cells.Cell.TheVariants.{Empty, Own, Opp}
 
--- three empty rows
+-- three rows of a board without discs
 abbrev pub empty_rows : List Cell
 empty_rows = replicate 24 Empty
 

@@ -46,7 +46,7 @@ step SouthWest s = option_and_then left_of (below s)
 step West s = left_of s
 step NorthWest s = option_and_then left_of (above s)
 
--- the 8 directions
+-- the 8 directions of a board, clockwise from north
 abbrev pub directions : List Direction
 directions = North ∷ NorthEast ∷ East ∷ SouthEast ∷ South ∷ SouthWest ∷ West ∷ NorthWest ∷ []
 
@@ -82,18 +82,22 @@ run board s d = unwrap_or (outflanked board (ray d s)) []
 abbrev pub flips : List Cell → ℕ → List ℕ
 flips board s = flat_map (run board s) directions
 
+-- whether a square's cell is empty
 abbrev pub is_empty_cell : Cell → Bool
 is_empty_cell Empty = true
 is_empty_cell _ = false
 
+-- whether a square's cell has a disc of the mover
 abbrev pub is_own_cell : Cell → Bool
 is_own_cell Own = true
 is_own_cell _ = false
 
+-- whether a square's cell has a disc of the opponent
 abbrev pub is_opp_cell : Cell → Bool
 is_opp_cell Opp = true
 is_opp_cell _ = false
 
+-- whether a list of squares is empty
 abbrev pub is_nil : List ℕ → Bool
 is_nil [] = true
 is_nil (s ∷ more) = false
@@ -102,7 +106,7 @@ is_nil (s ∷ more) = false
 abbrev pub is_legal : List Cell → ℕ → Bool
 is_legal board s = is_empty_cell (cell_at board s) && not (is_nil (flips board s))
 
--- whether s is in a list of squares
+-- whether the square s is in a list of squares
 abbrev pub is_among : ℕ → List ℕ → Bool
 is_among s discs = list_any (λ t. t == s) discs
 

@@ -1,7 +1,7 @@
--- Representation: the run of a square along one ray, in words of bits.
+-- Representation: the run of opposing discs along one ray of an Othello board, in words of bits.
 use Rattle.std.specs.Prelude.{ℕ, ◌+◌, ◌-◌, ◌*◌, ◌/◌, ◌%◌, ◌^◌, bit_and, bit_or}
 
--- the number that is 0 together with this one, in words of 64 bits
+-- the number that gives 0 when it is added to this one, in words of 64 bits
 abbrev pub negated : ℕ → ℕ
 negated word = (0 + (2 ^ 64 - word)) % 2 ^ 64
 

@@ -1,4 +1,4 @@
--- Meaning: what the two words of a board stand for.
+-- Meaning: what the two words of an Othello board stand for.
 use Rattle.std.specs.Prelude.{ℕ, ◌^◌, List, [], ◌∷◌, map, bit_or, if◌then◌else◌, ◌==◌}
 use Rattle.std.specs.Int.{bit_at}
 use Rattle.othello_board.specs.declared.cells.Cell.{Cell}
@@ -10,11 +10,11 @@ use Rattle.othello_board.specs.Rules.{squares}
 abbrev pub cell_of : ℕ → ℕ → ℕ → Cell
 cell_of own opp s = if bit_at own s == 1 then Own else (if bit_at opp s == 1 then Opp else Empty)
 
--- the 64 cells of two words
+-- the 64 cells of a board of two words, the mover's discs and the opponent's
 abbrev pub cells_of : ℕ → ℕ → List Cell
 cells_of own opp = map (cell_of own opp) squares
 
--- the 64 cells of a board
+-- the 64 cells of a board, as the rules see them
 abbrev pub cells : Board → List Cell
 cells b = cells_of b.own b.opp
 

@@ -1,3 +1,4 @@
+-- The definitions of the texts of Othello positions.
 pub mod Spelling
 pub mod Faults
 pub mod Readings

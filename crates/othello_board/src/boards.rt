@@ -1,4 +1,4 @@
-//! The two words of a board, and what they say of its 64 cells.
+//! The two words of an Othello board, and what they say of its 64 cells.
 ghost use Rattle.std.specs.Prelude.{◌≡◌, ◌≢◌, ◌↔◌, ◌<◌, ◌==◌, IsSome, IfSome, IsTrue, bit_and, count_by};
 
 use super::cells::Cell;
@@ -32,7 +32,7 @@ impl Board {
         }
     }
 
-    /// What stands on a square, 0 to 63.
+    /// What stands on a square (0 to 63) of the board.
     #[tactic(auto, using(crate::proofs::CellLemmas::reads_own, crate::proofs::CellLemmas::reads_opp, crate::proofs::CellLemmas::reads_empty))]
     pub fn cell(self, square: u8) -> Cell
         requires { square < 64 }

@@ -1,4 +1,4 @@
-//! One square of the board.
+//! One square of the Othello board: empty, the mover's or the opponent's.
 
 /// What stands on a square, seen by the player to move.
 #[derive(Clone, Copy, Debug, PartialEq, Eq)]

@@ -1,4 +1,4 @@
-//! The 8 directions in which a move can outflank discs.
+//! The 8 directions of an Othello board in which a move can outflank discs.
 ghost use Rattle.std.specs.Prelude.{◌≡◌, ◌<◌, IfSome};
 
 use super::sides::{above, below, left_of, right_of};

@@ -1,5 +1,5 @@
-//! The squares beside each square in each direction up to the edge, as words of bits. `Board::flips`, the one reader,
-//! is proved over what the rules say.
+//! The squares beside each square of an Othello board in each direction up to the edge, as words of bits.
+//! `Board::flips`, the one reader, is proved over what the rules say.
 
 /// The rays of each square: the four along which the squares rise in number, east round to south-west, and the four
 /// along which they fall, west round to north-east.

@@ -1,4 +1,5 @@
-//! The definitions of the rules, tried on boards: each contract is computed from the definitions alone.
+//! The definitions of Othello's rules, tried on boards: each contract is computed from the definitions alone. Squares
+//! count from 0 (a1) row by row to 63 (h8).
 #![tactic(auto, unfolding(crate::specs::Rules::squares, crate::specs::Rules::squares_beside))]
 
 ghost use Rattle.std.specs.Prelude.{◌≡◌, [], ◌∷◌, false, true};

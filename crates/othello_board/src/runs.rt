@@ -1,4 +1,5 @@
-//! The runs of a square in four directions at once, in lanes of one vector of four words.
+//! The runs of opposing discs from a square of an Othello board in four directions at once, in lanes of one vector of
+//! four words.
 ghost use Rattle.std.specs.Prelude.{◌≡◌, ◌-◌, [], ◌∷◌};
 ghost use Rattle.othello_board.specs.Runs.{rising_run, falling_run};
 

@@ -1,4 +1,4 @@
-//! The squares that touch a square by a side.
+//! The squares of an Othello board that touch a square by a side.
 ghost use Rattle.std.specs.Prelude.{◌≡◌, ◌<◌, IfSome};
 ghost use Rattle.othello_board.specs.Rules.{above, below, left_of, right_of};
 

@@ -1,4 +1,4 @@
--- The names that the proofs take of the library, of the crates below and of this crate's definitions, from one place.
+-- The names that the proofs of a board's values use, imported in one place.
 pub use Rattle.std.proofs.Common.{All, Bool, Contains, FitsSigned, IsSome, List, None, Option, Some, [], ap, ap₂, arith, bit_and, cond, count_by, count_ones}
 pub use Rattle.std.proofs.Common.{drop, eq-eqb, eqb, false, filter, find, get_or, inl, inr, int_lt, leb, leb-true, length, map, min, nat_abs, neg_ℤ, negsuc}
 pub use Rattle.std.proofs.Common.{of_z, pos, refl, rules, subst, suc, sym, take, to_z, true, unsigned_abs, unwrap_or, w32, zero, ℕ, ℤ, ⊎_elim, ◌&&◌, ◌*ℤ◌}

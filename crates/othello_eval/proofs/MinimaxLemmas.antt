@@ -1,4 +1,5 @@
--- The greatest of the values of some choices, and the first choice that attains a value.
+-- The minimax value of an Othello board: the greatest of the values of some choices, and the first choice that attains
+-- a value.
 use Rattle.othello_eval.proofs.Common.{◌≡◌, ℤ, Bool, true, false, List, [], ◌∷◌, ◌++◌, map, Option, Some, None, refl, ◌∙◌, ap, arith, cond, ℕ, zero, suc, ◌<◌, sym, length, neg_ℤ, ap₂, Contains, ⊎_elim, int_lt, subst, ◌-◌, pos, ◌-ℤ◌, w32, to_z, of_z, find, ◌≤ℤ◌, ◌<ℤ◌, IsSome, All, int_max, ints, clamps, to_z-of_z, false_from_ne_true, cond_both, cond-true, cond-false, cases_Bool, All-head, All-tail, All-nil, All-cons, All-weaker, All-contains_itself, find-append, option_or, greatest, greatest_or, int_equal, leaf_value, over_squares, value_after, minimax, choice_value, best_choice, Cell, exchanged, played, is_nil, Choice, Square, Pass, choices, choices_without_move, legal_squares, after, plies, length-after, eval, final_value, IsWithin}
 use Rattle.std.proofs.lemmas.Simd.{map-map}
 use Rattle.othello_eval.proofs.ValueLemmas.{eval-within, final_value-within}

@@ -1,4 +1,4 @@
--- The lemmas that the tactics try at the goals of each function that names a set.
+-- The lemmas on a board's values that the tactics try at the goals of each function that names a set.
 use Rattle.othello_eval.proofs.MinimaxLemmas.{minimax-over, best_choice-over, best_choice-leaf, minimax-leaf-there, minimax-leaf, minimax-deeper, best_choice-deeper}
 use Rattle.othello_eval.proofs.ValueLemmas.{final_value-within, small-fits, difference-fits, final-fits, final-is, known-within, negated-fits, negated-is, after-pass}
 use Rattle.othello_eval.proofs.Common.{length-cells, count_by-le-length}

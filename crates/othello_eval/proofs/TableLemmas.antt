@@ -1,4 +1,4 @@
--- Which entry is the best choice's, by its number.
+-- The table of a board's choices: a best choice on one square is no other square's, told apart by a number for each.
 use Rattle.othello_eval.proofs.Common.{◌≡◌, ◌≢◌, ℕ, Option, Some, None, ap, sym, ◌∙◌, Choice, Square, Pass}
 
 number : Option Choice → ℕ

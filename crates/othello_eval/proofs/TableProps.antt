@@ -1,4 +1,4 @@
--- That a table is one has one proof at most.
+-- The table of a board's choices: that a list is one has one proof at most.
 use Rattle.std.specs.Prelude.{ℕ, ℤ, List}
 use Rattle.othello_eval.proofs.Common.{props, Cell, Bound, BoundKind, Low, High, Exact, Says, IsTable}
 

@@ -1,4 +1,5 @@
--- Values: how large they are, that 32 bits hold them, and how a move changes that of the discs.
+-- The values of an Othello board: how large they are, that 32 bits hold them, and how a move changes that of the
+-- discs.
 use Rattle.othello_eval.proofs.Common.{◌≡◌, ℕ, ◌+◌, ◌<◌, ◌≤◌, List, [], ◌∷◌, length, count_by, ℤ, pos, ◌+ℤ◌, ◌-ℤ◌, ◌*ℤ◌, ◌<ℤ◌, nat_abs, refl, arith, w32, to_z, of_z, FitsSigned, zero, suc, ◌-◌, Bool, true, false, ◌&&◌, ◌||◌, cond, eqb, ◌++◌, map, bit_and, min, Option, Some, unwrap_or, inl, inr, neg_ℤ, leb, sym, ap, ◌∙◌, subst, get_or, eq-eqb, ints, count_by-le-length, Cell, exchanged, is_own_cell, is_opp_cell, squares, cell_at, is_among, is_empty_cell, is_legal, exchanged_cell, played, outflanked, led_by, ray, run, flips, directions, legal_squares, legal_squares-fit, weights, disc_value, discs_value, eval, final_value, IsWithin, bit_at, range_with_len, flat_map, list_all, and_parts, cases_lt, ne_eqb, or_cases, eqb-true, false≢true, bit_at_and, bit_at-lt, bit_at-zero, common_steps, Empty, Own, Opp, Direction, cell_of, cells_of, apart, map-map, cell_at-map, cell_at-cells_of, is-opp-cell_of, SQUARE_WEIGHTS, weight_at}
 use Rattle.std.proofs.lemmas.Bool.{leb-true}
 

@@ -1,4 +1,4 @@
--- Representation: discs counted under words of squares.
+-- Representation: the discs of an Othello board counted under words of squares, for its evaluation.
 use Rattle.std.specs.Prelude.{ℕ, ℤ, pos, ◌-ℤ◌, bit_and, count_ones, slice_index_or, map, take, drop, ◌*◌, ◌-◌, nat_lt, if◌then◌else◌}
 use Rattle.std.specs.List.{range_with_len}
 use Rattle.othello_board.specs.Words.{cell_of}
@@ -8,7 +8,7 @@ use Rattle.othello_eval.specs.Values.{weights, discs_value}
 abbrev pub disc_difference : ℕ → ℕ → ℕ → ℤ
 disc_difference own opp squares = pos (count_ones (bit_and own squares)) -ℤ pos (count_ones (bit_and opp squares))
 
--- the weight of a square
+-- the evaluation's weight of a square
 abbrev pub weight_at : ℕ → ℤ
 weight_at s = slice_index_or weights s (pos 0)
 

@@ -1,4 +1,4 @@
--- Meaning: the minimax value of a board to a depth, and the best choice.
+-- Meaning: the minimax value of an Othello board to a depth, and the best choice.
 use Rattle.std.specs.Prelude.{ℕ, zero, suc, ◌-◌, ℤ, neg_ℤ, Bool, ◌&&◌, List, [], ◌∷◌, map, Option, None, find, int_le}
 use Rattle.std.specs.Int.{int_max}
 use Rattle.othello_board.specs.declared.cells.Cell.{Cell}

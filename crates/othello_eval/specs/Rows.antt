@@ -1,4 +1,4 @@
--- Representation: boards on which the values are tried, and tables of some.
+-- Representation: Othello boards on which the values are tried, and tables of some.
 use Rattle.std.specs.Prelude.{List, [], ◌∷◌, replicate, ℤ, pos, negsuc}
 use Rattle.othello_board.specs.declared.cells.Cell.{Cell}
 use Rattle.othello_board.specs.declared.cells.Cell.TheVariants.{Empty, Own, Opp}
@@ -9,11 +9,11 @@ use Rattle.othello_eval.specs.declared.bound.Bound.{Bound}
 use Rattle.othello_eval.specs.declared.bound.BoundKind.{BoundKind}
 use Rattle.othello_eval.specs.declared.bound.BoundKind.TheVariants.{Low, Exact}
 
--- all 64 discs are the opponent's
+-- a board whose 64 discs are all the opponent's
 abbrev pub all_opposing : List Cell
 all_opposing = replicate 64 Opp
 
--- no disc at all
+-- a board without a disc
 abbrev pub no_discs : List Cell
 no_discs = replicate 64 Empty
 

@@ -1,4 +1,4 @@
--- Meaning: tables of bounds: what is known of each choice at a root.
+-- Meaning: tables of bounds: what is known of the value of each choice of the board that was asked about.
 use Rattle.std.specs.Prelude.{◌≡◌, ℕ, zero, suc, ℤ, ◌≤ℤ◌, List, [], map, Option, Some, All}
 use Rattle.othello_board.specs.declared.cells.Cell.{Cell}
 use Rattle.othello_moves.specs.declared.choices.Choice.{Choice}

@@ -1,4 +1,5 @@
--- Meaning: the two values of a board, seen by the player to move: of a finished game, and of a game that goes on.
+-- Meaning: the two values of an Othello board, seen by the player to move: of a finished game, and of a game that goes
+-- on.
 use Rattle.std.specs.Prelude.{ℕ, ℤ, pos, negsuc, ◌+ℤ◌, ◌-ℤ◌, ◌*ℤ◌, ◌≤ℤ◌, neg_ℤ, List, [], ◌∷◌, ◌++◌, length, count_by}
 use Rattle.othello_board.specs.declared.cells.Cell.{Cell}
 use Rattle.othello_board.specs.declared.cells.Cell.TheVariants.{Empty, Own, Opp}
@@ -51,6 +52,6 @@ eval board = discs_value board weights +ℤ (pos 4 *ℤ mobility board)
 abbrev pub final_value : List Cell → ℤ
 final_value board = pos 2000 *ℤ (pos (count_by is_own_cell board) -ℤ pos (count_by is_opp_cell board))
 
--- a value lies within -n and n
+-- a value lies from -n to n
 abbrev pub IsWithin : ℕ → ℤ → Type 0
 IsWithin n z = (neg_ℤ (pos n) ≤ℤ z) × (z ≤ℤ pos n)

@@ -1,4 +1,4 @@
-//! What is known of the choices at a root, one by one.
+//! What is known of the choices of the board that was asked about, one by one.
 use othello_moves::Choice;
 
 /// What a score says of the value of a choice.

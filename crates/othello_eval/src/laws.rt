@@ -1,4 +1,4 @@
-//! What holds of the values of every board: each contract is a law. A board is a list of cells here.
+//! What holds of the values of every Othello board: each contract is a law. A board is a list of cells here.
 ghost use Rattle.std.specs.Prelude.{◌≡◌, ◌≢◌, ◌<◌, ◌≤ℤ◌, ◌<ℤ◌, ℕ, ℤ, List, [], ◌∷◌, ◌++◌, Some, None, IsSome, All, Contains, count_by, find, length, map};
 ghost use Rattle.othello_board.specs.declared.cells.Cell.{Cell};
 ghost use Rattle.othello_board.specs.Rules.{is_own_cell, is_opp_cell};
@@ -15,7 +15,8 @@ pub fn values_are_bounded()
     ensures minimax { (depth : ℕ) (board : List Cell) → length board ≡ 64 → IsWithin 128000 (minimax depth board) }
 {}
 
-/// One disc of difference in a finished game outranks every evaluation.
+/// In a finished game a disc more than the opponent has (2,000) is worth more than any evaluation (1,184 at most), and a
+/// disc less is worth less than any.
 #[tactic(auto, using(crate::proofs::ValueLemmas::win_outranks, crate::proofs::ValueLemmas::loss_outranked))]
 pub fn a_disc_outranks_evaluations()
     ensures won { (board other : List Cell)

@@ -1,4 +1,4 @@
-//! The minimax value of a board by plain recursion, as it is defined.
+//! The minimax value of an Othello board by plain recursion, as it is defined.
 ghost use Rattle.std.specs.Prelude.{◌≡◌, ◌≤◌};
 ghost use Rattle.othello_board.specs.Words.{cells};
 ghost use Rattle.othello_eval.specs.Values.{IsWithin};

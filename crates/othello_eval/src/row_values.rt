@@ -1,5 +1,5 @@
-//! The weights of the discs of a row, for each byte of bits. `row_value`, the one reader, is proved to give what the
-//! weights say.
+//! The evaluation's weights of the discs of a board's row, for each byte of bits. `row_value`, the one reader, is
+//! proved to give what the weights say.
 
 /// The weights for rows 1 and 8, 2 and 7, 3 and 6, 4 and 5: the sum over the bits of the index, the lowest in column a.
 #[rattlefmt::skip]

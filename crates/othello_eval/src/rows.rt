@@ -1,4 +1,5 @@
-//! The definitions of values, tried on boards: each contract is computed from the definitions alone.
+//! The definitions of a board's values, tried on boards: each contract is computed from the definitions alone. `minimax
+//! 1` is to a depth of 1 ply; `negsuc 2` is -3; squares count from 0 (a1) row by row to 63 (h8).
 #![tactic(auto, unfolding(othello_board::specs::Rules::squares, othello_board::specs::Rules::squares_beside, othello_moves::specs::Choices::in_order, crate::specs::Values::weights, crate::specs::Minimax::minimax, crate::specs::Minimax::best_choice))]
 
 ghost use Rattle.std.specs.Prelude.{◌≡◌, pos, negsuc, Some, None, [], ◌∷◌};
@@ -11,13 +12,13 @@ ghost use Rattle.othello_eval.specs.declared.bound.BoundKind.TheVariants.{Low, H
 ghost use Rattle.othello_eval.specs.Tables.{IsTrueBound, IsTable};
 ghost use Rattle.othello_eval.specs.Rows.{all_opposing, no_discs, corner_or_edge, entry, equal_moves, corner_and_edge, to_pass};
 
-/// The opening is worth nothing to either side.
+/// The opening is worth 0, and to depth 0 there is no choice.
 pub fn opening_at_depth_0()
     ensures value { minimax 0 opening ≡ pos 0 }
     ensures choice { best_choice 0 opening ≡ None }
 {}
 
-/// One ply from the opening the four moves are equal, and d3 (19) comes first: -3.
+/// The opening to depth 1 is worth -3, by d3 (square 19): all four moves are worth that, and it comes first.
 pub fn opening_at_depth_1()
     ensures value { minimax 1 opening ≡ negsuc 2 }
     ensures choice { best_choice 1 opening ≡ Some (Square 19) }
@@ -37,7 +38,7 @@ pub fn answers_to_d3()
     ensures c5 { choice_value 1 (after opening (Square 19)) (Square 34) ≡ negsuc 3 }
 {}
 
-/// Two discs in the corner: c1 (2) ends the game by 3 discs to none, with empty squares left.
+/// Two discs in the corner: c1 (2) ends the game by 3 discs to none, worth 6,000, with empty squares left.
 pub fn game_ends_with_empty_squares()
     ensures value { minimax 1 two_discs ≡ pos 6000 }
     ensures choice { best_choice 1 two_discs ≡ Some (Square 2) }
@@ -76,7 +77,7 @@ pub fn tables_of_equal_moves()
     ensures over { IsTable 12 all_opposing [] }
 {}
 
-/// The corner is worth 89, and e1 at most 40; the one choice to pass is worth -6000.
+/// Tables to depth 1: the corner is worth 89, and e1 at most 40; the one choice to pass is worth -6,000.
 pub fn tables_of_a_best_move()
     ensures corner { IsTable 1 corner_or_edge corner_and_edge }
     ensures pass { IsTable 1 two_discs_from_there to_pass }

@@ -1,4 +1,4 @@
-//! The two values of a board, seen by the player to move.
+//! The two values of an Othello board, seen by the player to move: of a finished game, and of one that goes on.
 ghost use Rattle.std.specs.Prelude.{◌≡◌, ◌*ℤ◌};
 ghost use Rattle.othello_board.specs.Words.{cells};
 ghost use Rattle.othello_eval.specs.Values.{weights, discs_value, eval, final_value, IsWithin};

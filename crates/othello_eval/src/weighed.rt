@@ -1,4 +1,4 @@
-//! A board that keeps the value of its discs from move to move.
+//! An Othello board that keeps the value of its discs from move to move.
 ghost use Rattle.std.specs.Prelude.{◌≡◌, ◌<◌, ◌≤◌, ◌+◌, ◌+ℤ◌, ◌*ℤ◌, pos, neg_ℤ, IsTrue, Contains};
 ghost use Rattle.othello_board.specs.Rules.{exchanged, is_legal, played};
 ghost use Rattle.othello_board.specs.Words.{cells, cells_of};

@@ -1,4 +1,4 @@
--- What holds of every choice.
+-- What holds of every choice (a legal square or a pass) of an Othello board.
 use Rattle.othello_moves.proofs.Common.{◌≡◌, ◌<◌, ◌≤◌, ltb, List, map, length, All, Contains, refl, arith, ℕ, ◌+◌, ◌-◌, ◌*◌, Bool, true, false, cond, [], ◌∷◌, list_all, cond_both, cond-true, cond-false, Decides-by_and, Decides-ltb, length-map, All-nil, All-cons, All-map, All-filter, filter_passes, All-contains, length-filter, count_by-le-length, Cell, squares, is_legal, exchanged, is_nil, Board, cells, length-cells_of, Choice, Square, Pass, in_order, legal_squares, choices, after, IsAllowed, choices_without_move, plies}
 
 in_order-below : All (λ s. s < 64) in_order

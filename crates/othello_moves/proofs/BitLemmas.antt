@@ -1,4 +1,5 @@
--- Legal squares and choices, by words of bits: filters of lists of squares, the squares of a word, corners first, and what is left when the first is taken.
+-- Legal squares and choices of an Othello board, by words of bits: filters of lists of squares, the squares of a word,
+-- corners first, and what is left when the first is taken.
 use Rattle.othello_moves.proofs.Common.{◌≡◌, ◌≢◌, ℕ, suc, ◌+◌, ◌<◌, ◌≤◌, Bool, true, false, cond, not, ◌&&◌, ◌||◌, eqb, ltb, leb, List, [], ◌∷◌, length, filter, refl, sym, ap, ◌∙◌, ⊎_elim, arith, zero, ◌*◌, ◌/◌, ◌%◌, ◌^◌, count_ones, bit_and, w64, pow-suc, ◌↔◌, bit_or, ◌-◌, min, ◌++◌, map, ap₂, lit<, Some, None, drop, slice_get, cases_order, ne_eqb, false≢true, cond-true, cond-false, eqb-true, agree_below_at, cases_eq, eq-eqb, is_among, squares, is_legal, is_nil, exchanged, range_with_len, bit_at, bit_not, trailing_zeros, bit_at-suc, bit_at_lowest, bit_at-trailing_zeros, bit_at_clear_same, bit_at_clear_other, bit_at_and, bit_at_not, ones_step, ones-le, bits_of, bit_at-bits_of, squares_of, pass_if, sequence, zero_from_ones, le_or_l, le_or_r, length-append, append-nil, length-map, filter-append, Cell, Square, Pass, corners, in_order, choices, bool_byte}
 
 filter-cond : (p q : ℕ → Bool) (x : ℕ) (xs : List ℕ) (b : Bool)

@@ -1,4 +1,4 @@
--- The names that the proofs take of the library, of the crates below and of this crate's definitions, from one place.
+-- The names that the proofs of a board's choices use, imported in one place.
 pub use Rattle.std.proofs.Common.{All, Bool, Contains, IsTrue, List, None, Option, Some, [], ap, ap₂, arith, bit_and, bit_or, cond, count_ones, drop, eqb}
 pub use Rattle.std.proofs.Common.{false, filter, if◌then◌else◌, inl, inr, is_some, leb, length, lit<, ltb, map, max, min, not, pow-suc, refl, rules, slice_get}
 pub use Rattle.std.proofs.Common.{subst, suc, sym, true, unwrap_or, w64, zero, ℕ, ⊎_elim, ◌%◌, ◌&&◌, ◌*◌, ◌++◌, ◌+◌, ◌-◌, ◌/◌, ◌<◌, ◌==◌, ◌^◌, ◌||◌, ◌↔◌, ◌∙◌}

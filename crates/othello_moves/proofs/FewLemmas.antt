@@ -1,4 +1,4 @@
--- No board has more than 56 choices, and each move leaves fewer empty squares.
+-- No Othello board has more than 56 choices, and each move leaves fewer empty squares.
 use Rattle.othello_moves.proofs.Common.{Direction, All, suc, ◌<◌, ltb, list_all, Decides-by_and, Decides-ltb, Empty, Own, exchanged, is_among, ◌≡◌, ◌+◌, ◌*◌, ◌≤◌, false, ◌||◌, ◌&&◌, not, cond, eqb, List, [], ◌∷◌, ◌++◌, length, map, Option, Some, None, refl, sym, ap, ◌∙◌, arith, ℕ, Bool, true, if◌then◌else◌, ◌==◌, flat_map, cond_both, eqb-true, eq-eqb, cond-true, cond-false, inl, inr, and_parts, length-filter, length-map, squares, step, run, directions, flips, cell_at, is_empty_cell, is_opp_cell, is_legal, is_nil, Cell, choices, legal_squares}
 use Rattle.std.specs.Prelude.{count_by}
 use Rattle.std.proofs.lemmas.Bool.{cases_Bool}

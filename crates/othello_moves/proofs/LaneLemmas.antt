@@ -1,4 +1,4 @@
--- The words of the lanes, and the legal squares that they make.
+-- The words in the lanes of a vector, and the legal squares of an Othello board that they make.
 use Rattle.othello_moves.proofs.Common.{◌≡◌, ℕ, ◌-◌, ◌*◌, ◌^◌, ◌<◌, not, filter, bit_and, bit_or, refl, ap, ap₂, ◌∙◌, arith, bit_at, or_lt, and_le_l, and_le_r, mod_below, shr_le, or_comm, bit_at_and, bit_at_or, bit_at_ones, same_from_bits, Direction, North, NorthEast, East, SouthEast, South, SouthWest, West, NorthWest, run, is_legal, squares, is_nil, cells_of, bits_of, opposite, slid_from, bit_there, slid-up, slid-down, raised, lowered, reached}
 use Rattle.othello_moves.proofs.LeadLemmas.{bit_of, inside, inside-bit, middle-bit, paired, paired-bit, led, led-one, led-more, led-two-more, start-bit, starts-bit, legal-bit, word-of-passing}
 

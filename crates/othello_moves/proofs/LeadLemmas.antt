@@ -1,4 +1,4 @@
--- Representation: which squares may stand inside a run.
+-- Representation: which squares of an Othello board may stand inside a run of discs that a move outflanks.
 use Rattle.othello_moves.proofs.Common.{Direction, North, NorthEast, East, SouthEast, South, SouthWest, West, NorthWest, ◌≡◌, zero, suc, ◌+◌, ◌-◌, ◌^◌, ◌<◌, ◌≤◌, false, ◌||◌, cond, eqb, ltb, List, [], ◌++◌, filter, Option, Some, None, unwrap_or, bit_and, bit_or, min, max, inl, inr, refl, sym, ap, ap₂, ◌∙◌, arith, w64, ℕ, ◌%◌, ◌==◌, Bool, true, not, ◌&&◌, if◌then◌else◌, is_some, flat_map, range_with_len, bit_at, cases_lt, ne_eqb, eqb-true, ltb-true, and_parts, or_cases, not-true, and_right, or_lt, bit_at_and, bit_at_or, bit_at_not, bit_at_above, bit_at-lt, same_from_bits, and_comm, Cell, Empty, Own, Opp, step, squares_beside, outflanked, led_by, cell_at, run, flips, directions, is_legal, squares, is_among, is_own_cell, is_opp_cell, is_empty_cell, is_nil, cells_of, bits_of, opposite, slid_from, bit_there, all_below, holds-below, step-back, beside-edge, beside-next, apart, bit_at-bits_of, cell_at-cells_of, bit-cases}
 use Rattle.othello_moves.proofs.BitLemmas.{is_among-filter, is-square, and-true}
 

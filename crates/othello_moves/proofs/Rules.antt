@@ -1,4 +1,4 @@
--- The lemmas that the tactics try at the goals of each function that names a set.
+-- The lemmas on a board's choices that the tactics try at the goals of each function that names a set.
 use Rattle.othello_moves.proofs.AllowedLemmas.{length-cells, length-after}
 use Rattle.othello_moves.proofs.FewLemmas.{legal-empty, legal-opposing, few-choices}
 use Rattle.othello_moves.proofs.BitLemmas.{slice_get-drop, length-sequence, bool_byte-cond, length-in_order}

@@ -7,7 +7,7 @@ use Rattle.othello_board.specs.Rules.{squares, cell_at, is_among, is_empty_cell,
 use Rattle.othello_moves.specs.declared.choices.Choice.{Choice}
 use Rattle.othello_moves.specs.declared.choices.Choice.TheVariants.{Square, Pass}
 
--- a1, h1, a8, h8
+-- the four corners of a board: a1, h1, a8, h8
 abbrev pub corners : List ℕ
 corners = 0 ∷ 7 ∷ 56 ∷ 63 ∷ []
 

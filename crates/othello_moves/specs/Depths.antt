@@ -1,4 +1,4 @@
--- Meaning: how deep a board may be searched.
+-- Meaning: how many plies deep an Othello board may be searched.
 use Rattle.std.specs.Prelude.{ℕ}
 
 -- the greatest depth to which a board may be searched, in plies

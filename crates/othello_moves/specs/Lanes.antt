@@ -1,4 +1,4 @@
--- Representation: words of bits side by side in one vector.
+-- Representation: words of an Othello board's bits side by side in one vector.
 use Rattle.std.specs.Prelude.{ℕ, ◌*◌, ◌/◌, ◌%◌, ◌^◌, bit_and, bit_or}
 
 -- a word shifted by k towards the greater squares

@@ -1,4 +1,4 @@
--- Representation: boards on which the choices are tried.
+-- Representation: Othello boards on which the choices are tried.
 use Rattle.std.specs.Prelude.{List, [], ◌∷◌}
 use Rattle.othello_board.specs.declared.cells.Cell.{Cell}
 use Rattle.othello_board.specs.declared.cells.Cell.TheVariants.{Empty, Own, Opp}

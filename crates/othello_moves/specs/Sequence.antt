@@ -1,4 +1,4 @@
--- Representation: choices in order, kept as the squares that are set in words.
+-- Representation: an Othello board's choices in order, kept as the squares that are set in words.
 use Rattle.std.specs.Prelude.{ℕ, Bool, if◌then◌else◌, ◌==◌, List, [], ◌∷◌, ◌++◌, map, filter}
 use Rattle.std.specs.Int.{bit_at}
 use Rattle.othello_board.specs.Rules.{squares}

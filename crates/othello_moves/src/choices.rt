@@ -1,4 +1,4 @@
-//! One choice of the player to move.
+//! One choice of the player to move on an Othello board: a square or a pass.
 ghost use Rattle.std.specs.Prelude.{◌≡◌, ◌≤◌};
 ghost use Rattle.othello_moves.specs.Choices.{plies};
 

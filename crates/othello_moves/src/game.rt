@@ -1,4 +1,4 @@
-//! The choices of a board, and the board after each.
+//! The choices of an Othello board, the board after each, and whether the game is over.
 ghost use Rattle.std.specs.Prelude.{◌≡◌, ◌<◌, ◌↔◌, [], IsTrue, Contains, length, slice_get};
 ghost use Rattle.othello_board.specs.Words.{cells};
 ghost use Rattle.othello_moves.specs.Choices.{choices, after};

@@ -1,4 +1,4 @@
-//! What four shifts of words reach at once, in the lanes of one vector.
+//! What four shifts of an Othello board's words reach at once, in the lanes of one vector.
 ghost use Rattle.std.specs.Prelude.{◌≡◌, ◌<◌, [], ◌∷◌, bit_and};
 ghost use Rattle.othello_moves.specs.Lanes.{raised, lowered, reached};
 
@@ -14,7 +14,7 @@ pub(crate) struct Four {
 }
 
 impl Four {
-    /// The words as one vector.
+    /// The four words as one vector.
     #[inline(always)]
     pub(crate) fn lanes(self) -> u64x4
         ensures { result ≡ self.first ∷ self.second ∷ self.third ∷ self.fourth ∷ [] }

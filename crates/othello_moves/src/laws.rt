@@ -1,4 +1,4 @@
-//! What holds of the choices of every board: each contract is a law.
+//! What holds of the choices of every Othello board: each contract is a law.
 ghost use Rattle.std.specs.Prelude.{◌≡◌, ◌≤◌, ◌*◌, false, All, Contains, List, length};
 ghost use Rattle.othello_board.specs.declared.cells.Cell.{Cell};
 ghost use Rattle.othello_board.specs.declared.boards.Board.{Board};

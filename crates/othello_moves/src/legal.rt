@@ -1,6 +1,6 @@
-//! The legal squares of a player, or of both at once, as words. Each player's are found backwards from its discs in all
-//! directions, four at a time. Where both players' are sought, the lanes of one half of a vector are shifted by the same
-//! number, so that half a vector does as well where a whole one isn't to be had.
+//! The legal squares of a player on an Othello board, or of both at once, as words. Each player's are found backwards
+//! from its discs in all directions, four at a time. Where both players' are sought, the lanes of one half of a vector
+//! are shifted by the same number, so that half a vector does as well where a whole one isn't to be had.
 ghost use Rattle.std.specs.Prelude.{◌≡◌, length, filter};
 ghost use Rattle.othello_board.specs.Rules.{squares, is_legal, exchanged};
 ghost use Rattle.othello_board.specs.Words.{cells, bits_of};

@@ -1,4 +1,4 @@
-//! The legal squares of both players on a board, found once and used for all that asks for them.
+//! The legal squares of both players on an Othello board, found once and used for all that asks for them.
 ghost use Rattle.std.specs.Prelude.{◌≡◌, ◌↔◌, [], IsTrue, filter};
 ghost use Rattle.othello_board.specs.Rules.{squares, exchanged, is_legal};
 ghost use Rattle.othello_board.specs.Words.{cells, bits_of};

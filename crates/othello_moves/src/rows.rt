@@ -1,4 +1,5 @@
-//! The definitions of choices, tried on boards: each contract is computed from the definitions alone.
+//! The definitions of an Othello board's choices, tried on boards: each contract is computed from the definitions
+//! alone. Squares count from 0 (a1) row by row to 63 (h8).
 #![tactic(auto, unfolding(othello_board::specs::Rules::squares, othello_board::specs::Rules::squares_beside, crate::specs::Choices::in_order))]
 
 ghost use Rattle.std.specs.Prelude.{◌≡◌, [], ◌∷◌};

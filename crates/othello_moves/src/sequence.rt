@@ -1,4 +1,4 @@
-//! The choices of a board, taken one after another from words of bits.
+//! The choices of an Othello board, taken one after another from words of bits.
 ghost use Rattle.std.specs.Prelude.{◌≡◌, ◌↔◌, ◌∷◌, [], IsTrue, MatchOption, drop, length, slice_get};
 
 use super::choices::Choice;
@@ -45,7 +45,7 @@ impl Choices {
         }
     }
 
-    /// How many choices are left.
+    /// How many choices of the board are left to be taken.
     #[tactic(auto, using(crate::proofs::Rules::len_rules))]
     pub fn len(&self) -> usize
         ensures { result ≡ length self.now }
@@ -53,7 +53,7 @@ impl Choices {
         (self.corners.count_ones() + self.others.count_ones()) as usize + usize::from(self.passes)
     }
 
-    /// Whether none is left.
+    /// Whether no choice of the board is left to be taken.
     pub fn is_empty(&self) -> bool
         ensures { IsTrue result ↔ (self.now ≡ []) }
     {

@@ -17,6 +17,7 @@ use commands::{Streams, Unaudited, run, words_of};
 use std::env;
 use std::process::ExitCode;
 
+/// Runs the program by the words that it was started with, over the standard streams.
 fn main(rt: HostRuntime) -> ExitCode {
     let mut streams = Streams::standard(&rt);
     let status = match words_of(rt.alloc(), env::args(&rt), &mut streams.errors) {

@@ -1,4 +1,4 @@
-//! One connection, from its first byte to its last.
+//! One connection of a site (a server for customers), from its first byte to its last.
 ghost use Rattle.std.specs.Prelude.{◌≤◌, length};
 
 use crate::counts::{FULL, HEADER, SILENCE};
@@ -65,7 +65,7 @@ fn greet<J: SiteNaming, R: Clock + Wait>(
     None
 }
 
-/// Counts a connection that is refused, and says it.
+/// Counts a connection that is refused, and says so in the log.
 fn refuse<J: SiteNaming, R: Clock + Wait>(
     rt: &R,
     alloc: Global,
@@ -95,7 +95,7 @@ fn times_of<J: SiteNaming, R: Wait>(rt: &R, shared: &Shared<J>) -> (Times, u64) 
     (times, millis(limits.write.max(1)))
 }
 
-/// Both names of a connection.
+/// Both names of a connection: one to read from and one to write to.
 fn names_of(
     alloc: Global,
     stream: TcpStream,
@@ -105,7 +105,7 @@ fn names_of(
     Ok((stream, other))
 }
 
-/// Serves one connection.
+/// Serves one connection to the site, from its first byte to its last.
 pub(crate) fn serve_client<J: SiteNaming, R: Clock + Wait>(
     rt: &R,
     alloc: Global,

@@ -1,4 +1,4 @@
-//! The operator's socket: STATS, END, DRAIN and RELOAD.
+//! The socket of a site's operator: STATS, END, DRAIN and RELOAD.
 use crate::links::{MOST_BYTES, Received, first_line, is_interrupted};
 use crate::paths::Paths;
 use crate::reloading::{Unread, reload};
@@ -25,7 +25,7 @@ const COMMAND_SECS: u64 = 5;
 const USAGE: &str =
     "ERR STATS, END CUSTOMER name, END ADDRESS address, END SESSION hall number, DRAIN seconds, RELOAD or RELOAD END\n";
 
-/// Reads the file again. The text says OK, or why all stays as it is.
+/// Reads the site's file again and goes by it. The text says OK, or why all stays as it is.
 fn reloaded<J: SiteNaming, R: Paths + AllocGlobal + Clock + Wait>(
     rt: &R,
     shared: &Shared<J>,
@@ -57,7 +57,8 @@ fn reloaded<J: SiteNaming, R: Paths + AllocGlobal + Clock + Wait>(
     }
 }
 
-/// Nobody else comes, and those who are there have so many seconds.
+/// Lets nobody else come to the site, and gives those who are there so many milliseconds to leave before they are told
+/// to end. The text says OK.
 fn drain<J: SiteNaming, R: AllocGlobal + Clock + Wait>(
     rt: &R,
     shared: &Shared<J>,
@@ -68,7 +69,7 @@ fn drain<J: SiteNaming, R: AllocGlobal + Clock + Wait>(
     String::from_str(rt.alloc(), "OK\n")
 }
 
-/// The address that a text writes.
+/// The address (of IPv4 or IPv6) that a text writes; None for any other text.
 fn address_in(text: &[u8]) -> Option<Address> {
     if let Ok(ip) = Ipv4Addr::parse_ascii(text) {
         return Some(Address::v4(ip.octets()));
@@ -79,7 +80,7 @@ fn address_in(text: &[u8]) -> Option<Address> {
     }
 }
 
-/// The customer of this name.
+/// The customer that has this name in the site's file; None where nobody has it.
 fn customer_of<J: SiteNaming, R: Wait>(rt: &R, shared: &Shared<J>, name: &[u8]) -> Option<Who> {
     let register = shared.register(rt);
     for (number, terms) in register.config.directory.customers.iter().enumerate() {
@@ -115,7 +116,7 @@ fn tell_address<J: SiteNaming, R: AllocGlobal + Wait>(
     Ok(many)
 }
 
-/// Ends sessions, and says how many.
+/// Tells the sessions that the operator named to end, and says how many they are that weren't told before.
 fn end<J: SiteNaming, R: AllocGlobal + Wait>(
     rt: &R,
     shared: &Shared<J>,
@@ -146,7 +147,7 @@ fn end<J: SiteNaming, R: AllocGlobal + Wait>(
     format!(in rt.alloc(); "OK {many}\n")
 }
 
-/// The answer to a command.
+/// The text that answers this command of the operator.
 fn answer<J: SiteNaming, R: Paths + AllocGlobal + Clock + Wait>(
     rt: &R,
     shared: &Shared<J>,
@@ -161,7 +162,7 @@ fn answer<J: SiteNaming, R: Paths + AllocGlobal + Clock + Wait>(
     }
 }
 
-/// Answers one connection.
+/// Reads the operator's command from a connection, and answers it.
 fn converse<J: SiteNaming, R: Paths + AllocGlobal + Clock + Wait>(
     rt: &R,
     shared: &Shared<J>,
@@ -198,6 +199,7 @@ fn log_command<J: SiteNaming, R: AllocGlobal + Wait>(rt: &R, shared: &Shared<J>,
     shared.log.say(rt, out.as_str());
 }
 
+/// Appends a line of the operator to a log's text; signs that a log can't show stand there as `?`.
 fn push_command(out: &mut String, line: &[u8]) -> Result<(), AllocError> {
     out.push_str("event=command line=\"")?;
     for byte in line {
@@ -212,7 +214,7 @@ fn push_command(out: &mut String, line: &[u8]) -> Result<(), AllocError> {
     out.push_str("\"\n")
 }
 
-/// Takes connections, which other threads answer ([`answer_control`]).
+/// Takes the connections of the operator, which other threads answer ([`answer_control`]).
 pub(crate) fn serve_control<J: SiteNaming, R: Clock + AllocGlobal + Wait>(
     rt: &R,
     shared: &Shared<J>,
@@ -228,7 +230,7 @@ pub(crate) fn serve_control<J: SiteNaming, R: Clock + AllocGlobal + Wait>(
     }
 }
 
-/// Answers one connection after another, for ever.
+/// Answers one connection of the operator after another, for ever.
 pub(crate) fn answer_control<J: SiteNaming, R: Clock + Paths + AllocGlobal + Wait>(
     rt: &R,
     shared: &Shared<J>,

@@ -36,7 +36,7 @@ pub(crate) const DESCRIPTOR: usize = 9;
 /// That of one for which no thread could be had.
 pub(crate) const THREAD: usize = 10;
 
-/// The name of the reason at a place.
+/// The name of the reason for refusals that is counted at a place.
 pub(crate) fn name_at(place: usize) -> &'static str {
     NAMES.get(place).copied().unwrap_or("")
 }
@@ -51,14 +51,14 @@ pub(crate) struct RefusedCustomers {
 }
 
 impl RefusedCustomers {
-    /// Nobody had any.
+    /// The count of a new site: no customer had a refusal.
     pub(crate) fn new(alloc: Global) -> RefusedCustomers {
         RefusedCustomers {
             counts: Vec::new(alloc),
         }
     }
 
-    /// One more; where there is no memory to note it it isn't noted.
+    /// Counts one more refusal of a named customer. Nothing is counted of a guest, nor where there is no memory for it.
     pub(crate) fn note(&mut self, who: Who) {
         let Who::Named(number) = who else {
             return;
@@ -74,7 +74,8 @@ impl RefusedCustomers {
         }
     }
 
-    /// The numbers of those who had most, and how many: 0 where there are fewer.
+    /// The numbers of the named customers that were refused most, each with how often; (0, 0) at the places that nobody
+    /// fills.
     pub(crate) fn most(&self) -> [(u32, u64); TOLD] {
         let mut found = [(0, 0); TOLD];
         for (place, count) in self.counts.iter().enumerate() {
@@ -89,7 +90,7 @@ impl RefusedCustomers {
     }
 }
 
-/// Where the least count stands.
+/// The place of the customer with the fewest refusals among those found.
 fn place_of_least(found: &[(u32, u64); TOLD]) -> usize {
     let mut least = u64::MAX;
     let mut at = 0;
@@ -102,7 +103,7 @@ fn place_of_least(found: &[(u32, u64); TOLD]) -> usize {
     at
 }
 
-/// The place of a refusal.
+/// The place at which refusals for this cause are counted.
 pub(crate) fn place_of(cause: Cause) -> usize {
     match cause {
         Cause::Budget => 0,
@@ -130,7 +131,7 @@ pub(crate) struct Buckets {
 }
 
 impl Buckets {
-    /// No duration.
+    /// The counts of durations of a new site: none yet.
     pub(crate) fn new() -> Buckets {
         Buckets {
             counts: [0; BUCKETS],
@@ -138,7 +139,7 @@ impl Buckets {
         }
     }
 
-    /// Counts a duration.
+    /// Counts a duration, in microseconds, in its bucket.
     pub(crate) fn note(&mut self, micros: u64) {
         let place = BOUNDS.iter().filter(|bound| micros > **bound).count();
         if let Some(count) = self.counts.get_mut(place) {
@@ -164,7 +165,7 @@ pub(crate) struct Counts {
 }
 
 impl Counts {
-    /// Nothing yet.
+    /// The counts of a new site: nothing yet.
     pub(crate) fn new() -> Counts {
         Counts {
             welcomed: 0,
@@ -180,7 +181,7 @@ impl Counts {
         }
     }
 
-    /// Counts a refusal.
+    /// Counts one more refusal for the reason at a place.
     pub(crate) fn refuse(&mut self, place: usize) {
         if let Some(count) = self.refused.get_mut(place) {
             *count = count.saturating_add(1);

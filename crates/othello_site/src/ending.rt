@@ -1,4 +1,4 @@
-//! Why the site ends: told by whichever thread knows it to the one that waits for it.
+//! Why a site ends: told by whichever of its threads knows it to the one that waits for it.
 use std::io;
 use std::net::SocketAddr;
 use std::sync::{Condvar, Mutex, Wait};
@@ -35,7 +35,7 @@ pub(crate) struct Ending {
 }
 
 impl Ending {
-    /// That of a site that serves.
+    /// The state of a site that serves: it has no reason to end.
     pub(crate) fn new() -> Ending {
         Ending {
             why: Mutex::new(None),
@@ -43,7 +43,7 @@ impl Ending {
         }
     }
 
-    /// Says why the site ends.
+    /// Tells the thread that waits for it why the site ends.
     pub(crate) fn tell<R: Wait>(&self, rt: &R, reason: Why) {
         let mut why = self.why.lock(rt);
         *why = Some(reason);

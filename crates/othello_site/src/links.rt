@@ -1,4 +1,4 @@
-//! Connections as sources and sinks, with limits in time.
+//! A site's connections as sources and sinks of bytes, with limits in time.
 ghost use Rattle.std.specs.Prelude.{◌≤◌, length, IfSome};
 
 use crate::shared::Shared;
@@ -50,7 +50,7 @@ pub(crate) struct TalkState {
 }
 
 impl TalkState {
-    /// That of a connection that comes now.
+    /// The state of a connection's talk that begins now.
     pub(crate) fn new(now: u64, is_extra: bool) -> TalkState {
         TalkState {
             pace: Cell::new(Pace::new(now)),
@@ -62,7 +62,7 @@ impl TalkState {
         }
     }
 
-    /// Its HELLO was welcomed.
+    /// Notes that the session's HELLO was welcomed.
     pub(crate) fn welcome(&self) {
         self.pace.set(Pace {
             welcomed: true,
@@ -83,7 +83,7 @@ impl TalkState {
         ends
     }
 
-    /// All lines that came were answered.
+    /// Notes that all lines that came so far were answered.
     fn answered(&self, now: u64) {
         if self.had_line.get() {
             self.pace.set(Pace {
@@ -93,13 +93,13 @@ impl TalkState {
         }
     }
 
-    /// Whether it was heard for its first line alone, and that was answered.
+    /// Whether a connection's talk is over: it was heard for its first line alone, and that line was answered.
     fn is_over(&self) -> bool {
         self.is_extra.get() && self.lines.get() > 0
     }
 }
 
-/// Whether a signal came before anything was read or written, so that it is done again.
+/// Whether a read or a write failed since a signal came before any byte went through, so that it is tried again.
 pub(crate) fn is_interrupted(error: &Error) -> bool {
     error.kind() == ErrorKind::Interrupted
 }
@@ -119,7 +119,8 @@ pub(crate) struct Incoming<'a, J: SiteNaming, R> {
 }
 
 impl<J: SiteNaming, R: Clock> Incoming<'_, J, R> {
-    /// Reads a block, as long as it may take. None at a failure, and where it takes longer.
+    /// Reads the next bytes of a connection into a block, and waits for them as long as the connection may be silent.
+    /// None at a failure, and where that time is over.
     pub(crate) fn read(&mut self, block: &mut [u8]) -> Option<usize>
         ensures { IfSome result (λ n. n ≤ length block.new) }
     {
@@ -149,7 +150,7 @@ impl<J: SiteNaming, R: Clock> Incoming<'_, J, R> {
         None
     }
 
-    /// Whether a read is made again that failed so.
+    /// Whether a read that failed by an error of this kind is tried again; else it is noted why the talk ends.
     fn goes_on(&self, kind: ErrorKind) -> bool {
         match kind {
             ErrorKind::Interrupted => true,
@@ -164,7 +165,8 @@ impl<J: SiteNaming, R: Clock> Incoming<'_, J, R> {
         }
     }
 
-    /// So many lines came. Where they come too fast it sleeps, and holds nothing meanwhile.
+    /// Counts so many lines that came on the connection; where they come too fast the thread sleeps, and holds nothing
+    /// meanwhile.
     fn slow_down(&self, lines: u64) {
         let now = self.shared.micros(self.rt);
         let paid = paid_with(self.talk.paid.get(), lines, now);
@@ -175,7 +177,8 @@ impl<J: SiteNaming, R: Clock> Incoming<'_, J, R> {
         }
     }
 
-    /// The bytes that were read with the header, as many as the block has room for.
+    /// Puts the session's first bytes, which came together with the proxy's header, into the block, as many as have
+    /// room.
     fn take_ahead(&mut self, block: &mut [u8]) -> usize
         ensures { result ≤ length block.new }
     {
@@ -191,6 +194,8 @@ impl<J: SiteNaming, R: Clock> Incoming<'_, J, R> {
 impl<J: SiteNaming, R: Clock> Source for Incoming<'_, J, R> {
     ghost gives = { λ _ _ _. Unit {0} };
 
+    /// Gives the session the connection's next bytes, as fast as its lines may be answered; 0 where the input has
+    /// ended, or the talk is over.
     fn fill(&mut self, block: &mut [u8]) -> Result<usize, ReadFailed> {
         let ahead = self.take_ahead(block);
         if ahead > 0 {
@@ -227,6 +232,7 @@ pub(crate) struct Outgoing<'a, J: SiteNaming, R> {
 impl<J: SiteNaming, R: Clock> Sink for Outgoing<'_, J, R> {
     ghost takes = { λ _ _ _. Unit {0} };
 
+    /// Writes an answer to the connection; an error where the client doesn't take it in time.
     fn put(&mut self, bytes: &[u8]) -> Result<usize, WriteFailed> {
         let until = self.shared.now(self.rt).saturating_add(self.limit);
         for _ in 0..TRIES {
@@ -251,7 +257,7 @@ pub(crate) struct Received {
 }
 
 impl Received {
-    /// No byte yet.
+    /// The bytes of a connection from which nothing came yet.
     pub(crate) fn new() -> Received {
         Received {
             block: [0; MOST_BYTES],
@@ -259,25 +265,25 @@ impl Received {
         }
     }
 
-    /// The bytes that came.
+    /// The bytes that came on the connection so far.
     pub(crate) fn bytes(&self) -> &[u8]
         ensures { length result.now ≤ 4096 }
     {
         &self.block[..self.size.min(MOST_BYTES)]
     }
 
-    /// Where further bytes go.
+    /// The part of the block where further bytes of the connection go.
     pub(crate) fn room(&mut self) -> &mut [u8] {
         let from = self.size.min(MOST_BYTES);
         &mut self.block[from..]
     }
 
-    /// So many bytes came.
+    /// Notes that so many bytes more came on the connection.
     pub(crate) fn grow(&mut self, count: usize) {
         self.size = self.size.saturating_add(count).min(MOST_BYTES);
     }
 
-    /// Keeps these bytes, as many as there is room for.
+    /// Adds these bytes to those that came on the connection, as many as there is room for.
     pub(crate) fn keep(&mut self, bytes: &[u8]) {
         for byte in bytes {
             if self.size < MOST_BYTES {
@@ -287,13 +293,13 @@ impl Received {
         }
     }
 
-    /// How many more bytes there is room for.
+    /// How many more bytes of the connection there is room for.
     pub(crate) fn left(&self) -> usize {
         MOST_BYTES.saturating_sub(self.size)
     }
 }
 
-/// The first line, without its end; `None` where it isn't whole yet.
+/// The first line in these bytes, without its end; `None` where the line isn't whole yet.
 pub(crate) fn first_line(bytes: &[u8]) -> Option<&[u8]> {
     let end = bytes.iter().position(|byte| *byte == LF)?;
     bytes.get(..end)

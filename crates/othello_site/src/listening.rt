@@ -1,4 +1,4 @@
-//! Connections taken, each in a thread of its own.
+//! A site's connections taken, each in a thread of its own.
 use crate::client::serve_client;
 use crate::counts::{DESCRIPTOR, FULL, THREAD};
 use crate::ending::Why;

@@ -1,4 +1,5 @@
-//! The log: one line a session, on the standard error, written by a thread of its own, so that no session waits for it.
+//! A site's log: one line a session, on the standard error, written by a thread of its own, so that no session waits
+//! for it.
 use crate::register::is_same_address;
 use site_file::Address;
 use site_rules::is_said;
@@ -23,7 +24,7 @@ struct Flow {
 }
 
 impl Flow {
-    /// Whether one line more is said of this reason and address; then it is one of those that were.
+    /// Whether the log takes one line more in this second for this reason and this address; if so, the line is counted.
     fn takes(&mut self, second: u64, reason: usize, address: Option<Address>) -> bool {
         if self.second != second {
             self.second = second;
@@ -43,7 +44,7 @@ impl Flow {
     }
 }
 
-/// Whether both are the same address, or none.
+/// Whether both are the same address, or neither is an address.
 fn is_same(a: Option<Address>, b: Option<Address>) -> bool {
     match (a, b) {
         (None, None) => true,
@@ -61,7 +62,7 @@ pub(crate) struct Log {
 }
 
 impl Log {
-    /// An empty one.
+    /// A log without a line yet.
     pub(crate) fn new(alloc: Global) -> Log {
         Log {
             waiting: Mutex::new(String::new(alloc)),
@@ -94,7 +95,7 @@ impl Log {
         self.filled.notify_all();
     }
 
-    /// Waits for lines, and takes them.
+    /// Waits until the log has lines to be written, and takes them.
     fn take<R: Wait>(&self, rt: &R, alloc: Global) -> String {
         let mut waiting = self
             .filled
@@ -102,7 +103,7 @@ impl Log {
         std::mem::replace(&mut *waiting, String::new(alloc))
     }
 
-    /// Writes the lines as they come, for ever.
+    /// Writes the log's lines to the standard error as they come, for ever.
     pub(crate) fn write_all<R: Wait + Eprint>(&self, rt: &R, alloc: Global) {
         for _ in rt.forever() {
             let lines = self.take(rt, alloc);

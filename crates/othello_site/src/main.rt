@@ -41,6 +41,7 @@ mod web;
 use std::env;
 use std::process::ExitCode;
 
+/// Serves a site by the file that the command line names.
 fn main(rt: HostRuntime) -> ExitCode {
     let status = match running::words_of(rt.alloc(), env::args(&rt)) {
         Some(words) => running::run(&rt, words.as_slice()),

@@ -1,4 +1,4 @@
-//! How many lines that ask for a reservation each customer has said of late.
+//! How many lines that ask for a reservation each customer of a site has said of late.
 use site_book::Who;
 use site_file::{Meter, Rate};
 use std::alloc::Global;
@@ -25,7 +25,7 @@ pub(crate) struct Rates {
 }
 
 impl Rates {
-    /// Nobody was heard.
+    /// The rates of a new site: no customer has said a line.
     pub(crate) fn new(alloc: Global) -> Rates {
         Rates {
             accounts: Vec::new(alloc),

@@ -42,7 +42,7 @@ pub(crate) struct Register {
 }
 
 impl Register {
-    /// Nobody is there.
+    /// The register of a new site: no connection is there.
     pub(crate) fn new(alloc: Global, config: Arc<SiteConfig, Global>) -> Register {
         Register {
             config,
@@ -55,17 +55,17 @@ impl Register {
         }
     }
 
-    /// One connection more; false where there may be none.
+    /// Counts one connection more; false where there are as many as may be, or the operator lets nobody come any more.
     pub(crate) fn come(&mut self) -> bool {
         self.draining.is_none() && self.connections.come(self.config.limits.connections)
     }
 
-    /// One connection less.
+    /// Counts one connection less.
     pub(crate) fn go(&mut self) {
         self.connections.go();
     }
 
-    /// How a connection of this customer is taken. (It is one of all already.) It is closed where there is no memory to count it.
+    /// Whether and as whose a new connection of this customer is taken; it is among all connections already.
     pub(crate) fn arrive(&mut self, who: Who) -> Arrival {
         let most = self.config.directory.terms(who).connections;
         let most_all = self.config.limits.connections;
@@ -75,18 +75,19 @@ impl Register {
         }
     }
 
-    /// A connection leaves that counts as this customer's, or as nobody's.
+    /// Notes that a connection has left, which counted as this customer's, or as nobody's.
     pub(crate) fn depart(&mut self, account: Option<Who>) {
         self.connections.depart(account);
     }
 
-    /// Has a connection count as another customer's, if that may have one more, and there is memory to count it.
+    /// Lets a connection count as another customer's from now on; false where that customer may have no more
+    /// connections.
     pub(crate) fn belong(&mut self, account: Option<Who>, who: Who) -> bool {
         let most = self.config.directory.terms(who).connections;
         self.connections.belong(account, who, most).unwrap_or(false)
     }
 
-    /// The hall that the file says of a customer; of a guest the first.
+    /// The hall that the site's file names for a customer; for a guest the first one.
     pub(crate) fn first_hall(&self, who: Who) -> usize {
         match who {
             Who::Named(_) => self.config.directory.terms(who).hall as usize,
@@ -109,7 +110,7 @@ impl Register {
         hall
     }
 
-    /// The hall where a guest has a session.
+    /// The hall in which a customer has a session; None where it has none.
     fn home_of(&self, who: Who) -> Option<usize> {
         for link in &self.links {
             if link.who.is(who) {
@@ -134,7 +135,7 @@ impl Register {
         who.is_guest() && has >= most as usize
     }
 
-    /// Keeps a session's connection, so that it can be shut; false where there is no memory.
+    /// Keeps the connection of a session, so that it can be shut later; false where there is no memory.
     pub(crate) fn link(
         &mut self,
         hall: usize,
@@ -157,7 +158,7 @@ impl Register {
             .is_ok()
     }
 
-    /// The place of a session's connection.
+    /// The place in the register of the connection of a session.
     fn place_of(&self, hall: usize, session: u64) -> Option<usize> {
         for (place, link) in self.links.iter().enumerate() {
             if link.hall == hall && link.session == session {
@@ -167,7 +168,7 @@ impl Register {
         None
     }
 
-    /// Forgets a session's connection. Returns why it was shut, if it was.
+    /// Forgets the connection of a session that has ended. Returns why it was shut, if it was.
     pub(crate) fn unlink(&mut self, hall: usize, session: u64) -> Option<Told> {
         let place = self.place_of(hall, session)?;
         if place < self.links.len() {
@@ -177,7 +178,7 @@ impl Register {
         None
     }
 
-    /// Shuts a session's connection, as it was told to end.
+    /// Shuts the connection of a session that was told to end, and notes why.
     pub(crate) fn shut(&mut self, hall: usize, session: u64, why: Told) {
         if let Some(place) = self.place_of(hall, session) {
             if let Some(link) = self.links.get_mut(place) {
@@ -187,7 +188,7 @@ impl Register {
         }
     }
 
-    /// A session waits for a job from now on, or doesn't any more.
+    /// Notes whether a session waits for a job from now on.
     pub(crate) fn set_waiting(&mut self, hall: usize, session: u64, waits: bool) {
         if let Some(place) = self.place_of(hall, session) {
             if let Some(link) = self.links.get_mut(place) {
@@ -197,7 +198,7 @@ impl Register {
         }
     }
 
-    /// Where the connection of a session comes from.
+    /// The address from which the connection of a session comes.
     pub(crate) fn address_of(&self, hall: usize, session: u64) -> Option<Address> {
         let place = self.place_of(hall, session)?;
         let link = self.links.get(place)?;
@@ -219,7 +220,8 @@ impl Register {
         Ok(found)
     }
 
-    /// Looks at the connection at a place, if it waits for a job: its hall and session where its client is gone.
+    /// Looks at the connection at a place, if its session waits for a job. Returns hall and session where the client is
+    /// gone.
     pub(crate) fn look(&mut self, place: usize, now: u64) -> Option<(usize, u64)> {
         let hangup = u64::from(self.config.limits.hangup).saturating_mul(1_000);
         let link = self.links.get_mut(place)?;
@@ -236,7 +238,7 @@ impl Register {
     }
 }
 
-/// Whether both are the same address.
+/// Whether two addresses are the same.
 pub(crate) fn is_same_address(a: Address, b: Address) -> bool {
     match (a, b) {
         (Address::V4(a), Address::V4(b)) => a == b,
@@ -245,7 +247,7 @@ pub(crate) fn is_same_address(a: Address, b: Address) -> bool {
     }
 }
 
-/// What is seen of a connection that nobody reads.
+/// What a look at a connection shows that nobody reads: the client is there, has ended its input, or is lost.
 fn seen_of(stream: &TcpStream) -> ClientState {
     if stream.set_nonblocking(true).is_err() {
         return ClientState::Lost;
@@ -266,7 +268,7 @@ fn seen_of(stream: &TcpStream) -> ClientState {
     seen
 }
 
-/// What is seen of a connection whose bytes wait to be read.
+/// What a look at a connection shows whose bytes wait to be read: the client is there, or lost.
 fn seen_by(stream: &TcpStream) -> ClientState {
     match stream.take_error() {
         Ok(None) => ClientState::Silent,

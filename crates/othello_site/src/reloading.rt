@@ -1,4 +1,4 @@
-//! The file read again.
+//! A site's file read again while it runs.
 use crate::paths::Paths;
 use crate::shared::Shared;
 use crate::watching::shut_told;
@@ -36,6 +36,7 @@ pub(crate) enum Unread {
 }
 
 impl From<AllocError> for Unread {
+    /// The fault of a file that couldn't be read for want of memory.
     fn from(_fault: AllocError) -> Unread {
         Unread::Memory
     }
@@ -94,7 +95,8 @@ struct PlanChange {
     was: Vec<Plan>,
 }
 
-/// The change from one file to another: all memory that it takes.
+/// All that a change from one file to another needs, with the memory for it: for each hall the plan that both files
+/// allow, the new plan, and the place for the old one. It fails where a hall's totals differ.
 fn change_of(alloc: Global, now: &SiteConfig, config: &SiteConfig) -> Result<PlanChange, Unread> {
     let many = u32::try_from(config.directory.customers.len()).unwrap_or(u32::MAX);
     let mut change = PlanChange {
@@ -121,7 +123,7 @@ fn change_of(alloc: Global, now: &SiteConfig, config: &SiteConfig) -> Result<Pla
     Ok(change)
 }
 
-/// Tells those to end who don't stay under another plan, and waits a little until they have left.
+/// Tells those sessions to end that couldn't stay under the new file, and waits a little until they have left.
 fn end_beyond<J: SiteNaming, R: Clock + Wait>(rt: &R, shared: &Shared<J>, config: &SiteConfig) {
     for (hall, desk) in shared.desks.iter().enumerate() {
         if let Some(plan) = config.halls.get(hall) {
@@ -136,7 +138,8 @@ fn end_beyond<J: SiteNaming, R: Clock + Wait>(rt: &R, shared: &Shared<J>, config
     }
 }
 
-/// Has all halls and the directory go by another file, or none. Nobody is met meanwhile.
+/// Has all halls and the directory of customers go by another file; or none of them, and all stays as it was. Nobody is
+/// met meanwhile: neither a new connection nor a HELLO.
 fn go_by<J: SiteNaming, R: AllocGlobal + Wait>(
     rt: &R,
     shared: &Shared<J>,
@@ -166,7 +169,8 @@ fn go_by<J: SiteNaming, R: AllocGlobal + Wait>(
     }
 }
 
-/// Has each hall go by what both files allow. Where one has more out, all before it go by what they went by; that one's number.
+/// Has each hall go by what the old and the new file both allow. Where a hall has more out than that, the halls before
+/// it go back to their old plans, and its number is returned.
 fn go_between<J: SiteNaming, R: Wait>(
     rt: &R,
     shared: &Shared<J>,

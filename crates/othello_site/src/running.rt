@@ -1,4 +1,4 @@
-//! What the program does with the words of its command line.
+//! What the program `othello_site` does with the words of its command line.
 use crate::ending::{Unheard, Why};
 use crate::paths::Paths;
 use crate::reloading::lower;
@@ -50,7 +50,7 @@ pub(crate) fn words_of(alloc: Global, words: io::Result<std::env::Args>) -> Opti
     Some(all)
 }
 
-/// Refuses the words.
+/// Says on the errors how the program is used, as its words can't be followed, and returns the exit status.
 pub(crate) fn refuse_words(rt: &impl Eprint) -> u8 {
     let _ = eprint!(rt; "{HELP}");
     EXIT_REFUSED
@@ -73,7 +73,7 @@ enum Asked<'w> {
     Nothing,
 }
 
-/// What these words ask for.
+/// What the words of the command line ask for.
 fn asked_by(words: &[String]) -> Asked<'_> {
     match words {
         [_] => Asked::Alone,
@@ -86,7 +86,8 @@ fn asked_by(words: &[String]) -> Asked<'_> {
     }
 }
 
-/// What one word asks for.
+/// What a command line of one word asks for: help, the version, a site by the file of this name, or nothing that is
+/// known.
 fn asked_by_one(word: &str) -> Asked<'_> {
     match word {
         "--help" | "-h" => Asked::Help,
@@ -126,7 +127,7 @@ where
     }
 }
 
-/// Writes a text on the output.
+/// Writes a text on the output, and returns the exit status.
 fn say<R: Print>(rt: &R, text: &str) -> u8 {
     match print!(rt; "{text}") {
         Ok(()) => EXIT_OK,
@@ -164,7 +165,7 @@ fn config_at<R: Paths + Eprint + AllocGlobal>(rt: &R, path: &str) -> Result<Site
     }
 }
 
-/// Says why a file is refused.
+/// Says on the errors why a site's file is refused, and returns the exit status.
 fn refuse_file<R: Eprint, D: Display>(rt: &R, path: &str, why: &D) -> u8 {
     let _ = eprintln!(rt; "othello_site: {path}: {why}");
     EXIT_REFUSED
@@ -180,7 +181,7 @@ fn refuse_address<R: Eprint>(rt: &R, fault: &Unheard) -> u8 {
     EXIT_FAILED
 }
 
-/// Says what a file gives away.
+/// Reads a site's file without serving, and says what its halls give away.
 fn check<R: Paths + Print + Eprint + AllocGlobal>(rt: &R, path: &str) -> u8 {
     let config = match config_at(rt, path) {
         Ok(config) => config,
@@ -225,7 +226,7 @@ fn push_customers(
     Ok(())
 }
 
-/// Serves without a file.
+/// Serves a site that has no file: it listens for this host alone, and everybody is a guest who may take what is free.
 fn alone<R>(rt: &R) -> u8
 where
     R: Net<Listener = TcpListener, Stream = TcpStream>

@@ -88,7 +88,7 @@ fn control_at<R: Paths>(rt: &R, config: &SiteConfig) -> Result<Option<UnixListen
     }
 }
 
-/// Listens as a file says.
+/// Opens the listeners that a site's file names.
 fn listeners_of<R>(rt: &R, config: &SiteConfig) -> Result<Listeners, Unheard>
 where
     R: Net<Listener = TcpListener, Stream = TcpStream> + Paths,
@@ -158,7 +158,7 @@ fn stocks_of(alloc: Global, config: &SiteConfig) -> Result<Option<Vec<SiteStock>
     Ok(Some(stocks))
 }
 
-/// How many workers a hall has.
+/// How many workers each hall of the site has.
 fn workers_of<R: Threads>(rt: &R, config: &SiteConfig) -> u8 {
     match config.workers.count {
         Some(count) => count,
@@ -267,7 +267,7 @@ fn endings(alloc: Global) -> Result<(Arc<Ending, Global>, Arc<Ending, Global>), 
     Ok((ending, theirs))
 }
 
-/// Says where a site listens.
+/// Says on the output at which address the site listens.
 fn say_listening<R: Print>(rt: &R, listener: &Option<TcpListener>) {
     if let Some(listener) = listener {
         if let Ok(address) = listener.local_addr() {
@@ -312,7 +312,7 @@ fn start_hall<'s, J: SiteNaming + Send + Sync, E, R: Threads + Wait + Sync>(
     let _ = scope.spawn(move || run_workers(rt, alloc, shared, hall, workers));
 }
 
-/// Starts the workers of all halls.
+/// Starts the pools of workers of all halls.
 fn start_workers<'s, J: SiteNaming + Send + Sync, E, R: Threads + Wait + Sync>(
     scope: &'s Scope<'s, E>,
     rt: &'s R,
@@ -342,7 +342,7 @@ where
     }
 }
 
-/// Starts what answers the operator.
+/// Starts the threads that answer the operator.
 fn start_control<
     's,
     J: SiteNaming + Send + Sync,
@@ -368,7 +368,7 @@ fn start_web<'s, J: SiteNaming + Send + Sync, E, R: Threads + Wait + Clock + All
     let _ = scope.spawn(move || serve_web(rt, shared, listener));
 }
 
-/// Starts all threads of a site.
+/// Starts all threads of a site, and waits until it ends.
 fn serve_site<J: SiteNaming + Send + Sync, R>(rt: &R, site: SiteService<J>)
 where
     R: Net<Listener = TcpListener, Stream = TcpStream>

@@ -1,4 +1,4 @@
-//! What all threads share.
+//! What all threads of a site share.
 use crate::ending::Ending;
 use crate::logging::Log;
 use crate::register::Register;
@@ -42,9 +42,10 @@ pub(crate) struct Shared<J: SiteNaming> {
 const NAP_MICROS: u64 = 50;
 
 impl<J: SiteNaming> Shared<J> {
-    /// What connections share, for this thread alone. It tries again and again, and naps in between. It never sleeps on the lock: a
-    /// thread that does is handed it, and until that thread runs nobody else can take it. Where all processors are busy that takes
-    /// milliseconds, and each connection takes it some ten times.
+    /// Locks the register of what all connections share, for this thread alone. It tries again and again, and naps in
+    /// between. It never sleeps on the lock: a thread that does is handed the lock, and until that thread runs nobody
+    /// else can take it. Where all processors are busy that takes milliseconds, and each connection takes the lock some
+    /// ten times.
     pub(crate) fn register<R: Wait>(&self, rt: &R) -> MutexGuard<'_, Register> {
         for _ in rt.forever() {
             if let Some(register) = self.lock.try_lock() {
@@ -56,7 +57,7 @@ impl<J: SiteNaming> Shared<J> {
         unreachable!()
     }
 
-    /// How long ago the site began.
+    /// How long ago the site began, by its clock.
     fn age(&self, clock: &impl Clock) -> Duration {
         match (self.start, Instant::now(clock)) {
             (Some(start), Ok(now)) => now.duration_since(start),
@@ -64,12 +65,12 @@ impl<J: SiteNaming> Shared<J> {
         }
     }
 
-    /// Microseconds since the site began.
+    /// Microseconds since the site began, by its clock.
     pub(crate) fn micros(&self, clock: &impl Clock) -> u64 {
         u64::try_from(self.age(clock).as_micros()).unwrap_or(u64::MAX)
     }
 
-    /// Milliseconds since the site began.
+    /// Milliseconds since the site began, by its clock.
     pub(crate) fn now(&self, clock: &impl Clock) -> u64 {
         u64::try_from(self.age(clock).as_millis()).unwrap_or(u64::MAX)
     }

@@ -1,4 +1,4 @@
-//! The environment of a connection's office: clock, keys and rates, and what it is told.
+//! What the office of a site's connection asks of the site around it: clock, keys and rates; and what it tells it.
 use crate::counts::place_of;
 use crate::links::TalkState;
 use crate::shared::Shared;
@@ -39,7 +39,7 @@ pub(crate) struct SiteEnvironment<'a, J: SiteNaming, R> {
 }
 
 impl<J: SiteNaming, R: Clock + Wait> SiteEnvironment<'_, J, R> {
-    /// Its session has begun.
+    /// Notes that the connection's session has begun, under this number, for this customer.
     fn begin(&mut self, number: u64, who: Who) {
         let took = self.shared.micros(self.rt).saturating_sub(self.asked);
         self.session = Some((number, who));
@@ -80,7 +80,7 @@ impl<J: SiteNaming, R: Clock + Wait> SiteEnvironment<'_, J, R> {
         rooms
     }
 
-    /// A refusal is counted, and said.
+    /// Counts a refusal of the connection's customer, and says it in the log.
     fn refuse(&mut self, cause: Cause) {
         let place = place_of(cause);
         let who = self.account.unwrap_or(self.own);
@@ -99,7 +99,7 @@ impl<J: SiteNaming, R: Clock + Wait> SiteEnvironment<'_, J, R> {
         );
     }
 
-    /// Its session waits for a job, or doesn't any more.
+    /// Notes that the connection's session waits for a job, or doesn't any more.
     fn wait(&mut self, waits: bool) {
         let now = self.shared.micros(self.rt);
         let Some((number, _)) = self.session else {
@@ -114,7 +114,7 @@ impl<J: SiteNaming, R: Clock + Wait> SiteEnvironment<'_, J, R> {
         }
     }
 
-    /// The connection has ended.
+    /// Notes that the connection has ended.
     pub(crate) fn leave(&self) {
         let mut register = self.shared.register(self.rt);
         register.counts.lines = register.counts.lines.saturating_add(self.talk.lines.get());
@@ -123,15 +123,18 @@ impl<J: SiteNaming, R: Clock + Wait> SiteEnvironment<'_, J, R> {
 }
 
 impl<J: SiteNaming, R: Clock + Wait> Environment for SiteEnvironment<'_, J, R> {
+    /// Milliseconds of the site's clock.
     fn now(&self) -> u64 {
         self.shared.now(self.rt)
     }
 
+    /// For how long a guest may say nothing before its session may go for another, in milliseconds.
     fn guest_idle(&self) -> u64 {
         let register = self.shared.register(self.rt);
         u64::from(register.config.limits.guest).saturating_mul(1_000)
     }
 
+    /// Whose the session is, by the token of its HELLO or else by the connection, and in which hall it is.
     fn identify(&mut self, token: Option<&[u8]>) -> Identity {
         self.asked = self.shared.micros(self.rt);
         let rooms = self.rooms(token);
@@ -156,6 +159,7 @@ impl<J: SiteNaming, R: Clock + Wait> Environment for SiteEnvironment<'_, J, R> {
         Identity::Is(who, self.hall)
     }
 
+    /// Whether this customer may say one line more that asks for a reservation, which it then has said.
     fn pay(&mut self, who: Who) -> bool {
         let now = self.shared.micros(self.rt);
         let mut register = self.shared.register(self.rt);
@@ -163,6 +167,8 @@ impl<J: SiteNaming, R: Clock + Wait> Environment for SiteEnvironment<'_, J, R> {
         register.rates.pay(who, rate, now)
     }
 
+    /// Notes what happened to the session in what all connections share: that it began, waits, was answered or has
+    /// ended.
     fn note(&mut self, note: Note) {
         match note {
             Note::Begins(number, who) => self.begin(number, who),

@@ -1,4 +1,4 @@
-//! What the site says of itself: STATS and metrics.
+//! What a site says of itself: STATS and metrics.
 use crate::counts::{BOUNDS, Buckets, Counts, NAMES, name_at};
 use crate::shared::Shared;
 use site_book::{Amount, Group, Who};
@@ -10,7 +10,7 @@ use std::net::{Ipv4Addr, Ipv6Addr};
 use std::sync::{Arc, Wait};
 use std::time::Clock;
 
-/// An address in words.
+/// An address as a text.
 pub(crate) fn address_text(alloc: Global, address: Address) -> Result<String, AllocError> {
     match address {
         Address::V4(address) => {
@@ -27,8 +27,8 @@ pub(crate) fn address_text(alloc: Global, address: Address) -> Result<String, Al
     }
 }
 
-/// Says why somebody was refused, and as which customer if that is known; unless too many were in this second by this reason, or from
-/// this address.
+/// Says in the site's log why somebody was refused, and as which customer if that is known. It says nothing where too
+/// many lines of this reason, or of it and this address, were said in this second.
 pub(crate) fn log_refusal<J: SiteNaming, R: Clock + Wait>(
     rt: &R,
     alloc: Global,
@@ -46,7 +46,7 @@ pub(crate) fn log_refusal<J: SiteNaming, R: Clock + Wait>(
     }
 }
 
-/// The line of a refusal.
+/// The line of the log that tells a refusal.
 fn refusal_line<J: SiteNaming, R: Wait>(
     rt: &R,
     alloc: Global,
@@ -113,7 +113,7 @@ fn push_amounts(out: &mut String, may: Amount, has: Amount) -> Result<(), AllocE
     )
 }
 
-/// Appends the lines of a hall.
+/// Appends to STATS the lines of one hall.
 fn push_hall<J: SiteNaming, R: AllocGlobal + Clock + Wait>(
     rt: &R,
     shared: &Shared<J>,
@@ -168,7 +168,7 @@ fn push_head(out: &mut String, name: &str, help: &str, kind: &str) -> Result<(),
     )
 }
 
-/// Appends a metric without labels.
+/// Appends a metric of one number, without labels.
 fn push_one(
     out: &mut String,
     name: &str,
@@ -180,7 +180,7 @@ fn push_one(
     writeln!(out, "othello_site_{name} {value}")
 }
 
-/// Appends a histogram.
+/// Appends a metric that is a histogram of durations.
 fn push_histogram(
     out: &mut String,
     name: &str,
@@ -234,7 +234,7 @@ pub(crate) fn metrics_of<J: SiteNaming, R: AllocGlobal + Clock + Wait>(
     Ok(out)
 }
 
-/// Appends what the halls have.
+/// Appends the metrics of what the halls have and use.
 fn push_halls<J: SiteNaming, R: Wait>(
     rt: &R,
     shared: &Shared<J>,
@@ -294,7 +294,7 @@ fn push_refused<J: SiteNaming, R: AllocGlobal + Wait>(
     Ok(())
 }
 
-/// Appends what was counted.
+/// Appends the metrics of what was counted since the site began.
 fn push_counts(out: &mut String, counts: &Counts) -> Result<(), AllocError> {
     push_one(
         out,

@@ -1,6 +1,7 @@
-//! Connections that are answered side by side, each by one of a few threads that are there from the start. Where one comes beyond them,
-//! that is shut which has been there longest. So no number of silent ones keeps another from its answer, and neither does a shortage of
-//! threads or descriptors: what answers is there already, and the site's connections leave descriptors for it.
+//! A site's short connections that are answered side by side, each by one of a few threads that are there from the
+//! start. Where one comes beyond them, that is shut which has been there longest. So no number of silent ones keeps
+//! another from its answer, and neither does a shortage of threads or descriptors: what answers is there already, and
+//! the site's connections leave descriptors for it.
 use std::alloc::{AllocError, Global};
 use std::collections::VecDeque;
 use std::net::{Shutdown, TcpStream};
@@ -15,17 +16,20 @@ pub(crate) const PAUSE_MILLIS: u64 = 100;
 
 /// A connection that can be shut.
 pub(crate) trait Shut {
-    /// Nothing is read of it or written to it from now on: who reads it or writes to it is woken.
+    /// Shuts the connection: nothing is read of it or written to it from now on, and a thread that waits to read or
+    /// write wakes up.
     fn shut(&self);
 }
 
 impl Shut for TcpStream {
+    /// Shuts a TCP connection in both directions.
     fn shut(&self) {
         let _ = self.shutdown(Shutdown::Both);
     }
 }
 
 impl Shut for UnixStream {
+    /// Shuts a connection of the local socket in both directions.
     fn shut(&self) {
         let _ = self.shutdown(Shutdown::Both);
     }
@@ -39,7 +43,7 @@ struct Visitors<S: Drop> {
 }
 
 impl<S: Shut + Drop> Visitors<S> {
-    /// Takes one in, and shuts the oldest where there are too many.
+    /// Takes one connection in, and shuts the one that has been there longest where 16 are there.
     fn admit(&mut self, stream: Arc<S, Global>, other: Arc<S, Global>) -> Result<(), AllocError> {
         self.there.retain(|each| Arc::strong_count(each) > 1);
         if self.there.len() >= HOSTS {
@@ -61,7 +65,7 @@ pub(crate) struct Visits<S: Drop> {
 }
 
 impl<S: Shut + Drop> Visits<S> {
-    /// Nobody is there.
+    /// The visits of a new site: no connection is there.
     pub(crate) fn new(alloc: Global) -> Visits<S> {
         Visits {
             visitors: Mutex::new(Visitors {
@@ -72,7 +76,7 @@ impl<S: Shut + Drop> Visits<S> {
         }
     }
 
-    /// Takes one in, which the next free thread answers.
+    /// Takes one connection in, which the next free thread answers.
     pub(crate) fn admit<R: Wait>(
         &self,
         rt: &R,
@@ -86,7 +90,7 @@ impl<S: Shut + Drop> Visits<S> {
         admitted
     }
 
-    /// Waits for one that no thread answers yet.
+    /// Waits for a connection that no thread answers yet, and takes it.
     pub(crate) fn next<R: Wait>(&self, rt: &R) -> Option<Arc<S, Global>> {
         let mut visitors = self
             .came

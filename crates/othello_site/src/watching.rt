@@ -1,4 +1,4 @@
-//! Each second: sessions whose client is gone, and connections that are to be shut.
+//! What a site does each second: it looks for sessions whose client is gone, and connections that are to be shut.
 use crate::ending::Why;
 use crate::shared::Shared;
 use site_book::{Group, Present, Told, Whom};
@@ -10,7 +10,8 @@ use std::time::{Clock, Duration};
 /// Milliseconds between two looks.
 const BETWEEN: u64 = 1_000;
 
-/// Looks each second, until all have left where the operator asked for it.
+/// Looks each second at sessions and connections, and returns once the operator has let nobody come any more and all
+/// have left.
 pub(crate) fn watch_all<J: SiteNaming, R: Clock + Wait>(rt: &R, shared: &Shared<J>) {
     for _ in rt.forever() {
         thread::sleep(rt, Duration::from_millis(BETWEEN));
@@ -62,7 +63,7 @@ pub(crate) fn tell<J: SiteNaming, R: Wait>(
     many
 }
 
-/// Whether a session is one of these.
+/// Whether a session is one of those that are meant.
 fn is_meant(whom: Whom, present: &Present) -> bool {
     match whom {
         Whom::One(session) => present.session == session,
@@ -102,7 +103,7 @@ fn is_drained<J: SiteNaming, R: Clock + Wait>(rt: &R, shared: &Shared<J>) -> boo
     false
 }
 
-/// Whether nobody is in any hall.
+/// Whether no session is in any hall of the site.
 fn are_empty<J: SiteNaming, R: Wait>(rt: &R, shared: &Shared<J>) -> bool {
     for desk in &shared.desks {
         if !desk.roll(rt).is_empty() {

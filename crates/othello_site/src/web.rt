@@ -1,4 +1,4 @@
-//! Health and metrics by HTTP.
+//! A site's health and metrics by HTTP.
 use crate::links::{MOST_BYTES, Received, first_line, is_interrupted};
 use crate::shared::Shared;
 use crate::telling::metrics_of;
@@ -66,7 +66,7 @@ fn answer<J: SiteNaming, R: AllocGlobal + Clock + Wait>(
     }
 }
 
-/// Answers one connection.
+/// Reads a request by HTTP from one connection, and answers it.
 fn converse<J: SiteNaming, R: AllocGlobal + Clock + Wait>(
     rt: &R,
     shared: &Shared<J>,
@@ -93,7 +93,7 @@ fn converse<J: SiteNaming, R: AllocGlobal + Clock + Wait>(
     None
 }
 
-/// Takes connections, which other threads answer ([`answer_web`]).
+/// Takes the connections by HTTP, which other threads answer ([`answer_web`]).
 pub(crate) fn serve_web<J: SiteNaming, R: Clock + AllocGlobal + Wait>(
     rt: &R,
     shared: &Shared<J>,
@@ -109,7 +109,7 @@ pub(crate) fn serve_web<J: SiteNaming, R: Clock + AllocGlobal + Wait>(
     }
 }
 
-/// Answers one connection after another, for ever.
+/// Answers one connection by HTTP after another, for ever.
 pub(crate) fn answer_web<J: SiteNaming, R: Clock + AllocGlobal + Wait>(rt: &R, shared: &Shared<J>) {
     for _ in rt.forever() {
         if let Some(stream) = shared.web.next(rt) {

@@ -1,4 +1,4 @@
--- The choice that has a code, and the words of a board.
+-- The page's engine: the choice of a board that has a code, and the words of a board.
 use Rattle.std.proofs.Common.{◌≡◌, ℕ, suc, ◌<◌, ◌^◌, true, false, eqb, List, [], ◌∷◌, Option, Some, None, IsSome, Contains, ℤ, bit_and, ⊎_elim, refl, sym, ◌∙◌, arith}
 use Rattle.std.proofs.lemmas.Bool.{cond-true, cond-false, cases_Bool}
 use Rattle.othello_board.specs.declared.boards.Board.{Board}

@@ -18,11 +18,11 @@ abbrev pub best_code : Option Choice → ℕ
 best_code None = 65
 best_code (Some c) = choice_code c
 
--- the first of these choices that has a code
+-- the first choice of a list that has this code
 abbrev pub with_code : ℕ → List Choice → Option Choice
 with_code code cs = find (λ c. choice_code c == code) cs
 
--- the choice of a board that has a code
+-- the choice of a board that has this code; None where none has it
 abbrev pub choice_of_code : List Cell → ℕ → Option Choice
 choice_of_code board code = with_code code (choices board)
 
@@ -36,20 +36,22 @@ turn_code [] = 3
 turn_code (Pass ∷ more) = 2
 turn_code (Square s ∷ more) = 1
 
--- a value and a best choice in one number
+-- the number in which a page is given a value and a best choice together
 abbrev pub analysis_code : ℤ → Option Choice → ℤ
 analysis_code value best = value *ℤ pos 128 +ℤ pos (best_code best)
 
--- what stands for no value and no analysis
+-- the number that a page is given where there is no value: the least of 32 bits with a sign
 abbrev pub no_value : ℤ
 no_value = neg_ℤ (pos (2 ^ 31))
 
+-- the number that a page is given where there is no analysis: the least of 64 bits with a sign
 abbrev pub no_analysis : ℤ
 no_analysis = neg_ℤ (pos (2 ^ 63))
 
--- the squares of the mover's discs as the bits of a word, and those of the opponent's
+-- the squares of the mover's discs as the bits of a word
 abbrev pub own_bits : List Cell → ℕ
 own_bits board = bits_of (filter (λ s. is_own_cell (cell_at board s)) squares)
 
+-- the squares of the opponent's discs as the bits of a word
 abbrev pub opp_bits : List Cell → ℕ
 opp_bits board = bits_of (filter (λ s. is_opp_cell (cell_at board s)) squares)

@@ -1,4 +1,4 @@
-//! What the choices of a board lead to, and are worth.
+//! The page's engine: what the choices of a board lead to, and are worth.
 ghost use Rattle.std.specs.Prelude.{◌≡◌, ◌<◌, ◌≤◌, Contains};
 ghost use Rattle.std.specs.Option.{option_map};
 ghost use Rattle.othello_board.specs.Words.{cells};
@@ -39,7 +39,8 @@ const GREATEST: i32 = 128_000;
 /// How far a guess may be off without a second search.
 const WIDTH: i32 = 20;
 
-/// The minimax value of a board, that is sought near a guess first, and where it isn't there, on the side where it is.
+/// The minimax value of a board. It is sought near a guess first, and where it isn't there, on the side where it must
+/// be.
 fn value_near(board: Board, depth: u8, guess: i32) -> i32
     requires shallow { depth ≤ DEEPEST }
     requires near { IsWithin 128000 guess }
@@ -56,7 +57,7 @@ fn value_near(board: Board, depth: u8, guess: i32) -> i32
     found
 }
 
-/// As [`worth`], sooner where the guess is near what the choice is worth.
+/// What a choice is worth to the player to move, as [`worth`] finds it; sooner where the guess is near.
 pub(crate) fn worth_near(board: Board, choice: Choice, depth: u8, guess: i32) -> i32
     requires chosen { Contains (choices (cells board)) choice }
     requires deep { 0 < depth }

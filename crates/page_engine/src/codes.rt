@@ -1,4 +1,4 @@
-//! Choices as codes, and a board's choice that has a code.
+//! The page's engine: choices as codes, and a board's choice that has a code.
 ghost use Rattle.std.specs.Prelude.{◌≡◌, IfSome, Contains};
 ghost use Rattle.othello_board.specs.Words.{cells};
 ghost use Rattle.othello_moves.specs.Choices.{choices};
@@ -13,7 +13,7 @@ pub(crate) const PASS: u32 = 64;
 /// The code of no choice.
 pub(crate) const NO_CHOICE: u32 = 65;
 
-/// The code of a choice.
+/// The number by which a page knows a choice: 0 to 63 a square, 64 a pass.
 pub(crate) fn code_of(choice: Choice) -> u32
     ensures { result ≡ choice_code choice }
 {
@@ -23,7 +23,7 @@ pub(crate) fn code_of(choice: Choice) -> u32
     }
 }
 
-/// The code of a best choice.
+/// The number by which a page knows a best choice: 0 to 63 a square, 64 a pass, 65 none.
 pub(crate) fn code_of_best(best: Option<Choice>) -> u32
     ensures { result ≡ best_code best }
 {

@@ -1,4 +1,4 @@
-//! The functions that a page calls.
+//! The functions that the page with the board calls (as WebAssembly); they take and give plain numbers.
 ghost use Rattle.std.specs.Prelude.{◌≡◌, ◌≢◌, ◌↔◌, ◌<◌, ◌≤◌, IsTrue, IsSome, bit_and, false, filter};
 ghost use Rattle.std.specs.Option.{option_map_or};
 ghost use Rattle.othello_board.specs.Words.{cells_of, bits_of};
@@ -139,7 +139,8 @@ pub extern "C" fn choice_value(own: u64, opp: u64, depth: u32, choice: u32) -> i
     }
 }
 
-/// As [`choice_value`], whatever the guess; sooner where that is near.
+/// What a choice is worth to the player to move, as [`choice_value`] tells it, whatever the guess; found sooner where
+/// the guess is near.
 #[unsafe(no_mangle)]
 pub extern "C" fn choice_value_near(own: u64, opp: u64, depth: u32, choice: u32, guess: i32) -> i32
     ensures value { bit_and own opp ≡ 0 → 0 < depth → depth ≤ greatest_depth → result ≡ option_map_or (choice_value depth (cells_of own opp)) (choice_of_code (cells_of own opp) choice) no_value }

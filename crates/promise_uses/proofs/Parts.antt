@@ -1,4 +1,5 @@
--- What the definitions of `promises` come to, part by part, and what holds of a value that there is.
+-- For the uses of the promises: what the definitions of `promises` come to, part by part, and what holds of a value
+-- that there is.
 use Rattle.promise_uses.proofs.Common.{◌≡◌, ◌≢◌, ◌⊎◌, ℕ, ℤ, ◌≤ℤ◌, List, true, Option, Some, None, Result, Ok, Err, inl, inr, ap, sym, subst, ◌∙◌, BoundKind, Low, High, Exact, Says, IfErr, OnOk, IfSome, MatchResult, ◌+◌, IsAnswerTo, own, Known, HallOf, SeatAsked, SeatOf, stepped, seeing, IsAsked, core_at, IsToldOf, Saw, Refusal, Busy, NoJobsLeft, DidOf, Steal, Spend, Tenant, is_busy_in, lone_refusal, alone, Leaf, jamboree, SearchStep, IsForBusyWorker, IsForOwnState, own_steps}
 use Rattle.std.specs.Prelude.{◌++◌, ◌∷◌, [], length}
 

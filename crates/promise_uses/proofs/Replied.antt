@@ -1,4 +1,5 @@
--- The job of a number that is done holds the reply to the words of that number; and what was taken of a list of searches is one.
+-- For the uses of the promises: the job of a number that is done holds the reply to the words of that number; and what
+-- was taken of a list of searches is one.
 use Rattle.promise_uses.proofs.Common.{◌≡◌, ℕ, ◌==◌, ◌-◌, true, false, List, [], ◌∷◌, Some, Result, Ok, Err, refl, arith, if◌then◌else◌, Refusal, DidOf, StepOf, job_at, taken_steps, AreReplies, AreSearches, IsReplyTo, origin_at}
 use Rattle.sched_rules.specs.declared.job.Job.{Job}
 use Rattle.sched_rules.specs.declared.job.Job.TheVariants.{Done}

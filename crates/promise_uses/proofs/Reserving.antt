@@ -1,4 +1,4 @@
--- Lists of steps that ask for searches with enough.
+-- For the uses of the law on what suffices: lists of steps that ask for searches with enough reserved.
 use Rattle.promise_uses.proofs.Common.{◌≡◌, ℕ, List, [], ◌∷◌, ◌++◌, Option, Some, None, ap, ◌∙◌, ◌≤◌, arith, StepOf, Submit, Tenant, left_of, alone_from, AreSearches, jamboree}
 use Rattle.othello_board.specs.Words.{cells_of}
 use Rattle.sched_rules.specs.Lone.{lone}

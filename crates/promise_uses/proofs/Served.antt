@@ -1,4 +1,4 @@
--- What a session's lines come to, where the third tells of a job.
+-- For the uses of the promises: what a session's lines come to, where the third tells of a job.
 use Rattle.promise_uses.proofs.Common.{◌≡◌, ℕ, List, [], ◌∷◌, ◌++◌, map, codes, decimal, true, false, Some, Result, Ok, Err, refl, sym, ap, subst, ◌∙◌, arith, nat_tests, concat, Cell, minimax, best_choice, IsTable, Side, value_text, Leads, LineText, Whole, ReadAnswer, WriteAnswer, Gave, Ended, Failed, bytes_due, write_result, IsTalkEnd, IsCutShort, writes_of, written_texts, End, EndOfInput, SessionFault, Read, Write, Analysis, Done, Asked, asked_at, Call, Hello, Ask, Wait, OfficeReply, Welcome, Job, Told, EachDoneIsTrue, IsTrueAnalysis, IsTrueDone, TrueSession, asks_of_lines, with_request, is_bye, Request, Makes, Tabulates, request, session_lines, talk_result, texts_for, IsAnsweredOf, IsWrittenOf, LineTurn, Made, Tabulated, turns, turn_text, next_reply, later_replies, seated_after, entries_text, pair_text}
 
 module _ (written : List ℕ) (texts : List (List ℕ)) where

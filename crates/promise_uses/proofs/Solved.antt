@@ -1,4 +1,4 @@
--- What `SolvedRun` comes to, where three lines are answered.
+-- For the use of the promise on `solve`: what `SolvedRun` comes to, where three lines are answered.
 use Rattle.promise_uses.proofs.Common.{◌≡◌, ◌⊎◌, inl, inr, ℕ, ◌<◌, Bool, true, false, List, [], ◌∷◌, ◌++◌, map, length, codes, Option, Some, Result, Ok, Err, refl, ap, subst, sym, ◌∙◌, concat, minimax, best_choice, QuestionOf, question, split_at_space, error_text, value_text, ProtocolFault, LineFault, Leads, LineText, Whole, lines_of, ReadAnswer, WriteAnswer, Gave, Ended, Failed, IsEnding, IsOutput, bytes_due, write_result, writes_of, written_texts, SolvedRun, answers_unless, line_question, question_answer, solve_line_unless, solve_out_unless, solved_unless, words_question}
 use Rattle.line_io.specs.declared.faults.LineFault.TheVariants.{Read, Write}
 

@@ -1,4 +1,4 @@
--- What a session's calls come to.
+-- For the uses of the promises: what a session's calls come to.
 use Rattle.promise_uses.proofs.Common.{◌≡◌, ◌⊎◌, ℕ, List, [], ◌∷◌, ◌++◌, length, true, false, Option, Some, None, refl, sym, ap, subst, ◌∙◌, inl, inr, append_assoc, append-nil, option_map, Quota, Left, Board, Cell, cells, Side, JobOf, SpentJob, Refusal, Full, refusal_number, Admit, AdmitMore, Submit, LeaveStep, Tenant, left_of, job_at, lone_refusal, alone, only, CoreState, shared_refusal, shared_run, tenant_in, own_word, opp_word, jamboree, root_words, frame_size, HallOf, Known, seat_steps, steps_of, AreTaken, IsTrueTo, Spent, Call, Hello, Reserve, Ask, Wait, AskQuota, Leave, OfficeReply, Welcome, Reserved, Job, Told, Rest, Gone, Refused, if_there, is_welcome, job_reply, reply_to, unless_refused, AreAnswered, IsOneTenancy, IsReplyAt, IsTenantOf, NobodyCame, seat-more, steps-more, SearchStep}
 use Rattle.std.proofs.Common.{◌+◌}
 

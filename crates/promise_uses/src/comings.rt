@@ -1,5 +1,5 @@
-//! What comes of any customer of the file, and of any guest of IPv4 and of IPv6, who asks for a session, whoever is there; and of another
-//! plan once those have gone who were told to end for it.
+//! Uses of a site's laws, at any customer of its file and any guest of IPv4 and of IPv6: what comes of who asks for a
+//! session, whoever is there; and of another plan once those have gone who were told to end for it.
 ghost use Rattle.std.specs.Prelude.{◌≡◌, ◌≢◌, ◌-◌, ◌≤◌, ℕ, length, List, [], ◌∷◌, Some, None, true, false, All};
 ghost use Rattle.tenant_quota.specs.Quota.{Quota};
 ghost use Rattle.site_book.specs.declared.coming.Coming.TheVariants.{Enters, Ends, Refused};

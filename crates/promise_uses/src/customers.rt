@@ -1,5 +1,5 @@
-//! What the book of a site's customers gives to any customer of the file, and to any guest of IPv4 and of IPv6. (At one customer alone a use
-//! would let a law through that is narrowed to that one.)
+//! Uses of the laws on the book of a site's customers: what it gives to any customer of the file, and to any guest of
+//! IPv4 and of IPv6. (At one customer alone a use would let a law through that is narrowed to that one.)
 ghost use Rattle.std.specs.Prelude.{◌≡◌, ◌+◌, ◌≤◌, ℕ, length, List, [], ◌∷◌, Option, Some, None, true, IsTrue};
 ghost use Rattle.tenant_quota.specs.Quota.{Quota};
 ghost use Rattle.site_book.specs.declared.held.Grant.{Grant};

@@ -1,4 +1,4 @@
-//! What a seat of tenant 9 knows after its calls at a desk.
+//! Uses of the desk's calls: what a seat of tenant 9 knows after each.
 ghost use Rattle.std.specs.Prelude.{◌≡◌, ◌≢◌, ◌≤◌, ◌++◌, ◌+◌, ◌∷◌, [], ℕ, List, length, Option, Some, None, Err, IfOk, OnOk, IfErr, IfSome, OnSome, MatchResult, Contains};
 ghost use Rattle.sched_rules.specs.declared.refusal.Refusal.TheVariants.{Full, Lower, NoJob, NoJobsLeft, NoNodes, NoSegments, NoTenant, OldTenant, OutOfMemory};
 ghost use Rattle.sched_rules.specs.declared.step.StepOf.TheVariants.{Admit, AdmitMore, Submit, Cancel, Leave};
@@ -148,7 +148,9 @@ pub fn quota_of_nine<L: DeskLedger, A: Allocator + Clone, R: Wait>(
     desk.quota_seen(rt, seat)
 }
 
-/// The same of the frames and words that tenant 9 has. Uses `desk::Desk::live_seen` (`look`, `live`).
+/// How many frames and words tenant 9 is told that it has is what it has at the end of the history that its seat has
+/// then seen. There the tenant is what its own steps make of it alone, and those of them that workers didn't make are
+/// the seat's own. Uses `desk::Desk::live_seen` (`look`, `live`).
 pub fn live_of_nine<L: DeskLedger, A: Allocator + Clone, R: Wait>(
     rt: &R,
     desk: &Desk<L, A>,

@@ -1,4 +1,5 @@
-//! What an accepted directory gives to each guest and to the second customer, and how many lines pass at any rate.
+//! Uses of the laws on a site's file: what an accepted directory gives to each guest and to the second customer, and
+//! how many lines pass at any rate.
 ghost use Rattle.std.specs.Prelude.{◌≡◌, ◌+◌, ◌*◌, ◌<◌, ◌≤◌, ℕ, List, ◌∷◌, None, true};
 ghost use Rattle.site_file.specs.declared.directory.Terms.{Terms};
 ghost use Rattle.site_file.specs.declared.keys.Keys.{Keys};

@@ -1,4 +1,4 @@
-//! What a hall tells of tenants 7 and 9 and of their jobs 3 and 5.
+//! Uses of the promises on a hall: what it tells of tenants 7 and 9 and of their jobs 3 and 5.
 ghost use Rattle.std.specs.Prelude.{◌≡◌, ◌≢◌, ◌+◌, [], ℕ, ◌≤◌, ◌≤ℤ◌, false, Some, None, Err, IfSome, OnOk, OnErr, slice_get};
 ghost use Rattle.othello_board.specs.Words.{cells_of};
 ghost use Rattle.othello_eval.specs.declared.bound.BoundKind.TheVariants.{Low, High, Exact};
@@ -50,8 +50,8 @@ pub fn value_of_seven<A: Allocator>(hall: &Hall<A>) -> Option<Valued>
     value_in(hall, 7, 3)
 }
 
-/// The same of tenant 9's job 5.
-/// Uses `promises::value_in`.
+/// The value and the choice of tenant 9's job 5, where a hall tells them: of some board and a depth of at most 12,
+/// which the fifth Submit in the tenant's journal asked for. Uses `promises::value_in`.
 pub fn value_of_nine<A: Allocator>(hall: &Hall<A>) -> Option<Valued>
     ensures { IfSome result (λ told. (own : ℕ) × (opp : ℕ) × (depth : ℕ) × (depth ≤ 12)
         × (origin_at (origins_of (journal_in hall.now.journals 9)) 5 ≡ Some (root_words own opp depth))
@@ -74,9 +74,10 @@ pub fn entry_of_nine<A: Allocator>(hall: &Hall<A>) -> Option<Bound>
     entry_in(hall, 9, 5, 2)
 }
 
-/// Tenant 7 cancels its job 3: the answer is the one that the core as it was asks for, and the core is then as that answer says; where
-/// it is taken, just this step is noted and counted, and where it is refused nothing changes; jobs that have ended stay.
-/// Uses `hall::Hall::offer` (`one`, `taken`, `refused`, `count`, `explained`, `ended`).
+/// Tenant 7 cancels its job 3 in a hall. The answer is the one that the core as it was asks for, and the core is then
+/// as that answer says. Where the Cancel is taken, just this step is noted and counted; where it is refused, nothing
+/// changes. Jobs that have ended stay as they were. Uses `hall::Hall::offer` (`one`, `taken`, `refused`, `count`,
+/// `explained`, `ended`).
 pub fn seven_cancels<A: Allocator + Clone>(hall: &mut Hall<A>) -> StepAnswer
     ensures answered { IsAnswerTo (jamboree hall.old.grain) hall.old.shared (Cancel 7 3) result }
     ensures left { hall.new.shared ≡ after_answer (jamboree hall.old.grain) hall.old.shared (Cancel 7 3) result }

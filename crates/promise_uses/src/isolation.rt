@@ -1,4 +1,4 @@
-//! The law of isolation at a core that already runs, where tenant 7 is there.
+//! A use of the law of isolation, at a core that already runs, where tenant 7 is there.
 ghost use Rattle.std.specs.Prelude.{◌≡◌, List, Some, Result};
 ghost use Rattle.sched_rules.specs.declared.refusal.Refusal.{Refusal};
 ghost use Rattle.sched_rules.specs.declared.step.StepOf.{StepOf};

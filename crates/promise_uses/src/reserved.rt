@@ -1,5 +1,5 @@
-//! What tenants with enough are never told: of tenant 9's search of any position to depth 8 at grain 6, and of tenant 7's second search, to
-//! depth 6 at grain 4.
+//! Uses of the law on what suffices: of tenant 9's search of any position to depth 8 at grain 6, and of tenant 7's
+//! second search, to depth 6 at grain 4, neither of which is ever spent.
 ghost use Rattle.std.specs.Prelude.{◌≡◌, ◌≤◌, ℕ, bit_and, List, [], ◌∷◌, ◌++◌, None, Some};
 ghost use Rattle.tenant_quota.specs.Quota.{Quota};
 ghost use Rattle.frame_table.specs.Frames.{Frame, frame_at};

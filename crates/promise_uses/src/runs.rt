@@ -1,4 +1,4 @@
-//! What comes of lists of searches, for tenants 7 and 9, their jobs 3 and 5 and worker 5.
+//! Uses of the promises on lists of steps: what comes of them for tenants 7 and 9, their jobs 3 and 5 and worker 5.
 ghost use Rattle.std.specs.Prelude.{◌≡◌, ◌≢◌, ◌⊎◌, ◌++◌, ◌+◌, ◌∷◌, ℕ, List, true, Some, None, Result, Err, IfOk, All, length, map, slice_index};
 ghost use Rattle.othello_board.specs.Words.{cells_of};
 ghost use Rattle.othello_eval.specs.Minimax.{minimax, best_choice};
@@ -135,10 +135,10 @@ pub fn three_answers<A: Allocator + Clone>(
     run_any(alloc, procedure, config, steps)
 }
 
-/// Worker 5's Steal for tenant 7, somewhere in any list, is refused as tenant 7 alone would refuse it, where it has
-/// taken its own steps before; or with Busy, and then there is another tenant for which worker 5 runs or computes a
-/// frame. A Spend of tenant 9 is refused as tenant 9 alone would refuse it.
-/// Uses `promises::run_any` (`refused`).
+/// Runs any list of steps. Where worker 5's Steal for tenant 7 in it is refused, tenant 7 alone, after its own steps
+/// before that, would refuse it in the same way; or it is Busy, and worker 5 runs or computes a frame of another
+/// tenant. Where a Spend of tenant 9 is refused, tenant 9 alone would refuse it in the same way. Uses
+/// `promises::run_any` (`refused`).
 pub fn refusals<A: Allocator + Clone>(
     alloc: A,
     procedure: Jamboree,
@@ -180,9 +180,10 @@ pub fn nine_is_undisturbed<A: Allocator + Clone>(
     run_two(alloc, procedure, config, steps, other_config, other_steps)
 }
 
-/// Tenant 7 after a list, and after its own taken steps of it alone, where its admissions are taken there: it is
-/// there after both, in the same state, or after neither; and it was told there what it was told among the others.
-/// So was tenant 9, where the second list is its. Uses `promises::run_two` (`alone`).
+/// Runs any list of steps, and tenant 7's own taken steps of it alone; the admissions of the second list are taken
+/// there. Where tenant 7 is there after the first list, it is in the same state after the second (`same`), and it was
+/// told the same in both (`answers`). So was tenant 9, where the second list is its own (`nine`). Uses
+/// `promises::run_two` (`alone`).
 pub fn seven_alone<A: Allocator + Clone>(
     alloc: A,
     procedure: Jamboree,

@@ -1,4 +1,4 @@
-//! What a session's lines say of the server's history.
+//! Uses of the promise on a session in its history: what a session's lines say of the server's history.
 ghost use Rattle.std.specs.Prelude.{◌≡◌, ◌⊎◌, ◌∷◌, ◌++◌, ◌+◌, [], ℕ, List, length, false, Option, Some, None, option_map};
 ghost use Rattle.std.specs.List.{concat};
 ghost use Rattle.line_io.specs.Leads.{Leads};
@@ -40,11 +40,10 @@ use session::{End, SessionFault};
 use std::alloc::Allocator;
 use std::sync::Wait;
 
-/// Serves one session. What was written is the texts of its replies, and each JOB, DONE and TABLE line is true by the lines before
-/// it. Where the calls that its lines made were HELLO and QUOTA, and then its tenant left, what was told is what the tenant's own
-/// steps up to a moment left to it; the history up to there ends with its Admit, then steps of others and of workers; and all steps
-/// of the history were taken.
-/// Uses `promises::serve`.
+/// Serves one session. What was written is the texts of its replies, and each JOB, DONE and TABLE line is true by the
+/// lines before it. Suppose that its lines made the calls HELLO and QUOTA, and then its tenant left. Then QUOTA told
+/// what the tenant's own steps up to a moment left to it. The desk's history up to that moment has the tenant's Admit,
+/// and after it only steps of others and of workers. All steps of the history were taken. Uses `promises::serve`.
 pub fn quota_after_hello<S, K, L, R, A>(
     rt: &R,
     source: &mut S,
@@ -98,7 +97,9 @@ where
     serve(rt, source, sink, desk)
 }
 
-/// The same where nothing that the seat knew is given back: there is what it knew. Uses `desk_office::serve_desk` (`seen`).
+/// Serves one session without giving back what its seat knew. Where its calls were HELLO alone, and then its tenant
+/// left, there is what the seat knew: the tenant's seat steps in the history are its Admit and its Leave. Uses
+/// `desk_office::serve_desk` (`seen`).
 pub fn hello_and_bye_untold<S, K, L, R, A>(
     rt: &R,
     source: &mut S,
@@ -122,11 +123,11 @@ where
     serve_desk(rt, source, sink, desk)
 }
 
-/// Serves one session. Where the calls that its lines made were HELLO, an ASK to depth 3 that got a number, a WAIT for job 1 that was
-/// spent, and a raise that was refused by 14: the ASK's Submit is in the history, of just that board, after the moment at which its
-/// number was that of the tenant's next job; at a later moment the tenant's job 1 was spent; and at a still later one the tenant alone
-/// would refuse the raise by that number, or the totals don't allow it.
-/// Uses `promises::serve`.
+/// Serves one session. Suppose that its lines made these calls: HELLO; an ASK to depth 3, which got a number; a WAIT
+/// for job 1, which was spent; and a raise, which was refused by 14. Then the desk's history has the Submit of just
+/// that board, after a moment at which the ASK's number was that of the tenant's next job. At a later moment the
+/// tenant's job 1 was spent. At a still later one either the tenant alone would refuse the raise by 14, or the totals
+/// don't allow it. Uses `promises::serve`.
 pub fn a_spent_ask<S, K, L, R, A>(
     rt: &R,
     source: &mut S,

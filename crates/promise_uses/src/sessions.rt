@@ -1,4 +1,4 @@
-//! What a session writes third, and how it ends.
+//! A use of the promise on a session: what it writes third, and how it ends.
 ghost use Rattle.std.specs.Prelude.{◌≡◌, ◌++◌, ◌∷◌, [], ℕ, List, true, Ok, Err, codes, decimal, map};
 ghost use Rattle.std.specs.List.{concat};
 ghost use Rattle.othello_board.specs.declared.cells.Cell.{Cell};

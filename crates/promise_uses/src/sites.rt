@@ -1,4 +1,4 @@
-//! What a session of a site knows after its calls at its desk; its tenant is 9.
+//! Uses of a site's calls: what a session of tenant 9 knows after each call at its desk.
 ghost use Rattle.std.specs.Prelude.{◌≡◌, ◌≢◌, ◌≤◌, ◌++◌, ◌+◌, ◌∷◌, [], ℕ, List, length, Option, Some, None, Err, IfOk, OnOk, IfErr, IfSome, MatchResult, OnErr, Contains, true};
 ghost use Rattle.sched_rules.specs.declared.refusal.Refusal.TheVariants.{NoJob, NoJobsLeft, NoNodes, NoSegments, NoTenant};
 ghost use Rattle.sched_rules.specs.declared.step.StepOf.TheVariants.{Admit, AdmitMore, Submit, Cancel, Leave};
@@ -61,9 +61,10 @@ pub fn a_session_comes<J: SiteNaming, A: Allocator + Clone, R: Wait>(
     desk.come(rt, comer)
 }
 
-/// The session of tenant 9 asks for a search, as its fifth job. Where it is taken, the history of its own desk goes on from what the seat had
-/// seen, without a step of the seat's, and ends with just this Submit; where it is refused, it is for what the core at the end of what the seat
-/// has then seen is. Uses `site_desk::SiteDesk::ask` (`asked`, `told`, `refused`, `seat`).
+/// The session of tenant 9 asks for a search, as its fifth job, at its desk of a site. Where that is taken, the history
+/// of the desk goes on from what the seat had seen, without a step of the seat's, and ends with just this Submit. Where
+/// it is refused, the reason lies in the core at the end of the history that the seat has then seen. Uses
+/// `site_desk::SiteDesk::ask` (`asked`, `told`, `refused`, `seat`).
 pub fn a_session_asks<J: SiteNaming, A: Allocator + Clone, R: Wait>(
     rt: &R,
     desk: &SiteDesk<J, A>,
@@ -178,7 +179,9 @@ pub fn quota_of_a_session<J: SiteNaming, A: Allocator + Clone, R: Wait>(
     desk.quota(rt, seat)
 }
 
-/// The same of the frames and words that it has. Uses `site_desk::SiteDesk::live` (`look`, `live`, `refused`, `seat`).
+/// How many frames and words the session of tenant 9 is told that it has is what it has at the end of the history that
+/// its seat has then seen. There the tenant is what its own steps make of it alone, and those of them that workers
+/// didn't make are the seat's own. Uses `site_desk::SiteDesk::live` (`look`, `live`, `refused`, `seat`).
 pub fn live_of_a_session<J: SiteNaming, A: Allocator + Clone, R: Wait>(
     rt: &R,
     desk: &SiteDesk<J, A>,
@@ -242,9 +245,11 @@ pub fn a_session_leaves<J: SiteNaming, A: Allocator + Clone, R: Wait>(
     desk.leave(rt, seat)
 }
 
-/// What two customers' sessions at one desk of a site know is of one history: what each has seen is a beginning of it, all steps of each in it are
-/// those that it knows, and each step of it was taken. The same of what the book granted; who is in the book at its end is who was opened and not
-/// closed by it. Uses `site_desk::SiteDesk::compare` (`own`, `one`, `other`, `history`, `legal`, `books`) and `site_book::all_comes_back` (`out`).
+/// What the sessions of two customers know when they have left one desk of a site is of one history. What each has seen
+/// is a beginning of it, all steps of each in it are those that it knows, and each step of it was taken. The same holds
+/// of the history of what the book granted; and the book at its end has just the sessions that were opened and not
+/// closed. Uses `site_desk::SiteDesk::compare` (`own`, `one`, `other`, `history`, `legal`, `books`) and
+/// `site_book::all_comes_back` (`out`).
 pub fn two_customers<J: SiteNaming, A: Allocator + Clone, R: Wait>(
     rt: &R,
     desk: &SiteDesk<J, A>,

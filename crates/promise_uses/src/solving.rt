@@ -1,4 +1,4 @@
-//! What `solve` writes for three lines.
+//! A use of the promise on `solve`: what it writes for three lines.
 ghost use Rattle.std.specs.Prelude.{◌≡◌, ◌⊎◌, ◌++◌, ◌∷◌, [], ℕ, ◌≤◌, ◌<◌, List, Some, Ok, Err, codes, length, map};
 ghost use Rattle.std.specs.List.{concat};
 ghost use Rattle.othello_eval.specs.Minimax.{minimax, best_choice};

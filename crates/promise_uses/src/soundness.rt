@@ -1,4 +1,5 @@
-//! What holds of a frame of a search after any list of steps: of the third frame of tenant 9, its fifth choice and its second child.
+//! A use of the law that every frame is sound: what holds of the third frame of tenant 9, its fifth choice and its
+//! second child, after any list of steps.
 ghost use Rattle.std.specs.Prelude.{◌≡◌, ℕ, List, ◌∷◌, Some, Result, map, ◌≤ℤ◌, ◌<ℤ◌};
 ghost use Rattle.tenant_quota.specs.Quota.{Quota};
 ghost use Rattle.frame_table.specs.Frames.{Frame, children_of, values_of};

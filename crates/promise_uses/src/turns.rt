@@ -1,5 +1,5 @@
-//! When it is somebody's turn, at any place of any group: of one that was served least, of one that was served at most so much more, and of
-//! one that has waited longest.
+//! Uses of the laws on who is served next, at any place of any group: of one that was served least, of one that was
+//! served at most so much more, and of one that has waited longest.
 ghost use Rattle.std.specs.Prelude.{◌≡◌, ◌+◌, ◌<◌, ◌≤◌, ℕ, List, count_by, length, true};
 ghost use Rattle.fair_share.specs.declared.account.ShareAccount.{ShareAccount};
 ghost use Rattle.fair_share.specs.Accounts.{is_rival};
@@ -24,9 +24,10 @@ pub fn when_the_least_is_picked()
     who_is_least_is_picked_soon()
 }
 
-/// Who was served at most 5 more than others is picked again after 12 picks, where two others are there or come, and where of 128 tasks one
-/// is a pick, fewer than 1664 tasks are done until then; who is alone is the next that is picked. And who was picked is ahead by what its
-/// task cost. Uses `fair_share::who_is_ready_is_picked` (`picks`, `tasks`, `lead`).
+/// One that was served at most 5 more than the others, of whom two are there or come, is picked again after at most 12
+/// picks. Where one of 128 tasks is a pick, fewer than 1664 tasks are done until then. One that is alone is the next
+/// that is picked. After a pick it is ahead by at most what that task cost. Uses `fair_share::who_is_ready_is_picked`
+/// (`picks`, `tasks`, `lead`).
 pub fn when_it_is_picked_again()
     ensures alone { (group place lead : ℕ) (line : LineOf) (account : ShareAccount) (events : List LineEvent) → IsLed group place lead line account → Waits group place line events →
         count_by (is_member group) line.accounts + arrivals_in group events ≡ 1 → picks_in events ≤ 0 }
@@ -40,9 +41,10 @@ pub fn when_it_is_picked_again()
     who_is_ready_is_picked()
 }
 
-/// Who has waited longer than anybody else is the first that is picked for that; behind one other it is the second at the latest. Of 64
-/// places it is picked before 64 such picks, and where of 512 tasks one is such a pick, fewer than 32,768 tasks are done until then. Uses
-/// `fair_share::who_waits_longest_is_picked` (`picks`, `places`, `tasks`).
+/// One that has waited longer than all others is the first that is picked for that; behind one other it is the second
+/// at the latest. Among 64 places it is picked before there are 64 such picks. Where one of 512 tasks is such a pick,
+/// fewer than 32,768 tasks are done until then. Uses `fair_share::who_waits_longest_is_picked` (`picks`, `places`,
+/// `tasks`).
 pub fn when_it_has_waited_longest()
     ensures first { (group place : ℕ) (line : LineOf) (account : ShareAccount) (events : List LineEvent) → IsWaiting place line account → Waits group place line events →
         count_by (is_older account) line.accounts ≡ 1 → long_picks_in events ≤ 0 }

@@ -1,4 +1,4 @@
--- One answer for each step; and what holds of a value that there is.
+-- For the promises: there is one answer for each step; and what holds of a value that there is.
 use Rattle.promises.proofs.Common.{◌≡◌, List, [], ◌∷◌, length, Result, Ok, Err, refl, arith, IfOk, Functions, Refusal, StepOf, DidOf, CoreState, AreAnswersTo, after_answer}
 
 -- what a step is answered

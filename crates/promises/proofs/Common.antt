@@ -1,4 +1,4 @@
--- The names that the proofs take of the library, of the crates below and of this crate's definitions, from one place.
+-- The names that the promises' proofs use, imported in one place.
 pub use Rattle.std.proofs.Common.{Bool, Err, List, None, Ok, Option, Result, Some, [], ap, arith, false, inl, inr, length, map, refl, rules, subst, sym, true}
 pub use Rattle.std.proofs.Common.{w32, ℕ, ℤ, ◌++◌, ◌-◌, ◌==◌, ◌∙◌, ◌∷◌, ◌≡◌, ◌≢◌, ◌≤◌, ◌⊎◌}
 pub use Rattle.std.proofs.lemmas.Bool.Decides.{nat_tests}

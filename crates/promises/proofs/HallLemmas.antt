@@ -1,4 +1,4 @@
--- What explains a tenant of a hall, and what its replies are to.
+-- For the promises on a hall: what explains a tenant of it, and what its replies are to.
 use Rattle.promises.proofs.Common.{◌≡◌, ℕ, ◌≤◌, ℤ, ◌==◌, ◌-◌, true, false, List, [], ◌∷◌, map, Option, Some, None, refl, sym, ap, ◌∙◌, subst, arith, IfSome, if◌then◌else◌, get_or, slice_get, slice_index, slice_get-map, slice_get_within, get_or_from_slice_get, cells_of, Cell, Choice, Bound, minimax, best_choice, IsTable, IsTrueBound, IsExactIfBest, entered, Tenant, alone_from, tenant_in, jamboree, Reply, board_of, depth_of, origins_of, Done, AreRootWords, AreSearches, AreAllRootWords, origin_at, AnswersTo, searches-asked, journal_in, HallOf, Explains, IsExplained, SearchStep, IsAskedBy, IsValueOfSubmit, IsEntryOfSubmit, greatest_depth}
 
 -- a reply is one to what was submitted under this number in the journal

@@ -1,4 +1,5 @@
--- Two runs in which a tenant's own taken steps are the same, and a list with all other tenants' steps removed.
+-- For the promise that no tenant disturbs another: two runs in which a tenant's own taken steps are the same, and a
+-- list with all other tenants' steps removed.
 use Rattle.promises.proofs.Common.{◌≡◌, ℕ, true, false, ◌==◌, List, [], ◌∷◌, Option, Some, None, Result, Ok, Err, refl, sym, ap, ◌∙◌, subst, arith, is_ok, nat_tests, Quota, Refusal, StepOf, Take, Steal, Inlet, Finish, Functions, Tenant, Outcome, lone, refusal_in, tenant_of, only, alone_from, state_after, answer_of, answers_from, CoreState, shared_by_nobody, tenant_in, with_tenant, without_tenant, with_outcome, is_busy_elsewhere, meets_busy, IsHeadline, IsAnswerTo, AreAnswersTo, AreNumbersGiven, after_answer, is_admission, taken_steps, own_answers, step-taken, shared-after-taken, tenant_in-with_outcome, own_steps, AreAdmissionsTaken}
 use Rattle.promises.proofs.Answered.{Answer}
 

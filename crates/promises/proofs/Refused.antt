@@ -1,4 +1,4 @@
--- What a step that is no admission is refused for.
+-- For the promises: what a step that is no admission is refused for.
 use Rattle.promises.proofs.Common.{◌≡◌, ◌≢◌, ℕ, ◌⊎◌, inl, inr, Bool, true, false, ◌==◌, List, [], ◌∷◌, ◌++◌, length, Option, Some, None, Result, Ok, Err, refl, sym, ap, ◌∙◌, subst, arith, not, ◌&&◌, ◌||◌, nat_tests, Quota, Refusal, Busy, StepOf, Take, Steal, Inlet, Finish, Functions, Tenant, is_busy_in, Outcome, lone, lone_refusal, refusal_in, tenant_of, answer_of, CoreState, shared_by_nobody, tenant_in, with_tenant, without_tenant, with_outcome, is_busy_elsewhere, meets_busy, step_result, shared_after, IsAnswerTo, IsAnswerToStep, AreAnswersTo, after_answer, after_answers, IsHeadline, headline, tenant_in-other-with_tenant, tenant_in-other-without_tenant, stands, free_worker, IsForOwnState, IsForBusyWorker, AreRefusedForThese}
 use Rattle.promises.proofs.Answered.{Answer}
 

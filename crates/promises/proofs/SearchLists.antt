@@ -1,4 +1,4 @@
--- A list of searches: one answer for each step, and what a step that is no admission is refused for.
+-- For the promise on lists of searches: one answer for each step, and what a step that is no admission is refused for.
 use Rattle.promises.proofs.Common.{◌≡◌, ℕ, List, length, Result, Quota, Refusal, StepOf, DidOf, CoreState, shared_by_nobody, jamboree, AreRefusedForThese}
 use Rattle.promises.proofs.Answered.{as-many}
 use Rattle.promises.proofs.Refused.{refused-for-these}

@@ -12,7 +12,7 @@ use Rattle.jamboree_core.specs.sched_laws.Fitted.{origins_of}
 use Rattle.jamboree_core.specs.Searching.{origin_at}
 use Rattle.sched_rules.specs.declared.step.StepOf.{StepOf}
 
--- a step of a core of searches
+-- a step of a core that searches Othello positions
 abbrev pub SearchStep : Type 0
 SearchStep = StepOf LeafAnswer
 

@@ -1,4 +1,5 @@
--- Meaning: what no other tenant changes, and what alone a step is refused for, whatever procedure the core runs.
+-- Meaning: what no other tenant of a core changes, and what alone a step is refused for, whatever procedure the core
+-- runs.
 use Rattle.std.specs.Prelude.{◌≡◌, ◌≢◌, ◌⊎◌, ℕ, true, false, List, [], ◌∷◌, ◌++◌, length, Option, Some, None, Result, Err, is_ok}
 use Rattle.sched_rules.specs.declared.refusal.Refusal.{Refusal}
 use Rattle.sched_rules.specs.declared.refusal.Refusal.TheVariants.{Busy}

@@ -1,4 +1,4 @@
--- A line and a number, byte by byte.
+-- The protocol's lines: a line and a number in it, byte by byte.
 use Rattle.std.proofs.Common.{ℕ, ◌^◌, ◌<◌, ◌≤◌, List, ◌++◌, Option, arith, ◌≡◌, ◌≢◌, ◌↔◌, cond, map, length, Some, None, IsSome, Result, Ok, Err, refl, ap, ◌∙◌}
 use Rattle.std.specs.Option.{option_map}
 use Rattle.std.proofs.Math.Nat.{pow-le-pow_right}

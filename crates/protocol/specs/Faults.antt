@@ -1,4 +1,4 @@
--- Meaning: the faults of lines, and their numbers.
+-- Meaning: the faults of the protocol's lines, and their numbers.
 use Rattle.std.specs.Prelude.{ℕ}
 use Rattle.othello_board.specs.declared.position_text.faults.TextFault.{TextFault}
 use Rattle.othello_board.specs.declared.position_text.faults.TextFault.TheVariants.{Length, BadCell, BadSide}

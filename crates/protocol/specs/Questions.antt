@@ -1,5 +1,5 @@
--- Meaning: what the words `depth position` ask for, or their first fault: 23 where the depth is no number, 27 where it is over 12, then 24 for
--- the length of the position's text, 25 for a cell and 26 for the side.
+-- Meaning: what the words `depth position` of a line ask for, or their first fault: 23 where the depth is no number,
+-- 27 where it is over 12, then 24 for the length of the position's text, 25 for a cell and 26 for the side.
 use Rattle.std.specs.Prelude.{ℕ, ◌==◌, if◌then◌else◌, nat_le, List, map, length, Option, Some, None, Result, Ok, Err}
 use Rattle.othello_board.specs.declared.cells.Cell.{Cell}
 use Rattle.othello_moves.specs.Depths.{greatest_depth}

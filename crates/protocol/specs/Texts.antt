@@ -1,4 +1,4 @@
--- Meaning: the texts of answers.
+-- Meaning: the texts of the protocol's answers.
 use Rattle.std.specs.Prelude.{ℕ, ◌+◌, ◌/◌, ◌%◌, ℤ, List, [], ◌∷◌, ◌++◌, Option, Some, None, codes, decimal}
 use Rattle.std.specs.Fmt.{signed_decimal}
 use Rattle.othello_moves.specs.declared.choices.Choice.{Choice}

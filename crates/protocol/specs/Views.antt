@@ -1,4 +1,4 @@
--- Representation: a question of the code as data.
+-- Representation: a question about a position, as the protocol's code has it, as data.
 use Rattle.std.specs.Prelude.{Result, Ok, Err}
 use Rattle.othello_board.specs.Words.{cells}
 use Rattle.protocol.specs.declared.faults.ProtocolFault.{ProtocolFault}

@@ -1,4 +1,4 @@
-//! What the words `depth position` ask for.
+//! What the words `depth position` of a line ask for.
 ghost use Rattle.std.specs.Prelude.{◌≡◌, ◌≤◌};
 ghost use Rattle.protocol.specs.Questions.{question, position_question};
 ghost use Rattle.protocol.specs.Views.{read_as};

@@ -1,4 +1,4 @@
-//! Why a line is no valid request.
+//! Why a line is no valid request of the protocol.
 ghost use Rattle.std.specs.Prelude.{◌≡◌};
 ghost use Rattle.protocol.specs.Faults.{fault_number, position_fault};
 
@@ -40,7 +40,7 @@ pub enum ProtocolFault {
 }
 
 impl ProtocolFault {
-    /// The number of the fault, 21 to 29.
+    /// The number of the line's fault, 21 to 29, which the answer `ERR` tells.
     pub fn number(self) -> u8
         ensures { result ≡ fault_number self }
     {
@@ -51,6 +51,7 @@ impl ProtocolFault {
 impl From<TextFault> for ProtocolFault {
     ghost from_gives = { λ text fault. fault ≡ position_fault text };
 
+    /// The fault of a position's text as a fault of its line.
     fn from(fault: TextFault) -> ProtocolFault {
         match fault {
             TextFault::Length => ProtocolFault::PositionLength,

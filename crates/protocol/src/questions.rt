@@ -1,4 +1,4 @@
-//! What is asked of a position.
+//! What a line asks of a position: its value to a depth.
 ghost use Rattle.std.specs.Prelude.{◌≤◌};
 ghost use Rattle.othello_moves.specs.Depths.{greatest_depth};
 

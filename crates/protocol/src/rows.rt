@@ -1,17 +1,18 @@
-//! The definitions of words and texts, tried on small lines: each contract is computed from the definitions alone.
+//! The definitions of words and texts of the protocol, tried on small lines: each contract is computed from the
+//! definitions alone. `negsuc 2` is -3; square 19 is d3, and 63 h8.
 ghost use Rattle.std.specs.Prelude.{◌≡◌, codes, pos, negsuc, Some, None};
 ghost use Rattle.othello_moves.specs.declared.choices.Choice.TheVariants.{Square, Pass};
 ghost use Rattle.protocol.specs.Words.{split_at_space, word_number};
 ghost use Rattle.protocol.specs.Texts.{value_text, visited_text, error_text};
 
-/// The first space parts a line, and none is asked for after it.
+/// `1 X O` is split at its first space into `1` and `X O`, ` X` into nothing and `X`, and `opening` isn't split.
 pub fn lines_are_split()
     ensures two_words { split_at_space (codes "1 X O") ≡ Some (codes "1", codes "X O") }
     ensures first_space { split_at_space (codes " X") ≡ Some (codes "", codes "X") }
     ensures no_space { split_at_space (codes "opening") ≡ None }
 {}
 
-/// A number is 1 to 8 digits, whatever it begins with.
+/// A number is 1 to 8 digits, whatever it begins with: 07 is 7; no digit, nine digits, a letter or a sign are none.
 pub fn numbers_are_read()
     ensures small { word_number (codes "07") ≡ Some 7 }
     ensures greatest { word_number (codes "99999999") ≡ Some 99999999 }
@@ -21,7 +22,8 @@ pub fn numbers_are_read()
     ensures sign { word_number (codes "-1") ≡ None }
 {}
 
-/// The texts of the first rows: the opening at depth 1, a pass, a finished game, and a fault.
+/// The answers -3 by d3, 89 by h8, -124 by a pass, 0 without a move, -4 by d3 after 15 positions, and fault 22, as
+/// texts.
 pub fn answers_are_written()
     ensures square { value_text (negsuc 2) (Some (Square 19)) ≡ codes "-3 d3" }
     ensures last_square { value_text (pos 89) (Some (Square 63)) ≡ codes "89 h8" }

@@ -1,4 +1,4 @@
-//! The words of a line.
+//! The words of a line of the protocol.
 ghost use Rattle.std.specs.Prelude.{◌≡◌, option_map};
 ghost use Rattle.protocol.specs.Words.{split_at_space, word_number};
 

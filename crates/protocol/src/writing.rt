@@ -1,4 +1,4 @@
-//! Numbers, values, moves and faults, at the end of a text.
+//! Numbers, values, moves and faults, written at the end of an answer's text.
 ghost use Rattle.std.specs.Prelude.{◌≡◌, ◌+◌, ◌≤◌, ◌++◌, length, decimal};
 ghost use Rattle.std.specs.Fmt.{signed_decimal};
 ghost use Rattle.protocol.specs.Texts.{move_text, error_text};

@@ -1,4 +1,5 @@
--- What a procedure makes of a frame, done.
+-- The core does an act: what a procedure makes of a running frame (going on, growing, spawning, computing, waiting,
+-- returning), and of an answer to one that computes.
 use Rattle.sched_core.proofs.Common.{◌≡◌, ℕ, ◌+◌, ◌⊎◌, inl, inr, Bool, true, false, List, ◌++◌, Some, None, Ok, refl, arith, replicate, FrameId, State, Computing, Waiting, Returned, frame_at, Act, Continuation, Grow, Spawn, Go, Wait, Compute, Return, Advance, Answer, DidOf, Went, Grew, Spawned, Waited, Functions, Tenant, stored, has_child, is_held_by, is_root, unless, act_tests, is_computed_by, holding, opened, in_state, answer_tests, answered, advance_tests, advanced, act_by_sight, then_done, on_tenant, named, CoreState, tenant_in, step_result, shared_refusal, frame_at-with_frame_words, frames_in_core, serials_in, words_under, sight_of, may_hold, holds, IsCome, Seen, GoesOn, IsRunning, AllPass, F}
 use Rattle.sched_rules.specs.declared.step.DidOf.TheVariants.{Computing as IsComputing, Returned as HasReturned}
 use Rattle.sched_core.proofs.Deciding.{advance-told}

@@ -1,4 +1,4 @@
--- An act, done: the stores, and then what comes after them.
+-- The core does an act of a running frame: its stores, and then what comes after them.
 use Rattle.sched_core.proofs.Common.{[], ◌≡◌, ℕ, ◌+◌, Bool, false, List, ◌∷◌, Option, Some, None, Ok, refl, arith, IsSome, nat_tests, FrameId, frame_at, tree-rising, found-serial, Act, Continuation, Grow, Advance, DidOf, Functions, Tenant, stored, with_frame_words, charged_for, is_outside, is_root, holding, counted, segments_for, then_done, on_tenant, named, CoreState, with_tenant, without_tenant, with_outcome, IsShaped, AreShaped, shaped-in, length-stored, children_of-with_frame_words, length-with_frame_words, charged-with_frame_words, TenantHasStepLeft, words_under, GoesOn, FollowsResult, IsCome, F}
 use Rattle.std.specs.Prelude.{length}
 use Rattle.sched_core.proofs.TakenStep.{IsWith, with_tenant-twice, begins, then-changed}

@@ -1,4 +1,4 @@
--- A tenant that comes, a job of it, and a tenant that reserves more.
+-- The core does a Submit, an Admit or an AdmitMore: a job of a tenant begins, a tenant comes, or one reserves more.
 use Rattle.sched_core.proofs.Common.{[], ◌≡◌, ℕ, ◌+◌, ◌<◌, true, false, List, ◌∷◌, Some, None, Ok, refl, arith, nat_tests, has_frame, below-found, found-there, Quota, Job, Live, Admit, Submit, Admitted, Functions, Tenant, Tree, number_from, job_under, submitted, submit_tests, opened, on_tenant, AreNumbersGiven, CoreState, tenant_in, step_result, shared_refusal, tenant_in-new, above, IsShaped, AreLiveRootsThere, with_admitted, FollowsResult, AllPass, AdmitMore, AdmittedMore, raised, with_reserve, reservations_in, reserved_by, is_beyond, IsAboveOwn}
 use Rattle.sched_core.proofs.TakenStep.{step_result-taken, IsWith, begins, then-changed, with_tenant-new}
 use Rattle.sched_core.proofs.Deciding.{not-elsewhere}

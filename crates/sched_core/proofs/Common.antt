@@ -1,4 +1,4 @@
--- The names that the proofs take of the library, of the crates below and of this crate's definitions, from one place.
+-- The names that the core's proofs use, imported in one place.
 pub use Rattle.std.proofs.Common.{drop, take, vec_len, ◌==◌}
 pub use Rattle.std.proofs.Math.Bool.{or-false}
 pub use Rattle.std.proofs.lemmas.Bool.Decides.{nat_tests}

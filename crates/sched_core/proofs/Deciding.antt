@@ -1,4 +1,4 @@
--- The tests of a step, read off its definition.
+-- The core judges a step: the tests of each kind, read off the step's definition.
 use Rattle.sched_core.proofs.Common.{[], ◌≡◌, ◌≢◌, ℕ, ◌==◌, Bool, true, false, List, ◌∷◌, ◌++◌, Option, Some, None, Result, Ok, Err, refl, sym, ◌∙◌, ap, arith, ◌||◌, not, is_err, is_some, MatchResult, nat_tests, or-false, FrameId, Running, frame_at, has_frame, is_ready, found-serial, Refusal, NoTenant, NoFrame, NotReady, NotHere, NotRunning, NotComputing, NotReturned, Mismatch, NoSteps, BadAct, Busy, Act, StepOf, Take, Steal, Advance, Answer, Finish, Functions, Tenant, left, is_busy_in, is_outside, is_root, has_child, Outcome, unless, lone, refusal_in, is_ready_at, is_run_by, is_computed_by, is_returned, taken_by, finished, act_tests, is_spendable, CoreState, tenant_in, is_busy_elsewhere, meets_busy, unless_busy, shared_refusal, Seen, is_busy_among, AreAfter, AreTenantsRising, frames_in_core, sight_of, words_under, IsSeen, IsRunning, missing_in, missing, F}
 use Rattle.frame_table.proofs.TreeLaws.{missing as unfound}
 

@@ -1,4 +1,5 @@
--- A job that ends, with all its frames.
+-- A job of the core ends with all its frames (Finish, Spend, Cancel): its root is there, and the step comes to its
+-- result.
 use Rattle.sched_core.proofs.Common.{[], ◌≡◌, ℕ, false, ◌∷◌, Some, None, Ok, refl, arith, IsSome, not, FrameId, frame_at, root_of, IsTree, aborted-leaf, Live, Cancelled as CancelledJob, NotSpent, Finish, Spend, Cancel, Functions, Tenant, has_child, job_at, ended, spent, finished, finish_tests, is_spendable, on_tenant, without_under, named, job_of, CoreState, tenant_in, step_result, shared_refusal, AreShaped, shaped-in, live-root, root-above, frames_in_core, words_under, F}
 use Rattle.sched_rules.specs.declared.step.DidOf.TheVariants.{Cancelled}
 use Rattle.sched_core.proofs.TakenStep.{IsWith, IsGoing, with_change-there}

@@ -1,4 +1,4 @@
--- What is seen of a core whose frames all fit.
+-- What is seen of a core whose frames all fit their procedure.
 use Rattle.sched_core.proofs.Common.{[], ◌≡◌, ℕ, Bool, true, ◌∷◌, Some, Result, refl, arith, is_ok, Quota, FrameId, frame_at, IsTree, IsUnder, IsTop, tree-induction, Refusal, StepOf, DidOf, Functions, Tree, Tenant, sight, Fitting, Rooting, mark_of_state, AllFit, EveryFrameFits, CoreState, shared_by_nobody, IsOneStep, RootFits, origins_after, F, kids, fits-holds, IsLawful, sight-top, sight-under, FitsSomehow, sight_of, words_under, Seen, IsKeptFitting, IsFitting, IsSeen, IsReturnedUnder}
 use Rattle.sched_core.proofs.Parents.{parent-of}
 use Rattle.sched_core.proofs.Stepping.{kept-still, fits-still}

@@ -1,4 +1,4 @@
--- A returned frame is taken in by its parent.
+-- The core does an inlet: a returned frame is taken in by its parent.
 use Rattle.sched_core.proofs.Common.{[], ◌≡◌, if◌then◌else◌, ◌≢◌, ℕ, ◌<◌, ◌==◌, Bool, true, false, List, ◌∷◌, Some, None, Ok, refl, sym, ◌∙◌, arith, ◌||◌, ◌&&◌, not, IsSome, eq-eqb, FrameId, State, Ready, frame_at, name_of, parent_of, goes_under, aborted, frames_without, IsTree, Each, tree-rising, found-each, found-serial, there-found, under-there, under-below, child-under-parent, aborted-itself, frame_at-other-without, BadAct, Busy, InletAct, Inlet, TakenIn, Functions, Tenant, Tree, words_in, is_outside, has_child, stored, unless, inlet_tests, taken_in, staying, aborted_beside, does_wait, is_waiting, holding, counted, in_state, on_tenant, named, CoreState, tenant_in, step_result, shared_refusal, AreShaped, shaped-in, returned-leaf, is_busy_among, AreTenantsRising, words_under, frames_in_core, TenantHasStepLeft, Seen, MayBeTakenIn, IsReturnedUnder, FollowsResult, staying_with, AllPass, F}
 use Rattle.sched_core.proofs.Deciding.{some-is}
 use Rattle.sched_core.proofs.Parents.{inlet-told}

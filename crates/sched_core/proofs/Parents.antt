@@ -1,4 +1,4 @@
--- The parent of a frame that is seen.
+-- The parent of a frame that the core has looked up.
 use Rattle.sched_core.proofs.Common.{[], ◌≡◌, ℕ, Bool, ◌∷◌, Option, Some, None, Result, Ok, refl, sym, ◌∙◌, arith, IsSome, not, FrameId, frame_at, name_of, parent_of, there-found, under-there, Refusal, NotReturned, NoSteps, BadAct, Busy, InletAct, Inlet, Functions, Tenant, words_in, is_outside, left, unless, refusal_in, is_returned, taken_in, named, CoreState, shared_refusal, Seen, is_busy_among, AreTenantsRising, words_under, IsSeen, IsReturnedUnder, F, List}
 use Rattle.std.specs.Prelude.{◌==◌}
 use Rattle.sched_core.proofs.Deciding.{busy-anywhere, seen-words}

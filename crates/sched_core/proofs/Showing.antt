@@ -1,4 +1,5 @@
--- What is read of a core that keeps what it keeps: nothing is cut off, and the newest ready frame has the greatest serial.
+-- What is read of a core that keeps its invariant: nothing is cut off, and the newest ready frame has the greatest
+-- serial.
 use Rattle.sched_core.proofs.Common.{free-whole, ◌≡◌, ℕ, Option, Some, None, refl, IfSome, option_and_then, FrameId, newest_ready_of, tree-rising, Tenant, CoreState, tenant_in, left_in_core, newest_ready_in, IsShaped, shaped-in, left-nodes, left-steps, newest-found, IsKeptCore, IsRestOf, IsNewestReadyOf, Left, NoFrame, frame_in_core, no-frame as lacks, missing, arith}
 
 -- what a tenant has left

@@ -1,4 +1,4 @@
--- What one step does, from how it is judged; and a list of steps.
+-- What one step of the core does, from how it is judged; and what a list of steps does.
 use Rattle.sched_core.proofs.Common.{[], ◌≡◌, ℕ, inl, inr, true, List, ◌∷◌, ◌++◌, Result, Ok, Err, refl, append_assoc, arith, Refusal, StepOf, DidOf, Functions, CoreState, is_admission, IsAnswerTo, IsOneStep, after_answer, after_answers, AreAnswersTo, IsHeadline, AreNumbersGiven, right-answer, step-taken, shared-after-taken, headline, Fitting, Rooting, only, taken_steps, OnErr, is_ok, CoreFits, RootFits, RootsFit, origins_of, origins_after, IsLawful, answer-keeps, run-fits, shaped_answer, reserved-answer, IsKeptCore, FollowsResult, IsAdmitted}
 
 -- the core after a step that was judged

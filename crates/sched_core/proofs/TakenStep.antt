@@ -1,4 +1,4 @@
--- A step that is taken: what it comes to, and one change of its tenant after another.
+-- A step that the core takes: what it comes to, and one change of its tenant after another.
 use Rattle.sched_core.proofs.Common.{[], ◌≡◌, ℕ, ◌==◌, Bool, true, false, List, ◌∷◌, Option, Some, None, Result, Ok, Err, inl, inr, refl, sym, arith, MatchResult, OnOk, OnErr, nat_tests, FrameId, State, Running, frame_at, Refusal, OutOfMemory, StepOf, Take, Steal, DidOf, Functions, Tenant, left, Outcome, unless, refusal_in, take_tests, steal_tests, taken_by, in_state, counted, on_tenant, CoreState, tenant_in, with_tenant, unless_busy, step_result, shared_refusal, shared_with, tenant_in-with_tenant, AllPass, TenantHasStepLeft, FollowsResult, IsAdmitted, F, ◌++◌, with_change}
 use Rattle.sched_core.proofs.Deciding.{some-is}
 

@@ -1,4 +1,4 @@
--- Representation: what a core keeps true.
+-- Representation: what a core keeps true of its tenants, their frames and their jobs.
 use Rattle.std.specs.Prelude.{◌≡◌, ℕ, ◌+◌, ◌*◌, Bool, true, List, Option, Some, None}
 use Rattle.tenant_quota.specs.declared.account.Left.{Left}
 use Rattle.frame_table.specs.declared.names.FrameId.{FrameId}
@@ -20,7 +20,8 @@ pub record IsKeptCore (shared : CoreState) : Type 0 where
 abbrev pub IsFitting : Fitting → Rooting → CoreState → Type 0
 IsFitting fits rooted shared = (origins : ℕ → List (List ℕ)) × CoreFits fits rooted origins shared
 
--- the invariant of a Core (src/scheduler.rt): IsKept, and where it knows all frames to fit (fitting), they do
+-- the invariant of a Core (src/scheduler.rt): it is kept as `IsKeptCore` says, and where the core knows all its frames
+-- to fit (`fitting`), they do
 pub record IsKeptFitting (fits : Fitting) (rooted : Rooting) (fitting : Bool) (shared : CoreState) : Type 0 where
   pub kept : IsKeptCore shared
   pub fit : fitting ≡ true → IsFitting fits rooted shared

@@ -1,4 +1,4 @@
--- Representation: what a step reads of the frame that it names.
+-- Representation: what a step of the core reads of the frame that it names.
 use Rattle.std.specs.Prelude.{◌≡◌, ℕ, true, false, not, ◌&&◌, ◌==◌, nat_lt, List, [], length, Option, Some, None, is_some, if◌then◌else◌}
 use Rattle.frame_table.specs.declared.names.FrameId.{FrameId}
 use Rattle.frame_table.specs.Frames.{Frame, frame_at, has_frame, name_of, parent_of, children_of, IsTree}

@@ -1,4 +1,4 @@
-//! Advance, Answer and Inlet: what a procedure makes of a frame.
+//! The core's steps Advance, Answer and Inlet: what a procedure makes of a frame.
 ghost use Rattle.std.specs.Prelude.{◌≡◌, ◌≢◌, ◌==◌, ◌||◌, ◌∷◌, false, true, IfOk, MatchResult, IsSome, Some, ℕ, List, [], not};
 ghost use Rattle.frame_table.specs.Frames.{Frame, name_of, parent_of};
 ghost use Rattle.sched_rules.specs.Cores.{shared_refusal};

@@ -1,4 +1,4 @@
-//! Whether a core knows that its frames fit, that is, that the procedure's invariant holds of them.
+//! Whether a core knows that its frames fit, that is, that its procedure's invariant holds of them.
 ghost use Rattle.std.specs.Prelude.{◌≡◌, true};
 ghost use Rattle.sched_laws.specs.Fitted.{RootFits};
 

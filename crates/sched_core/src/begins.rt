@@ -1,4 +1,4 @@
-//! Admit, AdmitMore and Submit: a tenant comes, reserves more, and begins a job.
+//! The core's steps Admit, AdmitMore and Submit: a tenant comes, reserves more, and begins a job.
 ghost use Rattle.std.specs.Prelude.{◌≡◌, Ok, Err, MatchResult};
 ghost use Rattle.sched_rules.specs.declared.refusal.Refusal.TheVariants.{OutOfMemory};
 ghost use Rattle.sched_rules.specs.Cores.{shared_refusal};

@@ -1,5 +1,5 @@
-//! The tests that decide a step, as functions over values: each gives what the definition of the same name in
-//! `specs/Lone.antt` of `sched_rules` gives, where there is one.
+//! The tests that decide a step of the core, as functions over values: each gives what the definition of the same name
+//! in `specs/Lone.antt` of `sched_rules` gives, where there is one.
 ghost use Rattle.std.specs.Prelude.{◌≡◌, ◌+◌, ◌≤◌, ◌==◌, ◌||◌, ◌∷◌, [], not, ℕ, false, List, length};
 ghost use Rattle.cactus_stack.specs.Nodes.{charge as charge_for};
 ghost use Rattle.frame_table.specs.Frames.{Frame};
@@ -154,7 +154,7 @@ pub fn is_bad_act(words: &Words, has_child: bool, act: &Act) -> bool
     is_outside(act.stores.as_slice(), words) || is_bad_then(words.len(), has_child, &act.after)
 }
 
-/// Whether this is Spawn, which opens a child.
+/// Whether a frame's act opens a child after its stores (Spawn).
 pub fn is_spawn(after: &Continuation) -> bool
     ensures { result ≡ is_spawn_of after.now }
 {

@@ -1,4 +1,4 @@
-//! Finish, Spend, Cancel and Leave: a job ends, and so do its frames.
+//! The core's steps Finish, Spend, Cancel and Leave: a job ends, and so do its frames.
 ghost use Rattle.std.specs.Prelude.{◌≡◌, false, IfOk, IsSome, Some};
 ghost use Rattle.sched_rules.specs.Cores.{shared_refusal};
 ghost use Rattle.sched_rules.specs.Changes.{on_tenant};

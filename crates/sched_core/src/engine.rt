@@ -1,4 +1,4 @@
-//! A procedure and a store: what each step reads before it is decided.
+//! The core's engine: a procedure and a store, and what each step reads before it is decided.
 ghost use Rattle.std.specs.Prelude.{◌≡◌, ℕ, List, Some, None, IsSome, IfOk, MatchResult};
 ghost use Rattle.frame_table.specs.Frames.{Frame};
 ghost use Rattle.sched_rules.specs.Trees.{Tenant};

@@ -44,7 +44,7 @@
 //!
 //! - Each test of a step is computed, and the first that applies answers: `accept` is also asked of an answer
 //!   that is then refused. `Core::new` requires `P: Drop`; `run` takes a `Vec` over the core's allocator, so
-//!   that a test can make its growth fail.
+//!   that a test can refuse it memory.
 //! - A call that isn't inlined zeroes and copies its result, and so is a value made in a `match` arm and used
 //!   after it. So a step's look-ups and tests are `#[inline(always)]`, and functions that answer an act return
 //!   from the arms of a closing `match`.

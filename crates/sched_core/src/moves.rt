@@ -1,4 +1,4 @@
-//! Take and Steal: a worker runs a ready frame.
+//! The core's steps Take and Steal: a worker runs a ready frame.
 ghost use Rattle.std.specs.Prelude.{◌≡◌, true, false, IfOk, IsSome};
 ghost use Rattle.frame_table.specs.declared.names.State.TheVariants.{Running};
 ghost use Rattle.sched_rules.specs.Changes.{on_tenant};

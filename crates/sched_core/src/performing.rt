@@ -1,4 +1,5 @@
-//! Advance, Answer and Inlet, done: what a procedure makes of a frame is stored, and the frame goes on.
+//! The core's steps Advance, Answer and Inlet, done: what a procedure makes of a frame is stored, and the frame goes
+//! on.
 //!
 //! `fitting` says that all frames are known to fit (the procedure's invariant holds of them), so that the procedure
 //! need not test their words (`Procedure::next_of`); the answers are the same either way.

@@ -1,4 +1,4 @@
-//! The core.
+//! The core: all tenants' frames, words, reservations and jobs, and one step after another on them.
 ghost use Rattle.std.specs.Prelude.{◌≡◌, ◌≢◌, ◌↔◌, ◌+◌, ◌++◌, ℕ, List, Result, Err, IfOk, IfSome, IsNone, OnErr, OnOk, is_ok, option_copied, true, false};
 ghost use Rattle.sched_rules.specs.declared.refusal.Refusal.{Refusal as RefusalOf};
 ghost use Rattle.sched_rules.specs.declared.refusal.Refusal.TheVariants.{OutOfMemory};
@@ -44,7 +44,7 @@ impl<P: Procedure, A: Allocator> Model for Core<P, A> {
 
 impl<P: Procedure, A: Allocator> Core<P, A> {
     /// A core of these totals that runs the procedure, with no tenant. Takes memory for its nodes and tenants:
-    /// `AllocError` only where a growth was refused.
+    /// `AllocError` only where memory was refused.
     pub fn new(alloc: A, config: Config, procedure: P) -> Result<Core<P, A>, AllocError>
     where
         P: Drop,
@@ -94,7 +94,7 @@ impl<P: Procedure, A: Allocator> Core<P, A> {
     }
 
     /// Does a list of steps, one after the other, and appends the answer to each to `answers`. That grows
-    /// first: `AllocError` where its growth is refused, and then no step was tried.
+    /// first: `AllocError` where memory for them is refused, and then no step was tried.
     pub fn run(
         &mut self,
         steps: &[Step<P>],

@@ -1,4 +1,4 @@
-//! Any step: each kind goes to its own function.
+//! Any step of the core: each kind goes to its own function.
 ghost use Rattle.std.specs.Prelude.{◌≡◌};
 ghost use Rattle.sched_rules.specs.Cores.{shared_refusal};
 ghost use Rattle.sched_rules.specs.Headline.{IsOneStep};

@@ -1,4 +1,5 @@
--- What the shape of a tenant gives.
+-- What the shape of a tenant (its tree, jobs and reservation, as every step keeps them) gives: a live job's root is
+-- there, each frame is under one, nothing is used beyond the reservation; and that jobs which have ended stay so.
 use Rattle.sched_laws.proofs.Common.{◌≡◌, ℕ, suc, ◌+◌, ◌-◌, ◌≤◌, inl, inr, true, List, [], ◌∷◌, Some, length, ap, ◌∙◌, arith, Bool, false, Option, None, Result, Ok, ◌++◌, cases_Bool, ne_eqb, sum_by-cons, charge, IsWithinLimits, Quota, IsWithinReserve, Computing, Returned, frame_at, path_in, root_of, children_of, root-there, Job, Live, Cancelled as CancelledJob, Tree, Tenant, account_in, charged_for, is_root, job_at, is_live_at, number_from, job_under, with_ended, mark_of_state, IsShaped, live_count, AreLiveRootsThere, HaveWords, AreShaped, Refusal, DidOf, Admitted, StepOf, Admit, AdmitMore, admit_tests, admitted_with, lone_step, there, more-there, refl, ◌≢◌, Functions, Outcome, lone, lone_step, tenant_of, CoreState, tenant_in, with_tenant, without_tenant, with_outcome, meets_busy, unless_busy, unless_beyond, is_beyond, reserved_by, reservations_in, step_result, shared_after, after_answer, after_answers, HasEnded, KeepsEnded}
 use Rattle.sched_laws.proofs.Parts.{shape-at}
 use Rattle.sched_laws.proofs.Shaped.{AllPass, returned-childless, LeftShaped, unless-passed, step-shaped, admitted-shaped, came, by-kinds}

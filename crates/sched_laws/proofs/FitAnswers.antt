@@ -1,4 +1,5 @@
--- Every answer leaves a core fitting, and so does every list of them; lists of steps in parts, and how many jobs there are.
+-- Every right answer of a core leaves all frames fitting their procedure, and so does every list of them; lists of
+-- steps in parts, and how many jobs there are.
 use Rattle.sched_laws.proofs.Common.{◌≡◌, ◌≢◌, ℕ, ◌<◌, ◌≤◌, inl, inr, true, List, [], ◌∷◌, ◌++◌, Option, Some, Result, Ok, Err, refl, ap, sym, ◌∙◌, arith, append_assoc, append-nil, suc, ◌+◌, length, is_ok, ◌==◌, cases_Bool, cases_eq, eq-eqb, ne_eqb, Quota, Refusal, Continuation, StepOf, Admit, Submit, DidOf, Submitted, Functions, Tenant, admitted_with, Tree, Fitting, Rooting, ParentFits, NewChildFits, Outcome, lone, lone_step, tenant_of, only, state_after, alone_from, answers_from, CoreState, shared_by_nobody, tenant_in, with_outcome, step_result, newest_after, shared_with, IsAnswerTo, AreAnswersTo, after_answer, after_answers, taken_steps, AreNumbersGiven, tenant_in-with_outcome, tenant_in-other-with_outcome, known-number, step-taken, above, shared-after-taken, found, IsShaped, AreShaped, TenantFits, CoreFits, submits, origins_of, RootFits, RootsFit, origins_after, StaysFitting, JobsFit, filter-append, Job}
 use Rattle.sched_laws.proofs.Shaped.{unless-passed, came}
 use Rattle.sched_laws.proofs.Consequences.{shaped-in, by-taken, shaped_answer}

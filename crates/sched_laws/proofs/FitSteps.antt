@@ -1,4 +1,5 @@
--- Each kind of step leaves a tenant fitting: a job that begins or ends, Take, Advance, Answer, Inlet and Finish.
+-- Each kind of step leaves a tenant's frames fitting their procedure: a job that begins or ends, Take, Advance,
+-- Answer, Inlet and Finish.
 use Rattle.sched_laws.proofs.Common.{Ok, StepOf, Outcome, lone_step, submits, root_of, Spent as SpentJob, Cancelled as CancelledJob, ◌≡◌, ℕ, Bool, true, false, List, [], ◌∷◌, ◌++◌, Some, ap, sym, ◌∙◌, arith, ◌≢◌, ◌+◌, ◌<◌, not, Option, None, refl, ◌||◌, ◌&&◌, State, Running, Ready, FrameId, frame_at, children_of, path_in, parent_of, goes_under, aborted, frames_without, IsTree, new_frame, found-serial, there-found, found-path, frame_at-left, frame_at-push, tree-rising, IsUnder, top-path, under-there, named-under, Act, Continuation, InletAct, Functions, Tree, Tenant, sight, with_frame_words, stored, is_outside, has_child, frame_words, words_in, is_root, without_job, kept_words, Fitting, Rooting, Neither, Computes, mark_of_state, grown, children_after, mark_after, ParentFits, NewChildFits, HasReturned, AllFit, children_left, act_by_sight, counted, holding, then_done, advanced, opened, ended, staying, is_computed_by, is_returned, advance_tests, inlet_tests, does_wait, taken_in, IsShaped, TenantFits, JobFits, false≢true, eq-eqb, eqb-true, not-false, or_parts, padded, is_that, is_child_of, frame_at-stays, frame_at-other-without, tree-aborted, tree-without, tree-without_job, tree-new_frame, new-frame-next, path_in-alike, Job, Live, Done, is_run_by}
 use Rattle.sched_laws.proofs.Parts.{has_child-with_frame_words, path-there}
 use Rattle.sched_laws.proofs.Holds.{Lists, F, kids, fits-holds, with_frame_words-alike, tree-with_frame_words, paths-with_frame_words, children_of-with_frame_words, frame_at-other-with_frame_words, holds-fits, among-kids, BeforeWithout, holds-without, BeforeAbort, holds-aborted, holds-push, holds-without_job, frame_at-with_frame_words, found-same, found-own}

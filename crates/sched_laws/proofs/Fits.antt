@@ -1,4 +1,5 @@
--- What stands above a frame, and a law of a procedure applied there; and what is left after the stores of an act.
+-- What stands above a frame of a tenant, and a law of its procedure applied there; and what is left after the stores
+-- of an act.
 use Rattle.sched_laws.proofs.Common.{◌≡◌, ◌≢◌, ℕ, ◌≤◌, inl, inr, true, List, [], ◌∷◌, ◌++◌, Option, Some, None, refl, ap, sym, ◌∙◌, arith, suc, ◌+◌, ltb, length, map-append, reverse-append, false≢true, eq-eqb, eqb-true, eqb-false, frame_at, path_in, parent_of, children_of, IsTree, with_state, values_of, new_frame, is_that, is_child_of, Each, found-serial, tree-rising, IsUnder, IsTop, placed, children-by-paths, found-there, found-path, frame_at-left, found-each, frame_at-stays, rising-filter, filter-found, Job, Functions, Tree, Tenant, frame_words, words_in, sight, has_child, is_root, with_frame_words, with_ended, is_live_at, Fitting, Rooting, Mark, Neither, mark_of_state, ParentFits, NextKeeps, InletKeeps, AcceptKeeps, EveryFrameFits, AllFit, has_one, IsShaped, AreMarkedChildless, AreLiveRootsThere, live_count, JobFits, JobsFit, TenantFits, filter, padded, State, tree-new_frame, new-frame-next, parent_of-path_under, AllBelow-alike, path_in-alike, tree-with_state, counted, in_state, holding, opened}
 use Rattle.sched_laws.proofs.Parts.{childless-at, no-child, path-there, shape-at}
 use Rattle.sched_laws.proofs.Holds.{Lists, F, Fact, kids, Holds, fits-holds, found-same, among-kids, holds-with_frame_words, with_frame_words-alike, tree-with_frame_words, frame_at-with_frame_words, frame_at-other-with_frame_words, holds-fits, BeforeState, holds-with_state, BeforePush, holds-push}

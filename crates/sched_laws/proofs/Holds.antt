@@ -1,4 +1,5 @@
--- What holds of each frame of a tree holds after each change of it: other words, another state, a frame more, a leaf removed, an abort.
+-- What holds of each frame of a tenant's tree holds after each change of it: other words, another state, a frame more,
+-- a leaf removed, an abort.
 pub use Rattle.frame_table.proofs.TreeLaws.{found-own}
 use Rattle.frame_table.proofs.TreeLaws.{filter-every}
 use Rattle.frame_table.proofs.Changes.{child-stays}

@@ -1,4 +1,4 @@
--- Which ready frame `newest_ready_of` finds.
+-- Which ready frame of a tenant `newest_ready_of` finds.
 use Rattle.sched_laws.proofs.Common.{◌≡◌, ℕ, ◌≤◌, true, false, List, [], ◌∷◌, Some, None, arith, FrameId, Frame, frame_at, is_ready, newest_ready_of, AreSerialsRising, Tree, IsNewestReady}
 use Rattle.frame_table.proofs.Finds.{newest-above, newest-is_ready}
 use Rattle.frame_table.proofs.Tenants.{newest-some}

@@ -1,4 +1,4 @@
--- Each part of a tenant's shape, under each change of the tree and of the jobs.
+-- Each part of a tenant's shape (its tree, jobs and reservation), under each change of the tree and of the jobs.
 use Rattle.frame_table.proofs.Tenants.{state-length}
 use Rattle.sched_laws.proofs.Common.{◌≡◌, ◌≢◌, ℕ, suc, ◌+◌, ◌≤◌, ◌⊎◌, inl, inr, Bool, true, false, eqb, ltb, List, [], ◌∷◌, ◌++◌, Option, Some, None, length, refl, ap, sym, subst, ◌∙◌, arith, length-append, ◌*◌, ◌<◌, not, filter, filter-append, cases_Bool, cases_eq, false≢true, eq-eqb, ne_eqb, eqb-false, eqb-true, ltb-false, not_from_false, State, frame_at, has_frame, path_in, AllBelow, parent_of, with_state, children_of, IsNextFrame, IsTree, goes_under, aborted, frames_without, new_frame, is_child_of, Each, AreAlike, there-found, found-serial, found-path, frame_at-push, frame_at-other-push, tree-rising, each-found, found-each, children-by-paths, found-there, found-ends, filter-found, frame_at-stays, tree-aborted, tree-without, tree-without_job, tree-push, children_of-push, frame_at-other-with_state, children_of-with_state, new-frame-next, parent_of-path_under, path_in-alike, tree-alike, with_state-alike, values_of-with_state, Job, Live, Tree, has_child, is_live_at, with_frame_words, with_ended, Tenant, charged_for, is_root, Neither, mark_of_state, AreMarkedChildless, live_count, AreRootsLive, IsRootThere, AreLiveRootsThere, HaveWords, IsShaped, charge, padded, EndsIn, has_frame-above, path_in-left, path_in-right, counted, in_state, holding, opened, ended, frame_at-other-without}
 use Rattle.frame_table.specs.Frames.{has_parent, path_under}

@@ -1,4 +1,4 @@
--- Every step keeps the shape of its tenant, and so every answer that of all tenants.
+-- Every step of the core keeps the shape of its tenant, and so every right answer that of all tenants.
 use Rattle.sched_laws.proofs.Common.{◌≡◌, ◌≢◌, if◌then◌else◌, ℕ, ◌+◌, ◌-◌, ◌*◌, ◌<◌, ◌≤◌, inl, inr, Bool, true, false, not, ◌||◌, ◌&&◌, eqb, ltb, List, [], ◌∷◌, ◌++◌, Option, Some, None, Result, Ok, Err, length, replicate, refl, ap, sym, ◌∙◌, subst, arith, length-append, length-replicate, false≢true, eqb-false, ltb-false, leb-true, leb-false, not-false, or_parts, and_parts, charge, growth_charge, Quota, State, Ready, Running, Computing, FrameId, frame_at, parent_of, root_of, children_of, is_ready, there-found, found-serial, tree-rising, under-there, under-below, aborted-itself, frame_at-other-without, Act, InletAct, Continuation, StepOf, Grow, Spawn, Go, Wait, Compute, Return, Live, Done, Spent as SpentJob, Cancelled as CancelledJob, Refusal, NotSpent, OldTenant, Lower, Admit, AdmitMore, Submit, Take, Steal, Advance, Answer, Inlet, Finish, Spend, Cancel, Leave, Functions, Tree, Tenant, admitted_with, frame_words, words_in, charged_for, left, stored, is_outside, has_child, job_at, kept_words, Neither, mark_of_state, Outcome, unless, lone_step, is_lower, raised, counted, holding, ended, is_frame_size, submit_tests, submitted, take_tests, steal_tests, taken_by, is_run_by, is_returned, act_by_sight, is_bad_then, is_spawn, segments_for, advance_tests, then_done, advanced, answer_tests, answered, inlet_tests, does_wait, staying, taken_in, finish_tests, finished, is_spendable, spent, at_frame, IsShaped}
 use Rattle.sched_laws.proofs.Holds.{frame_at-with_frame_words, charged-with_frame_words, F, found-own}
 use Rattle.sched_laws.proofs.Parts.{shape-at, no-child, has_child-with_frame_words, shaped-counted, shaped-in_state, shaped-holding, shaped-aborted, shaped-without, shaped-ended, shaped-child, shaped-root}

@@ -1,4 +1,5 @@
--- A frame is spendable exactly where no step is left, its Advance would be refused by what the act can't do, or its Inlet by a bad store.
+-- When a tenant's job may be given up: exactly where no step is left, its frame's Advance would be refused by what the
+-- act can't do, or its Inlet by a bad store.
 use Rattle.sched_laws.proofs.Common.{◌≡◌, ℕ, inl, inr, Bool, true, false, ◌||◌, ◌&&◌, eqb, List, [], ◌∷◌, Option, Some, None, refl, sym, ◌∙◌, arith, cases_Bool, false≢true, eq-eqb, eqb-true, or_cases, and_parts, State, Running, FrameId, frame_at, parent_of, Refusal, Advance, Inlet, BadAct, Functions, Tenant, left, unless, applies, refusal_in, lone_refusal, is_run, is_run_by, is_returned, act_by_sight, act_tests, advance_tests, advanced, inlet_under, is_bad_inlet, IsSpendable, IsActRefusal, IsStuck, IsBadInlet, MayBeSpent}
 use Rattle.std.specs.Prelude.{◌↔◌}
 use Rattle.sched_laws.proofs.Holds.{F}

@@ -1,4 +1,4 @@
--- What all tenants have reserved and are charged, under each answer.
+-- What all tenants of a core have reserved and are charged, under each answer.
 use Rattle.sched_laws.proofs.Common.{◌≡◌, ◌↔◌, ℕ, Bool, true, ◌+◌, ◌*◌, ◌≤◌, false, List, [], ◌∷◌, Some, Result, Ok, Err, refl, arith, sum_by-cons, ltb-false, le-ltb, or_parts, Quota, Account, Refusal, StepOf, DidOf, Functions, Tenant, admitted_with, account_in, charged_for, left, Outcome, tenant_of, free_in, CoreState, tenant_in, with_tenant, without_tenant, with_outcome, accounts_in, reservations_in, is_full, is_beyond, step_result, shared_after, shared_with, charged_in, after_answer, after_answers, IsShaped, AreShaped, IsReservedWithin, IsCovered}
 use Rattle.sched_laws.proofs.Shaped.{by-kinds}
 use Rattle.sched_laws.proofs.Consequences.{by-taken}

@@ -1,4 +1,4 @@
--- Meaning: jobs that have ended.
+-- Meaning: which jobs of a tenant have ended, and that they stay as they are.
 use Rattle.std.specs.Prelude.{◌≡◌, ℕ, List, Option, Some, None}
 use Rattle.sched_rules.specs.declared.job.Job.{Job}
 use Rattle.sched_rules.specs.declared.job.Job.TheVariants.{Live, Done, Spent, Cancelled}

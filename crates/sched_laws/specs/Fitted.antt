@@ -1,4 +1,5 @@
--- Meaning: what a run keeps of a procedure's frames: that every frame fits, and that each job holds what it was asked.
+-- Meaning: what a run of a core keeps of a procedure's frames: that every frame fits (is right by the procedure's
+-- invariant), and that each job holds what it was asked.
 use Rattle.std.specs.Prelude.{◌≡◌, ℕ, ◌<◌, true, ◌&&◌, ◌==◌, List, [], ◌∷◌, ◌++◌, Some, Result, if◌then◌else◌, is_ok}
 use Rattle.sched_rules.specs.cactus_stack.Nodes.{padded}
 use Rattle.sched_rules.specs.declared.job.Job.{Job}
@@ -39,7 +40,7 @@ pub record CoreFits (fits : Fitting) (rooted : Rooting) (origins : ℕ → List 
   pub tenants : (number : ℕ) (tenant : Tenant) → tenant_in shared.tenants number ≡ Some tenant → TenantFits fits rooted (origins number) tenant
   pub unused : (number : ℕ) → shared.newest < number → origins number ≡ []
 
--- the words that a step submits a job with, if it submits one
+-- the words of a job's root that a step submits, if it is a Submit
 abbrev pub submits : {A : Type 0} → StepOf A → List (List ℕ)
 submits (Submit number words size) = words ∷ []
 submits _ = []
@@ -54,7 +55,7 @@ abbrev pub RootFits : {A : Type 0} → Fitting → Rooting → StepOf A → Type
 RootFits fits rooted (Submit number words size) = fits (padded words size) [] Neither × rooted words (padded words size)
 RootFits fits rooted _ = Unit {0}
 
--- RootFits holds of each step of a list
+-- at each step of a list that submits a job, the new root fits and belongs to what was submitted (`RootFits`)
 abbrev pub RootsFit : {A : Type 0} → Fitting → Rooting → List (StepOf A) → Type 0
 RootsFit fits rooted [] = Unit {0}
 RootsFit fits rooted (step ∷ steps) = RootFits fits rooted step × RootsFit fits rooted steps

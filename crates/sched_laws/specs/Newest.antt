@@ -1,4 +1,4 @@
--- Representation: the ready frame of the greatest serial.
+-- Representation: a tenant's ready frame of the greatest serial.
 use Rattle.std.specs.Prelude.{◌≡◌, ℕ, ◌≤◌, true, List, Some}
 use Rattle.frame_table.specs.declared.names.FrameId.{FrameId}
 use Rattle.frame_table.specs.Frames.{Frame, frame_at, is_ready, IsReadyAt}

@@ -1,4 +1,5 @@
--- Representation: the shape of a tenant, which every step keeps: its tree, its jobs, and what it used of what it reserved.
+-- Representation: the shape of a tenant of a core, which every step keeps: its tree, its jobs, and what it used of
+-- what it reserved.
 use Rattle.std.specs.Prelude.{◌≡◌, ℕ, ◌+◌, ◌*◌, ◌≤◌, ◌⊎◌, true, false, List, [], ◌∷◌, length, filter}
 use Rattle.frame_table.specs.Frames.{Frame, path_in, AllBelow, IsTree}
 use Rattle.tenant_quota.specs.Accounts.{reserved_segments, reserved_nodes}
@@ -13,7 +14,7 @@ abbrev pub AreMarkedChildless : Tree → List (Frame (List ℕ)) → Type 0
 AreMarkedChildless tree [] = Unit {0}
 AreMarkedChildless tree (frame ∷ frames) = ((mark_of_state frame.state ≡ Neither) ⊎ (has_child tree frame.serial ≡ false)) × AreMarkedChildless tree frames
 
--- how many jobs live under this root
+-- how many of a tenant's jobs live under this root
 abbrev pub live_count : ℕ → List Job → ℕ
 live_count root jobs = length (filter (λ job. is_live_at root job) jobs)
 
@@ -34,7 +35,7 @@ abbrev pub AreLiveRootsThere : Tree → List Job → Type 0
 AreLiveRootsThere frames [] = Unit {0}
 AreLiveRootsThere frames (job ∷ jobs) = IsRootThere frames job × AreLiveRootsThere frames jobs
 
--- each frame has 1 to 128 words
+-- each frame of a tree has 1 to 128 words
 abbrev pub HaveWords : Tree → Type 0
 HaveWords [] = Unit {0}
 HaveWords (frame ∷ frames) = ((1 ≤ length frame.value) × (length frame.value ≤ 128)) × HaveWords frames

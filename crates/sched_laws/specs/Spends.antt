@@ -1,4 +1,4 @@
--- Representation: when a job may be given up, in terms of what its frame's steps would be refused.
+-- Representation: when a tenant's job may be given up, in terms of what its frame's steps would be refused.
 use Rattle.std.specs.Prelude.{◌≡◌, ℕ, ◌⊎◌, Some}
 use Rattle.frame_table.specs.declared.names.FrameId.{FrameId}
 use Rattle.sched_rules.specs.declared.refusal.Refusal.{Refusal}
@@ -16,7 +16,7 @@ IsActRefusal refusal = (refusal ≡ BadAct) ⊎ ((refusal ≡ NoNodes) ⊎ (refu
 abbrev pub IsStuck : {I A : Type 0} → Functions I A → Tenant → FrameId → Type 0
 IsStuck {A = A} functions tenant name = (worker : ℕ) × (refusal : Refusal) × IsActRefusal refusal × (lone_refusal {A = A} functions (Some tenant) (Advance worker name) ≡ Some refusal)
 
--- every worker's Inlet of the frame would be refused by BadAct
+-- every worker's Inlet of the frame would be refused by BadAct: it would store beyond the parent's words
 abbrev pub IsBadInlet : {I A : Type 0} → Functions I A → Tenant → FrameId → Type 0
 IsBadInlet {A = A} functions tenant name = (worker : ℕ) → lone_refusal {A = A} functions (Some tenant) (Inlet worker name) ≡ Some BadAct
 

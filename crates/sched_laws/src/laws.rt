@@ -1,4 +1,4 @@
-//! What every step keeps.
+//! What every step of a core keeps, for every procedure: laws.
 ghost use Rattle.std.specs.Prelude.{◌≡◌, ℕ, ◌≤◌, List, [], ◌∷◌, ◌++◌, Some, Result, length, true};
 ghost use Rattle.tenant_quota.specs.Quota.{Quota, IsWithinLimits};
 ghost use Rattle.tenant_quota.specs.Accounts.{IsWithinReserve};

@@ -1,4 +1,4 @@
-//! Lists of steps in parts, the numbers of jobs, and the newest ready frame.
+//! Laws on a core's lists of steps in parts, the numbers of jobs, and the newest ready frame.
 ghost use Rattle.std.specs.Prelude.{◌≡◌, ℕ, ◌+◌, List, ◌++◌, Option, Some, None, Result, Ok, length, false};
 ghost use Rattle.tenant_quota.specs.Quota.{Quota};
 ghost use Rattle.frame_table.specs.declared.names.FrameId.{FrameId};

@@ -1,4 +1,4 @@
-//! When a job may be given up.
+//! When a tenant's job may be given up: laws.
 ghost use Rattle.std.specs.Prelude.{◌≡◌, ◌↔◌, ℕ, List, Some};
 ghost use Rattle.frame_table.specs.declared.names.FrameId.{FrameId};
 ghost use Rattle.frame_table.specs.Frames.{Frame, frame_at};

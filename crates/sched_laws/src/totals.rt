@@ -1,4 +1,4 @@
-//! That nothing is cut off where what is left is worked out by subtraction.
+//! Of a core's totals: nothing is cut off where what is left is worked out by subtraction.
 ghost use Rattle.std.specs.Prelude.{◌≡◌, ◌↔◌, ℕ, ◌+◌, ◌*◌, false, List, Some, Result};
 ghost use Rattle.tenant_quota.specs.Quota.{Quota};
 ghost use Rattle.sched_rules.specs.declared.refusal.Refusal.{Refusal};

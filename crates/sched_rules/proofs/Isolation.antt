@@ -1,4 +1,4 @@
--- Where each answer of a list is right, no tenant is disturbed.
+-- Where each answer of a core to a list of steps is right, no tenant is disturbed.
 use Rattle.std.proofs.Common.{◌≡◌, ◌≢◌, ◌≢◌, ℕ, ◌<◌, ◌≤◌, ◌⊎◌, inl, inr, Bool, true, false, ◌==◌, List, [], ◌∷◌, Option, Some, None, Result, Ok, Err, refl, ◌∙◌, arith}
 use Rattle.std.specs.Prelude.{◌||◌, nat_le, nat_lt, ◌^◌, IsTrue, ◌↔◌}
 use Rattle.std.proofs.lemmas.Bool.Decides.{nat_tests}

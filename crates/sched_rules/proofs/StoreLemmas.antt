@@ -1,4 +1,4 @@
--- Stores keep the number of words.
+-- Stores into a frame's words keep the number of words.
 use Rattle.std.proofs.Common.{◌≡◌, ℕ, List, [], ◌∷◌, length, refl, ◌∙◌}
 use Rattle.std.proofs.lemmas.List.{length-set}
 use Rattle.std.specs.Prelude.{slice_set}

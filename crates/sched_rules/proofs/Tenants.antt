@@ -1,4 +1,4 @@
--- Looking a tenant up after one has changed.
+-- Looking a tenant of a core up after one has changed.
 use Rattle.std.proofs.Common.{◌≡◌, ◌≢◌, ℕ, ◌<◌, ◌≤◌, ◌==◌, true, false, List, [], ◌∷◌, Option, Some, None, refl, arith}
 use Rattle.std.proofs.lemmas.Bool.Decides.{nat_tests}
 use Rattle.sched_rules.specs.Trees.{Tenant}

@@ -15,7 +15,7 @@ with_change number change (entry ∷ entries) = if entry.0 == number then (entry
 abbrev pub on_tenant : ℕ → (Tenant → Tenant) → CoreState → CoreState
 on_tenant number change shared = record shared { tenants = with_change number change shared.tenants }
 
--- the tenant with this reservation
+-- the tenant with this as its reservation
 abbrev pub with_reserve : Quota → Tenant → Tenant
 with_reserve quota tenant = record tenant { reserve = quota }
 

@@ -25,7 +25,7 @@ pub record CoreOf (P : Type 0) : Type 0 where
   pub procedure : P
   pub shared : CoreState
 
--- a core of these totals with no tenant
+-- a core with these totals of segments and nodes, and no tenant
 abbrev pub shared_by_nobody : Quota → CoreState
 shared_by_nobody totals = record { totals = totals; newest = 0; tenants = [] }
 
@@ -34,17 +34,17 @@ abbrev pub tenant_in : List (ℕ × Tenant) → ℕ → Option Tenant
 tenant_in [] number = None
 tenant_in (entry ∷ entries) number = if entry.0 == number then Some entry.1 else tenant_in entries number
 
--- the tenants with this one under this number: in the place of the one there, else at the end
+-- the tenants of a core with this one under this number: in the place of the one there, else at the end
 abbrev pub with_tenant : ℕ → Tenant → List (ℕ × Tenant) → List (ℕ × Tenant)
 with_tenant number tenant [] = (number, tenant) ∷ []
 with_tenant number tenant (entry ∷ entries) = if entry.0 == number then (number, tenant) ∷ entries else entry ∷ with_tenant number tenant entries
 
--- the tenants without the one of this number
+-- the tenants of a core without the one of this number
 abbrev pub without_tenant : ℕ → List (ℕ × Tenant) → List (ℕ × Tenant)
 without_tenant number [] = []
 without_tenant number (entry ∷ entries) = if entry.0 == number then without_tenant number entries else entry ∷ without_tenant number entries
 
--- the tenants after a step of one of them: it has this state now, or is gone
+-- the tenants of a core after a step of one of them, which has this state now, or is gone
 abbrev pub with_outcome : ℕ → Option Tenant → List (ℕ × Tenant) → List (ℕ × Tenant)
 with_outcome number None entries = without_tenant number entries
 with_outcome number (Some tenant) entries = with_tenant number tenant entries
@@ -63,7 +63,7 @@ meets_busy (Inlet worker name) entries = is_busy_elsewhere worker name.tenant en
 meets_busy (Finish worker name) entries = is_busy_elsewhere worker name.tenant entries
 meets_busy _ entries = false
 
--- the accounts of all tenants
+-- the accounts (what is reserved and used) of all tenants of a core
 abbrev pub accounts_in : List (ℕ × Tenant) → List (ℕ × Account)
 accounts_in [] = []
 accounts_in (entry ∷ entries) = (entry.0, account_in entry.1) ∷ accounts_in entries
@@ -107,7 +107,8 @@ abbrev pub unless_busy : {I : Type 0} → Bool → Result (Outcome I) Refusal �
 unless_busy busy (Err refusal) = Err refusal
 unless_busy busy (Ok outcome) = if busy then Err Busy else Ok outcome
 
--- one step among several tenants that is neither Admit nor AdmitMore
+-- the result of a step among several tenants that is neither Admit nor AdmitMore: that of its tenant alone, but Busy
+-- where it would be taken and the worker that it needs is busy elsewhere
 abbrev pub step_among : {I A : Type 0} → Functions I A → CoreState → StepOf A → Result (Outcome I) Refusal
 step_among functions shared step =
     unless_busy (meets_busy step shared.tenants) (lone functions (tenant_in shared.tenants (tenant_of step)) step)
@@ -140,7 +141,7 @@ abbrev pub shared_run : {I A : Type 0} → Functions I A → CoreState → List 
 shared_run functions shared [] = shared
 shared_run functions shared (step ∷ steps) = shared_run functions (shared_after shared step (step_result functions shared step)) steps
 
--- the charges of all frames of all tenants
+-- how many segments all frames of all tenants take
 abbrev pub charged_in : List (ℕ × Tenant) → ℕ
 charged_in [] = 0
 charged_in (entry ∷ entries) = charged_for entry.1.frames + charged_in entries

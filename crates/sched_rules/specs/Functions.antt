@@ -1,5 +1,5 @@
--- Meaning: what a procedure is to the core: five functions of the words shown and of the values passed.
--- (Cilk 5.4 Reference Manual: procedures, inlets.)
+-- Meaning: what a procedure is to the core: five functions, of the words shown and of the values passed, that say what
+-- a frame does. (Cilk 5.4 Reference Manual: procedures, inlets.)
 use Rattle.std.specs.Prelude.{ℕ, Bool, List}
 use Rattle.sched_rules.specs.declared.act.Act.{Act}
 use Rattle.sched_rules.specs.declared.act.InletAct.{InletAct}

@@ -1,5 +1,5 @@
--- Meaning: what holds of any list of steps by any workers for any tenants: each tenant is what its own steps give, and a step is refused
--- only for its own tenant's state or a busy worker.
+-- Meaning: what holds of any list of steps on a core, by any workers for any tenants: each tenant is what its own
+-- steps give, and a step is refused only for its own tenant's state or a busy worker.
 use Rattle.std.specs.Prelude.{◌≡◌, ℕ, ◌≤◌, ◌⊎◌, Bool, true, false, ◌==◌, List, [], ◌∷◌, Some, None, Result, Ok, Err, if◌then◌else◌, is_ok}
 use Rattle.sched_rules.specs.declared.refusal.Refusal.{Refusal}
 use Rattle.sched_rules.specs.declared.refusal.Refusal.TheVariants.{Busy, OutOfMemory}
@@ -76,13 +76,13 @@ AreAnswersTo functions before (step ∷ steps) [] = ⊥
 AreAnswersTo functions before (step ∷ steps) (answer ∷ answers) =
     IsAnswerTo functions before step answer × AreAnswersTo functions (after_answer functions before step answer) steps answers
 
--- the steps that were taken
+-- those of a list of steps that were taken, by the answers to them
 abbrev pub taken_steps : {I A : Type 0} → List (StepOf A) → List (Result (DidOf I) Refusal) → List (StepOf A)
 taken_steps [] answers = []
 taken_steps (step ∷ steps) [] = []
 taken_steps (step ∷ steps) (answer ∷ answers) = if is_ok answer then step ∷ taken_steps steps answers else taken_steps steps answers
 
--- the answers to a tenant's taken steps
+-- the answers to those steps of a list that are this tenant's and were taken
 abbrev pub own_answers : {I A : Type 0} → ℕ → List (StepOf A) → List (Result (DidOf I) Refusal) → List (Result (DidOf I) Refusal)
 own_answers number [] answers = []
 own_answers number (step ∷ steps) [] = []

@@ -1,4 +1,4 @@
--- Meaning: what every lawful procedure keeps: that frames fit.
+-- Meaning: what every lawful procedure (the five functions that say what frames do) keeps: that its frames fit.
 use Rattle.std.specs.Prelude.{◌≡◌, ℕ, Bool, true, false, nat_lt, List, [], ◌∷◌, ◌++◌, if◌then◌else◌, length, replicate}
 use Rattle.cactus_stack.specs.Nodes.{padded}
 use Rattle.frame_table.specs.declared.names.State.{State}
@@ -17,7 +17,7 @@ pub data Mark : Type 0 where
   Computes : Mark
   HasReturned : Mark
 
--- the mark of a frame in this state
+-- the mark of a frame in this state: whether it computes, has returned, or neither
 abbrev pub mark_of_state : State → Mark
 mark_of_state (Computing worker) = Computes
 mark_of_state Returned = HasReturned
@@ -74,7 +74,7 @@ mark_after Wait children = Neither
 mark_after Compute children = Computes
 mark_after Return children = if has_one children then Neither else HasReturned
 
--- the child that an act opens, if it opens one, fits
+-- if an act of a frame opens a child, that child fits
 abbrev pub NewChildFits : Fitting → Continuation → Type 0
 NewChildFits fits (Grow more) = Unit {0}
 NewChildFits fits (Spawn given size) = fits (padded given size) [] Neither
@@ -136,6 +136,6 @@ abbrev pub EachFits : Fitting → Tree → List (Frame (List ℕ)) → Type 0
 EachFits fits tree [] = Unit {0}
 EachFits fits tree (frame ∷ frames) = fits frame.value (values_of (children_of tree frame.serial)) (mark_of_state frame.state) × EachFits fits tree frames
 
--- every frame of a tree fits
+-- every frame of a tree is right by the procedure's invariant (fits)
 abbrev pub EveryFrameFits : Fitting → Tree → Type 0
 EveryFrameFits fits tree = EachFits fits tree tree

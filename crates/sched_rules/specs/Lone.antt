@@ -1,4 +1,4 @@
--- Meaning: one step of one tenant that has the core to itself: the refusals in their order, and else what the step does.
+-- Meaning: one step of a tenant that has the core to itself: the refusals in their order, and else what the step does.
 -- (Cilk 5.4 Reference Manual: spawn, sync, inlet, abort, work stealing.)
 use Rattle.std.specs.Prelude.{ℕ, ◌+◌, Bool, true, false, not, ◌||◌, ◌&&◌, ◌==◌, nat_lt, nat_le, List, [], ◌∷◌, ◌++◌, Option, Some, None, Result, Ok, Err, if◌then◌else◌, length, replicate, IsTrue}
 use Rattle.tenant_quota.specs.Quota.{Quota}
@@ -27,7 +27,7 @@ abbrev pub unless : {X : Type 0} → List (Bool × Refusal) → X → Result X R
 unless [] effect = Ok effect
 unless (test ∷ tests) effect = if test.0 then Err test.1 else unless tests effect
 
--- whether some test applies
+-- whether one of these tests of a step, each with its refusal, says yes
 abbrev pub applies : List (Bool × Refusal) → Bool
 applies [] = false
 applies (test ∷ tests) = test.0 || applies tests
@@ -36,23 +36,23 @@ applies (test ∷ tests) = test.0 || applies tests
 abbrev pub Outcome : Type 0 → Type 0
 Outcome I = Option Tenant × DidOf I
 
--- the test that the tenant has no step left
+-- a test of a tenant's step, with its refusal: the tenant has no step left (NoSteps)
 abbrev pub no_step : Tenant → Bool × Refusal
 no_step tenant = ((left tenant).steps == 0, NoSteps)
 
--- the test that the worker isn't free: it runs or computes a frame of this tenant
+-- a test of a tenant's step, with its refusal: the worker runs or computes a frame of this tenant (Busy)
 abbrev pub not_free : Tenant → ℕ → Bool × Refusal
 not_free tenant worker = (is_busy_in worker tenant.frames, Busy)
 
--- the tenant with one more step counted
+-- the tenant with one more of its steps counted
 abbrev pub counted : Tenant → Tenant
 counted tenant = record tenant { steps = tenant.steps + 1 }
 
--- the tenant, the frame with this serial put into this state
+-- the tenant, once the frame with this serial is put into this state
 abbrev pub in_state : ℕ → State → Tenant → Tenant
 in_state serial state tenant = record tenant { frames = with_state serial state tenant.frames }
 
--- the tenant, the frame with this serial having these words
+-- the tenant, once the frame with this serial has these words
 abbrev pub holding : ℕ → List ℕ → Tenant → Tenant
 holding serial words tenant = record tenant { frames = with_frame_words serial words tenant.frames }
 
@@ -74,7 +74,7 @@ abbrev pub is_lower : Quota → Quota → Bool
 is_lower now quota =
     nat_lt quota.segments now.segments || nat_lt quota.nodes now.nodes || ((quota.segments == now.segments) && (quota.nodes == now.nodes))
 
--- AdmitMore: the tenant with this reservation
+-- AdmitMore: the tenant with this reservation in the place of its own
 abbrev pub raised : {I : Type 0} → Tenant → Quota → Outcome I
 raised tenant quota = (Some (record tenant { reserve = quota }), AdmittedMore)
 
@@ -144,7 +144,7 @@ abbrev pub is_returned : State → Bool
 is_returned Returned = true
 is_returned _ = false
 
--- the next act of a frame, by what it sees
+-- the next act of a tenant's frame, by the procedure, from the words that it sees
 abbrev pub act_by_sight : {I A : Type 0} → Functions I A → Tenant → Frame (List ℕ) → Act
 act_by_sight functions tenant frame = functions.next (sight tenant.frames frame.path)
 
@@ -162,7 +162,7 @@ is_bad_then words has_one Return = false
 abbrev pub is_bad_act : List ℕ → Bool → Act → Bool
 is_bad_act words has_one act = is_outside act.stores words || is_bad_then (length words) has_one act.after
 
--- whether an act opens a child
+-- whether an act opens a child of the frame
 abbrev pub is_spawn : Continuation → Bool
 is_spawn (Grow more) = false
 is_spawn (Spawn given size) = true
@@ -171,7 +171,7 @@ is_spawn Wait = false
 is_spawn Compute = false
 is_spawn Return = false
 
--- how many more segments an act takes: for a growth, or for a new child
+-- how many more segments an act takes: to make the frame longer, or for a new child
 abbrev pub segments_for : Frame (List ℕ) → Continuation → ℕ
 segments_for frame (Grow more) = growth_charge (length frame.value) more
 segments_for frame (Spawn given size) = charge size
@@ -209,7 +209,7 @@ then_done functions tenant worker name path words Return =
     then (Some (in_state name.serial Waiting tenant), Waited)
     else (Some (in_state name.serial Returned tenant), HasReturned (is_root path))
 
--- Advance: the stores, and then the rest of the act
+-- what an Advance does: the stores of the frame's act, and then the rest of the act
 abbrev pub advanced : {I A : Type 0} → Functions I A → Tenant → ℕ → FrameId → Frame (List ℕ) → Act → Outcome I
 advanced functions tenant worker name frame act =
     let words = stored act.stores frame.value in
@@ -238,7 +238,7 @@ inlet_tests tenant worker frame parent act =
     ∷ not_free tenant worker
     ∷ []
 
--- whether a frame in this state waits
+-- whether a frame in this state waits for its children
 abbrev pub is_waiting : State → Bool
 is_waiting (Ready home) = false
 is_waiting (Running holder) = false
@@ -246,7 +246,7 @@ is_waiting (Computing holder) = false
 is_waiting Waiting = true
 is_waiting Returned = false
 
--- whether there is a frame, and it waits
+-- whether there is a frame, and it waits for its children
 abbrev pub does_wait : Option (Frame (List ℕ)) → Bool
 does_wait None = false
 does_wait (Some frame) = is_waiting frame.state
@@ -305,7 +305,7 @@ is_spendable functions tenant frame =
     || (is_run frame.state && applies (act_tests tenant frame (act_by_sight functions tenant frame)))
     || (is_returned frame.state && is_bad_inlet functions tenant frame (parent_of frame.path))
 
--- a frame's job may be given up (is_spendable), as a fact
+-- a frame's job may be given up: the test `is_spendable` says yes
 abbrev pub IsSpendable : {I A : Type 0} → Functions I A → Tenant → Frame (List ℕ) → Type 0
 IsSpendable functions tenant frame = IsTrue (is_spendable functions tenant frame)
 
@@ -321,12 +321,13 @@ cancelled tenant (Some (Done words)) = Err NoJob
 cancelled tenant (Some SpentJob) = Err NoJob
 cancelled tenant (Some CancelledJob) = Err NoJob
 
--- a step that names a frame: NoFrame where it isn't there, else what the step gives for it
+-- what a step comes to that names a frame of the tenant: NoFrame where the frame isn't there, else what `step` gives
+-- for it
 abbrev pub at_frame : {X : Type 0} → Option (Frame (List ℕ)) → (Frame (List ℕ) → Result X Refusal) → Result X Refusal
 at_frame None step = Err NoFrame
 at_frame (Some frame) step = step frame
 
--- one step of a tenant that is there and has the core to itself
+-- the result of a step of a tenant that is there and has the core to itself
 abbrev pub lone_step : {I A : Type 0} → Functions I A → Tenant → StepOf A → Result (Outcome I) Refusal
 lone_step functions tenant (Admit number quota) = Err OldTenant
 lone_step functions tenant (AdmitMore number quota) = unless ((is_lower tenant.reserve quota, Lower) ∷ []) (raised tenant quota)
@@ -350,12 +351,13 @@ lone_step functions tenant (Spend name) =
 lone_step functions tenant (Cancel number job) = cancelled tenant (job_at tenant.jobs job)
 lone_step functions tenant (Leave number) = Ok (None, Left)
 
--- one step of a tenant that isn't there: Admit is taken, every other step is refused by NoTenant
+-- the result of a step of a tenant that isn't there: Admit is taken, and every other step is refused by NoTenant
 abbrev pub first_step : {I A : Type 0} → StepOf A → Result (Outcome I) Refusal
 first_step (Admit number quota) = Ok (Some (admitted_with quota), Admitted)
 first_step _ = Err NoTenant
 
--- one step of a tenant that has the core to itself, if it is there: its state after it and what it did, or a refusal
+-- the result of a step of a tenant that has the core to itself (None: it isn't there): the tenant after the step and
+-- what the step did, or a refusal
 abbrev pub lone : {I A : Type 0} → Functions I A → Option Tenant → StepOf A → Result (Outcome I) Refusal
 lone functions None step = first_step step
 lone functions (Some tenant) step = lone_step functions tenant step

@@ -1,9 +1,9 @@
--- Meaning: the numbers of the refusals.
+-- Meaning: the numbers of the refusals of a core's steps.
 use Rattle.std.specs.Prelude.{ℕ}
 use Rattle.sched_rules.specs.declared.refusal.Refusal.{Refusal}
 use Rattle.sched_rules.specs.declared.refusal.Refusal.TheVariants.{NoTenant, NoFrame, NotReady, NotHere, Busy, NotRunning, NotComputing, Mismatch, NotReturned, NoSegments, NoNodes, NoSteps, NoJobsLeft, Full, BadAct, NotSpent, NoJob, OldTenant, OutOfMemory, Lower}
 
--- the number of each refusal
+-- the number by which a client is told each refusal
 abbrev pub refusal_number : Refusal → ℕ
 refusal_number NoTenant = 1
 refusal_number NoFrame = 2

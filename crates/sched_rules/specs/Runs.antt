@@ -1,4 +1,5 @@
--- Meaning: lists of steps: those of one tenant, and what they come to for a tenant that has the core to itself.
+-- Meaning: lists of a core's steps: those of one tenant, and what they come to for a tenant that has the core to
+-- itself.
 use Rattle.std.specs.Prelude.{ℕ, ◌==◌, List, [], ◌∷◌, Option, None, Result, Ok, Err, filter}
 use Rattle.sched_rules.specs.declared.refusal.Refusal.{Refusal}
 use Rattle.sched_rules.specs.declared.step.StepOf.{StepOf}
@@ -23,7 +24,7 @@ tenant_of (Spend name) = name.tenant
 tenant_of (Cancel number job) = number
 tenant_of (Leave number) = number
 
--- the steps that are this tenant's, in order
+-- the steps of a list that are this tenant's, in order
 abbrev pub only : {A : Type 0} → ℕ → List (StepOf A) → List (StepOf A)
 only number steps = filter (λ step. tenant_of step == number) steps
 

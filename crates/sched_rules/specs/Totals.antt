@@ -1,4 +1,4 @@
--- Meaning: the limits of a core.
+-- Meaning: the limits of a core: how many segments and nodes it may have for all tenants.
 use Rattle.std.specs.Prelude.{◌≤◌}
 use Rattle.tenant_quota.specs.Quota.{Quota}
 

@@ -1,5 +1,5 @@
--- Meaning: one tenant: what it reserved, the serials that it was given, the steps that it took, its jobs, and the tree of its frames.
--- (Cilk 5.4 Reference Manual: cactus stack, abort.)
+-- Meaning: one tenant of a core: what it reserved, the serials that it was given, the steps that it took, its jobs,
+-- and the tree of its frames. (Cilk 5.4 Reference Manual: cactus stack, abort.)
 use Rattle.std.specs.Prelude.{ℕ, ◌+◌, ◌-◌, Bool, false, ◌||◌, ◌==◌, nat_lt, nat_le, List, [], ◌∷◌, Option, Some, None, if◌then◌else◌, map, reverse, length, sum_by, slice_set, take}
 use Rattle.cactus_stack.specs.Nodes.{charge}
 use Rattle.tenant_quota.specs.Quota.{Quota}
@@ -49,11 +49,11 @@ charged_for frames = sum_by (λ frame. charge (length frame.value)) frames
 abbrev pub account_in : Tenant → Account
 account_in tenant = record { reserve = tenant.reserve; charged = charged_for tenant.frames; opened = tenant.serials; ticks = tenant.steps }
 
--- what the tenant has left
+-- what the tenant has left of what it reserved: segments, nodes and steps
 abbrev pub left : Tenant → Left
 left tenant = left_in (account_in tenant)
 
--- the frames, the one with this serial having these words
+-- a tenant's frames, once the frame with this serial has these words
 abbrev pub with_frame_words : ℕ → List ℕ → Tree → Tree
 with_frame_words serial words [] = []
 with_frame_words serial words (frame ∷ frames) = (if frame.serial == serial then record frame { value = words } else frame) ∷ with_frame_words serial words frames
@@ -63,7 +63,7 @@ abbrev pub stored : List (ℕ × ℕ) → List ℕ → List ℕ
 stored [] words = words
 stored (store ∷ stores) words = stored stores (slice_set words store.0 store.1)
 
--- whether some store is at a place beyond the words
+-- whether one of these stores is at a place beyond the frame's words
 abbrev pub is_outside : List (ℕ × ℕ) → List ℕ → Bool
 is_outside [] words = false
 is_outside (store ∷ stores) words = nat_le (length words) store.0 || is_outside stores words
@@ -80,7 +80,7 @@ is_held_by worker (Computing holder) = holder == worker
 is_held_by worker Waiting = false
 is_held_by worker Returned = false
 
--- whether this worker runs or computes one of these frames
+-- whether this worker runs or computes one of a tenant's frames
 abbrev pub is_busy_in : ℕ → Tree → Bool
 is_busy_in worker [] = false
 is_busy_in worker (frame ∷ frames) = is_held_by worker frame.state || is_busy_in worker frames
@@ -98,7 +98,7 @@ abbrev pub job_at : List Job → ℕ → Option Job
 job_at [] number = None
 job_at (job ∷ jobs) number = if number == 1 then Some job else job_at jobs (number - 1)
 
--- whether this is the job that lives under this root
+-- whether this job of a tenant lives, with this frame as its root
 abbrev pub is_live_at : ℕ → Job → Bool
 is_live_at root (Live serial) = serial == root
 is_live_at root (Done words) = false
@@ -114,7 +114,7 @@ number_from first root (job ∷ jobs) = if is_live_at root job then first else n
 abbrev pub job_under : ℕ → List Job → ℕ
 job_under root jobs = number_from 1 root jobs
 
--- the jobs, the one that lives under this root replaced by ended
+-- a tenant's jobs, once the one that lives under this root has ended so
 abbrev pub with_ended : ℕ → Job → List Job → List Job
 with_ended root ended [] = []
 with_ended root ended (job ∷ jobs) = (if is_live_at root job then ended else job) ∷ with_ended root ended jobs

@@ -16,7 +16,7 @@ left_in_core shared number = option_map left (tenant_in shared.tenants number)
 abbrev pub job_of : CoreState → ℕ → ℕ → Option Job
 job_of shared number job = option_and_then (λ tenant. job_at tenant.jobs job) (tenant_in shared.tenants number)
 
--- the frame of this name, if there is one
+-- the frame of this name (tenant and serial) in a core, if it is there
 abbrev pub named : CoreState → FrameId → Option (Frame (List ℕ))
 named shared name = option_and_then (λ tenant. frame_at tenant.frames name.serial) (tenant_in shared.tenants name.tenant)
 

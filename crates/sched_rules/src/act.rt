@@ -1,4 +1,4 @@
-//! What a procedure asks the core to do.
+//! What a procedure asks the core to do with a frame.
 ghost use Rattle.std.specs.Prelude.{◌≡◌, ◌≤◌, ◌<◌, ◌↔◌, ◌++◌, [], ◌∷◌, length, IsSome, IfSome};
 
 use arrayvec::ArrayVec;
@@ -20,7 +20,7 @@ impl Model for Stores {
 }
 
 impl Stores {
-    /// No store.
+    /// An act's stores: none.
     pub fn new() -> Stores
         ensures { result ≡ [] }
     {
@@ -29,7 +29,7 @@ impl Stores {
         }
     }
 
-    /// These stores, fewer than 8, and one more after them.
+    /// These stores of an act, fewer than 8, and one more after them: a word at a place of the frame.
     pub fn then(self, place: usize, word: u64) -> Stores
         requires { length self < 8 }
         ensures { result ≡ self ++ (place, word) ∷ [] }
@@ -72,7 +72,7 @@ impl Model for GivenWords {
 }
 
 impl GivenWords {
-    /// These words, or None where there are more than 8.
+    /// These words for a new frame, or None where there are more than 8.
     pub fn new(words: &[u64]) -> Option<GivenWords>
         ensures few { IsSome result ↔ (length words.now ≤ 8) }
         ensures words { IfSome result (λ given. given ≡ words.now) }
@@ -87,7 +87,7 @@ impl GivenWords {
         Some(GivenWords { words: held })
     }
 
-    /// One word.
+    /// One word for a new frame.
     pub fn one(word: u64) -> GivenWords
         ensures { result ≡ word ∷ [] }
     {
@@ -96,7 +96,7 @@ impl GivenWords {
         GivenWords { words }
     }
 
-    /// Two words.
+    /// Two words for a new frame.
     pub fn two(first: u64, second: u64) -> GivenWords
         ensures { result ≡ first ∷ second ∷ [] }
     {
@@ -106,7 +106,7 @@ impl GivenWords {
         GivenWords { words }
     }
 
-    /// Eight words.
+    /// Eight words for a new frame.
     #[inline(always)]
     pub fn eight(words: [u64; 8]) -> GivenWords
         ensures { result ≡ words }
@@ -116,7 +116,7 @@ impl GivenWords {
         }
     }
 
-    /// The words, in order.
+    /// The words that a new frame is given, in order.
     pub fn as_slice(&self) -> &[u64]
         ensures words { result.now ≡ self.now }
         ensures few { length result.now ≤ 8 }

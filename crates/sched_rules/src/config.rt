@@ -1,4 +1,4 @@
-//! How much a core has to give.
+//! How much a core has to give to all tenants: segments and nodes.
 ghost use Rattle.std.specs.Prelude.{◌≡◌, ◌≤◌, ◌↔◌, IsSome, IfSome};
 
 use std::marker::Model;
@@ -46,7 +46,7 @@ impl Config {
         Some(Config { segments, nodes })
     }
 
-    /// The total of segments.
+    /// How many segments (of 16 words) the core has for all tenants.
     pub fn segments(&self) -> u32
         ensures value { result ≡ self.now.segments }
         ensures limits { IsWithinTotals self.now }
@@ -54,7 +54,7 @@ impl Config {
         self.segments
     }
 
-    /// The total of nodes.
+    /// How many nodes the core has for all tenants.
     pub fn nodes(&self) -> u32
         ensures value { result ≡ self.now.nodes }
         ensures limits { IsWithinTotals self.now }

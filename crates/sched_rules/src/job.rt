@@ -1,4 +1,4 @@
-//! The jobs of a tenant.
+//! The jobs of a core's tenant.
 ghost use Rattle.std.specs.Prelude.{◌≡◌, ◌≤◌, length};
 ghost use Rattle.sched_rules.specs.Trees.{kept_words};
 
@@ -52,7 +52,7 @@ impl JobWords {
         JobWords { words }
     }
 
-    /// The words, in order.
+    /// The words that a done job keeps of its root, in order.
     pub fn as_slice(&self) -> &[u64]
         ensures words { result.now ≡ self.now }
         ensures few { length result.now ≤ 76 }

@@ -1,4 +1,4 @@
-//! What follows from the definitions.
+//! What follows from the definitions of a core's steps: laws.
 ghost use Rattle.std.specs.Prelude.{◌≡◌, ◌↔◌, ℕ, List, Some, None, Result, IsTrue};
 ghost use Rattle.sched_rules.specs.declared.refusal.Refusal.{Refusal};
 ghost use Rattle.sched_rules.specs.declared.step.StepOf.{StepOf};
@@ -30,7 +30,8 @@ pub fn each_step_has_a_right_answer<P: Procedure>()
         IsAnswerTo (P.functions procedure) before step (answer_of (step_result (P.functions procedure) before step)) }
 {}
 
-/// `is_full`, by which an admission is refused, is the same test as `IsFull` of `tenant_quota`.
+/// An admission is refused as full (`is_full`) by the same test as in the book of reservations (`IsFull` of
+/// `tenant_quota`).
 pub fn fullness_is_the_book_s()
     ensures { (book : Reservations) (quota : Quota) → IsTrue (is_full book quota) ↔ IsFull book quota }
 {}

@@ -1,4 +1,4 @@
-//! What a procedure is to the core.
+//! What a procedure is to the core: five functions that say what a frame does.
 ghost use Rattle.std.specs.Prelude.{◌≡◌};
 
 use crate::act::{Act, InletAct, Stores};

@@ -1,4 +1,4 @@
-//! Why a step is refused.
+//! Why a step of the core is refused.
 ghost use Rattle.std.specs.Prelude.{◌≡◌};
 ghost use Rattle.sched_rules.specs.Refusals.{refusal_number};
 
@@ -93,6 +93,7 @@ impl Refusal {
 
 // Written by hand: what the derive macro writes for 20 messages takes far longer to prove.
 impl fmt::Display for Refusal {
+    /// The refusal in words.
     fn fmt<W: fmt::Write>(&self, f: &mut fmt::Formatter<W>) -> fmt::Result {
         f.write_str(self.text())
     }

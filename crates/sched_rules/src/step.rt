@@ -105,6 +105,7 @@ impl<I: Copy> Clone for DidOf<I> {
 
     ghost is_infallible = { λ did. ⊤ };
 
+    /// A copy, as nothing in it takes memory.
     fn clone(&self) -> Result<DidOf<I>, AllocError> {
         Ok(*self)
     }

@@ -1,4 +1,4 @@
-//! The workers, by number.
+//! The workers of a core, by number.
 ghost use Rattle.std.specs.Prelude.{◌≡◌, ◌≤◌, ◌↔◌, IsSome, IfSome};
 
 use std::marker::Model;
@@ -37,7 +37,7 @@ impl Worker {
         Some(Worker { number })
     }
 
-    /// The number, 1 to 32.
+    /// The worker's number, 1 to 32.
     pub fn number(self) -> u8
         ensures value { result ≡ self }
         ensures limits { (1 ≤ result) × (result ≤ 32) }

@@ -1,4 +1,5 @@
--- A tenant is admitted: an account, places and a list of jobs of its own, after all others, and nothing else.
+-- The core's store gets a tenant: an account, places and a list of jobs of its own, after all others, and nothing
+-- else.
 use Rattle.std.proofs.Common.{◌≡◌, ◌≢◌, ℕ, ◌+◌, ◌^◌, ◌<◌, ◌≤◌, inl, inr, false, List, [], ◌∷◌, ◌++◌, length, None, refl, ap, sym, ◌∙◌, arith, Option, zero, suc, replicate}
 use Rattle.sched_store.proofs.Common.{Account, FrameId, inserted, IsAboveOwn, with_admitted, Quota, IsAbove}
 use Rattle.sched_store.proofs.Common.{length-replicate, with_reserve, Tenant, admitted_with, Nodes, node_at}

@@ -1,4 +1,5 @@
--- Some frames of one tenant are removed, and their nodes closed: frames and nodes still belong to one another, one to one.
+-- Some frames of one tenant are removed from the core's store, and their nodes closed: frames and nodes still belong
+-- to one another, one to one.
 use Rattle.std.proofs.Common.{◌≡◌, ◌≢◌, ℕ, suc, ◌⊎◌, inl, inr, Bool, true, false, not, eqb, List, [], ◌∷◌, Option, Some, None, IsSome, Contains, refl, ap, sym, ◌∙◌, subst, arith, ◌+◌, sum_by, All, AllPairs}
 use Rattle.sched_store.proofs.Common.{filter, FrameId, frames_of, sum_by-cons, charged_for, with_words_of_nodes, frame_at-stays, filter-found}
 use Rattle.sched_store.proofs.Common.{AreSerialsRising, Each, AllAboveSerial, map_value, cases_Bool, there-found, found-there, above-missing, eq-eqb}

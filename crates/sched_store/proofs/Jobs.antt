@@ -1,4 +1,4 @@
--- The jobs of one tenant: found by number, begun and ended.
+-- The jobs of one tenant in the core's store: found by number, begun and ended.
 use Rattle.sched_store.proofs.Common.{◌≡◌, ◌≢◌, ℕ, zero, suc, ◌<◌, ◌≤◌, ◌+◌, ◌-◌, true, false, List, [], ◌∷◌, ◌++◌, length, get_or, drop, Some, None, refl, ap}
 use Rattle.sched_store.proofs.Common.{◌∙◌, arith, inl, inr, set, cases_Bool, true≢false, ne_eqb, or_parts, or_from, Job, Live}
 use Rattle.sched_store.proofs.Common.{is_live_at, job_at, number_from, with_ended, is_live, is_live_in, AreLiveOnce, JobListOf}

@@ -1,4 +1,5 @@
--- A tenant leaves: its frames go with their nodes, its places, its jobs and its account, and nothing of any other tenant.
+-- A tenant leaves the core's store: its frames go with their nodes, its places, its jobs and its account, and nothing
+-- of any other tenant.
 use Rattle.sched_store.proofs.Common.{◌≡◌, ◌≢◌, ℕ, ◌+◌, ◌<◌, inl, inr, Bool, false, eqb, List, [], ◌∷◌, refl, ap, sym, ◌∙◌, subst, arith}
 use Rattle.sched_store.proofs.Common.{filter, cases_Bool, ne_eqb, eqb-true, eqb-false, Nodes, without, total_charge, Reservations, IsSoundBook, Releases}
 use Rattle.sched_store.proofs.Common.{KeepsOtherAccounts, Account, Frame, values_of, frames_of, places_of, tenant_count}

@@ -1,4 +1,4 @@
--- A frame is opened.
+-- A frame is opened in the core's store, with a node for its words and a charge to its tenant.
 use Rattle.std.proofs.Common.{◌≡◌, ◌≢◌, ℕ, ◌<◌, ◌≤◌, ◌+◌, ◌-◌, true, List, [], ◌∷◌, ◌++◌, length, Option, Some, None, refl, ap, sym, ◌∙◌, arith, inl, inr, ◌⊎◌, get_or-set_other, get_or-set_same, IfSome}
 use Rattle.sched_store.proofs.Common.{Account, CoreState, map_value, Each, Tree, charged_for, Parts, with_words_of_nodes}
 use Rattle.sched_store.proofs.Common.{shared_of, false≢true, frames_in_core, serials_in, TenantHasLeft, length-set}

@@ -1,4 +1,5 @@
--- Frames of one tenant are removed, their nodes closed and their segments given back: what the store keeps true stays so.
+-- Frames of one tenant are removed from the core's store, their nodes closed and their segments given back: what the
+-- store keeps true stays so.
 use Rattle.std.proofs.Common.{◌≡◌, ◌≢◌, ℕ, ◌+◌, Bool, List, [], ◌∷◌, length, Some, None, refl, ap, ◌∙◌, subst, arith, ◌≤◌, inl, inr, true, false, not, eqb, Option, ◌-◌, IsSome, All, AllPairs, ◌<◌, IsTrue, is_some}
 use Rattle.sched_store.proofs.Common.{filter, length-set, length-append, Nodes, with_node, without, total_charge, HasNoChild, node_words}
 use Rattle.sched_store.proofs.Common.{IsOpen, HasAllChildren, credited_by, charged_segments, Reservations, IsSoundBook, ChangesOnly}

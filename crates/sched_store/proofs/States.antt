@@ -1,4 +1,4 @@
--- Workers and the frames that they hold: whether a worker is busy is one look at its place.
+-- Workers and the frames that they hold in the core's store: whether a worker is busy is one look at its place.
 use Rattle.std.proofs.Common.{◌≡◌, ℕ, true, false, List, [], ◌∷◌, get_or, Option, Some, None, refl, sym, ◌∙◌, arith, inl, inr, ◌≤◌, ◌+◌, length, ◌⊎◌, get_or-set_other, get_or-set_same}
 use Rattle.sched_store.proofs.Common.{set, Account, FrameId, account_of, sum_by-cons, Nodes, node_words}
 use Rattle.sched_store.proofs.Common.{charge, frames_of, KeepsOtherFrames, is_busy_among}

@@ -1,4 +1,4 @@
--- A change of one tenant: what a store keeps true, and the core that it stands for.
+-- A change of one tenant in the core's store: what the store keeps true, and the core that it stands for.
 use Rattle.std.proofs.Common.{◌≡◌, ◌≢◌, ℕ, ◌<◌, ◌≤◌, eqb, List, [], ◌∷◌, length, Some, None, option_map, refl, ap, sym, ◌∙◌, arith, inl, inr, true, Option, IsSome, IsSomeAnd, suc, ◌*◌, sum_by, IfSome, is_some}
 use Rattle.sched_store.proofs.Common.{Job, Left, Account, FrameId, sum_by-cons, map_value, Each, CoreState, tenant_in, with_change, on_tenant}
 use Rattle.sched_store.proofs.Common.{words_under, IsReadyIn, left_in_core, ready_count, live_of, tree-rising, found-each, found-serial, Tenant, Tree}

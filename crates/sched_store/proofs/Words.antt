@@ -1,4 +1,4 @@
--- The stack's nodes as they come, change and go, and what they are charged.
+-- The nodes of the core's stack as they come, change and go, and what tenants are charged for them.
 use Rattle.std.proofs.Common.{◌≡◌, ◌≢◌, ℕ, zero, suc, ◌<◌, ◌≤◌, ◌+◌, List, [], ◌∷◌, length, Option, Some, None, IsSome, refl, ap, arith, get_or-set_other, get_or-set_same, sym, subst, drop, get_or, add-one, drop-cons, ◌-◌, ◌++◌, replicate}
 use Rattle.sched_store.proofs.Common.{set, Account, FrameId, frames_of, on_tenant, words_under, TenantHasLeft, AllEntries-map, sum_by-le-with}
 use Rattle.sched_store.proofs.Common.{Frame, frame_at, HasValue, found-serial, tree-rising, Parts, with_words_of_nodes, shared_of}
@@ -158,7 +158,7 @@ pub outside-set : (stores : Stores) (words : List ℕ) (at word : ℕ) → is_ou
 outside-set [] words at word = refl
 outside-set (store ∷ stores) words at word = grind (arith, length-set, outside-set stores words)
 
--- Stores and growths of a frame that is there.
+-- Stores into a frame that is there, and more words for it.
 
 -- a frame that is there, and its node
 pub record HasNode (parts : Parts) (name : FrameId) (node : ℕ) : Type 0 where

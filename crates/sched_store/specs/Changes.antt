@@ -1,4 +1,4 @@
--- Representation: what an admission and a departure make of a core.
+-- Representation: what an admission and a departure make of the core that a store stands for.
 use Rattle.std.specs.Prelude.{ℕ, [], ◌∷◌, ◌++◌}
 use Rattle.tenant_quota.specs.Quota.{Quota}
 use Rattle.sched_rules.specs.Trees.{admitted_with}

@@ -1,4 +1,4 @@
--- Representation: the parts of a store.
+-- Representation: the parts of the core's store, as its contracts see them.
 use Rattle.sched_store.specs.declared.store.Store.TheInside.{Inside}
 use Rattle.sched_store.specs.Parts.{Parts}
 

@@ -1,5 +1,5 @@
--- Representation: what a store keeps, and the core that it stands for: each account of the book is a tenant, with its frames of the table, each
--- with the words of its node.
+-- Representation: what the core's store keeps, and the core that it stands for: each account of the book is a tenant,
+-- with its frames of the table, each with the words of its node.
 use Rattle.std.specs.Prelude.{ℕ, List, [], ◌∷◌, Option}
 use Rattle.cactus_stack.specs.Nodes.{Nodes, node_words}
 use Rattle.tenant_quota.specs.declared.account.Account.{Account}

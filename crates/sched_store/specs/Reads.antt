@@ -1,4 +1,4 @@
--- Representation: what a store tells of its core, beside the views of a core.
+-- Representation: what the core's store tells of its core, beside the views of a core.
 use Rattle.std.specs.Prelude.{◌≡◌, ℕ, ◌+◌, ◌≤◌, Bool, true, false, not, ◌||◌, List, [], ◌∷◌, Option, Some, None, IsSomeAnd}
 use Rattle.tenant_quota.specs.Quota.{Quota}
 use Rattle.frame_table.specs.declared.names.FrameId.{FrameId}
@@ -84,7 +84,7 @@ TenantHasLeft shared number segments nodes = IsSomeAnd (left_in_core shared numb
 abbrev pub TenantHasStepLeft : CoreState → ℕ → Type 0
 TenantHasStepLeft shared number = IsSomeAnd (left_in_core shared number) (λ left. 1 ≤ left.steps)
 
--- each of these tenants has a number above this one
+-- each tenant of a list has a number above this one
 abbrev pub AreAfter : ℕ → List (ℕ × Tenant) → Type 0
 AreAfter number [] = Unit {0}
 AreAfter number (entry ∷ entries) = (number + 1 ≤ entry.0) × AreAfter number entries

@@ -1,4 +1,4 @@
--- Representation: what a store keeps true of its parts.
+-- Representation: what the core's store keeps true of its parts.
 use Rattle.std.specs.Prelude.{◌≡◌, ℕ, ◌+◌, ◌^◌, ◌≤◌, true, List, [], length, Option, Some, None, slice_index_or}
 use Rattle.std.specs.List.{AllByRecursion}
 use Rattle.cactus_stack.specs.Nodes.{Nodes, IsOpen, node_parent, total_charge}
@@ -16,7 +16,7 @@ use Rattle.sched_store.specs.Parts.{Parts, with_words_of_nodes}
 abbrev pub frame_in_trees : List (TenantTree ℕ) → ℕ → ℕ → Option (Frame ℕ)
 frame_in_trees trees number serial = frame_at (frames_of trees number) serial
 
--- the node of a frame, if there is one
+-- the stack's node of a frame, if there is the frame
 abbrev pub node_of : Option (Frame ℕ) → Option ℕ
 node_of None = None
 node_of (Some frame) = Some frame.value
@@ -66,7 +66,7 @@ ArePlaces trees places = (worker number serial : ℕ) (frame : Frame ℕ) → fr
 abbrev pub numbers_in : List (ℕ × Account) → List ℕ
 numbers_in entries = numbers_by owner_of_account entries
 
--- each account's number is at most this
+-- no account of the book has a number above this one
 abbrev pub AreAtMost : ℕ → List (ℕ × Account) → Type 0
 AreAtMost most entries = AllByRecursion (λ entry. entry.0 ≤ most) entries
 

@@ -1,4 +1,4 @@
-//! The jobs of one tenant.
+//! The jobs of one tenant in the core's store.
 ghost use Rattle.std.specs.Prelude.{◌≡◌, ◌+◌, ◌<◌, ◌≤◌, ℕ, List, [], ◌∷◌, ◌++◌, false, length, IfOk, option_copied};
 ghost use Rattle.sched_rules.specs.Trees.{is_live_at, job_at, job_under, with_ended};
 ghost use Rattle.sched_store.specs.JobLists.{is_live};
@@ -37,6 +37,7 @@ impl<A: Allocator> Numbered for JobList<A> {
 
     ghost number_of = { owner_of_jobs };
 
+    /// The number by which the store lists these jobs: their tenant's.
     #[inline(always)]
     fn number(&self) -> u64 {
         self.number
@@ -53,7 +54,7 @@ impl<A: Allocator> JobList<A> {
         Ok(JobList { number, jobs })
     }
 
-    /// How many jobs it has.
+    /// How many jobs the tenant has had.
     pub(crate) fn len(&self) -> usize
         ensures count { result ≡ length self.now.1 }
         ensures few { result ≤ 256 }

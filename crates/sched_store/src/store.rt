@@ -1,4 +1,4 @@
-//! The store, and what it keeps.
+//! The core's store: tenants with their accounts, frames, words and jobs, and what it keeps true of them.
 ghost use Rattle.std.specs.Prelude.{◌≡◌, IfOk, IsTrue};
 ghost use Rattle.frame_table.specs.Frames.{frame_at, has_frame, HasValue};
 ghost use Rattle.frame_table.specs.Tables.{frames_of};
@@ -52,6 +52,7 @@ impl<A: Allocator> Model for Store<A> {
 
 // By hand: were it derived, each crate that holds a store would have to prove again that all its parts are dropped.
 impl<A: Allocator> Drop for Store<A> {
+    /// Drops all parts of the store.
     fn drop(self) {
         let Store {
             alloc: _alloc,
@@ -66,7 +67,7 @@ impl<A: Allocator> Drop for Store<A> {
 }
 
 impl<A: Allocator> Store<A> {
-    /// A store of these totals with no tenant. Takes memory: `AllocError` only where a growth was
+    /// A store of these totals with no tenant. Takes memory: `AllocError` only where memory was
     /// refused.
     pub fn new(alloc: A, config: Config) -> Result<Store<A>, AllocError>
     where
@@ -90,7 +91,7 @@ impl<A: Allocator> Store<A> {
     }
 }
 
-/// The node of a frame that is there.
+/// The node of the stack that holds the words of a frame that is there.
 #[inline(always)]
 fn node_of<A: Allocator>(table: &FrameTable<NodeNo, A>, name: FrameId) -> NodeNo
     requires { IsTrue (has_frame (frames_of table.now name.tenant) name.serial) }

@@ -1,4 +1,4 @@
--- The names that the proofs take of the library, of the crates below and of this crate's definitions, from one place.
+-- The names that the proofs of the region of segments use, imported in one place.
 pub use Rattle.std.proofs.Common.{Bool, IsSome, ap, arith, false, get_or-set_other, get_or-set_same, if◌then◌else◌, replicate, suc, sym, true, zero, ◌-◌, ◌∙◌}
 pub use Rattle.std.proofs.Common.{◌≢◌, ◌≤◌}
 pub use Rattle.std.proofs.Math.ListN.{set}

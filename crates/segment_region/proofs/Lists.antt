@@ -1,4 +1,4 @@
--- What stands in a list after one of its places was written.
+-- What stands in a list, as of a region's places, after one of its places was written.
 use Rattle.segment_region.proofs.Common.{◌≡◌, ℕ, List, [], ◌∷◌, suc, zero, set, replicate, get_or, refl, sym, ap, ◌∙◌}
 
 module _ {A : Type 0} where

@@ -1,4 +1,5 @@
--- Rows of places in memory: one place is taken out and put back, or seen through a `&`, and memory becomes a row and a row memory.
+-- A region's row of places in memory: one place is taken out and put back, or seen through a `&`, and memory becomes a
+-- row and a row memory.
 use Rattle.segment_region.proofs.Common.{◌≡◌, refl, ℕ, ◌+◌, ◌*◌, ◌<◌, zero-mul, suc-mul, List, [], ◌∷◌, length, get_or, Ura, full_share, ty_array, Val, ent, sep, Fml, Lft, ftrue, fsep, fat, froom, Logic, sem, ‵, some, ◌⊛◌, ◌$◌, ◌∵◌, !, qed, by, move, keep, use1, pick, split, join, frame, fsplit, fjoin, rewrite, done, part_at, part_out, Option, Some, None, type_size, El, R, el_x, elτ, place_owned, row_owned, place_lent, row_lent}
 use mathlib.Core.Path.{sym}
 use Prim.Native.Nat.{zero, suc}

@@ -1,4 +1,5 @@
--- The machine values of the owners: a base is one pointer, and the cells and the title take no bytes.
+-- The machine values of the owners of a region's memory: a base is one pointer, and the cells and the title take no
+-- bytes.
 use Rattle.segment_region.proofs.Common.{◌≡◌, refl, subst, ℕ, List, [], ◌∷◌, ◌++◌, Ura, Val, vstruct, vcons, vnil, of_list, ent, emp, sep, Lft, Logic, sem, Item, Goal, Seq, Step, step, ‵, ◌$◌, ◌∵◌, !, qed, move, done, drop as skip, fpick, fpack, fsplit, fjoin, feq_i, feq_l, rewrite, RattleType, Valss, Is, shows, RawPtr, ptr_val, makes_shadow, nothing, peeks, Struct, within, shape, Tuple, tuple_type, El, R, elτ, one, lawful, Good, word, IsFilled}
 use denote.Struct.Declared as Declared
 use Rattle.segment_region.specs.contracts.cells.Base as BaseType

@@ -1,4 +1,5 @@
--- A `&` to the cells can be made of a loan of them, copied, and used for a shorter time: so for each place.
+-- A `&` to the cells of a region's memory can be made of a loan of them, copied, and used for a shorter time: so for
+-- each place.
 use Rattle.segment_region.proofs.Common.{ℕ, ◌+◌, Option, Some, None, type_size, Ura, Lft, Incl, ftrue, ffalse, Logic, RattleType, RowLaws, Laws, Ptr, block_ptr, null_ptr, ShrLaws, said, beside_shr_laws, nothing_shr_laws, said_shr_laws, Shares-less, Lends, Lends-both, Lends-nothing, Lends-said, Lends-false, place_owned, place_lent, row_owned, row_lent, fits, places_owned, places_lent}
 use Rattle.std.specs.Prelude.{List, [], ◌∷◌}
 

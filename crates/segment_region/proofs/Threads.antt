@@ -1,4 +1,4 @@
--- The owners may cross threads where what they own may.
+-- The owners of a region's memory may cross threads where what they own may.
 use Rattle.segment_region.proofs.Common.{Option, Some, None, type_size, full_share, Keyless, RattleType, Ptr, block_ptr, null_ptr, exits_of, shape, fields, to, IsSend, IsSync, Common, AllSend, part_keyless, owning_send, struct_send, struct_sync, sendable, Ghosts, FreesAnywhere, quiet, row_owned, row_lent, places_owned, places_lent}
 use Rattle.std.specs.Prelude.{ℕ, ◌+◌, List, [], ◌∷◌}
 use Rattle.segment_region.specs.contracts.cells.Cells as CellsType

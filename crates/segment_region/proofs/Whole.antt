@@ -1,4 +1,4 @@
--- What taking, giving and linking keep.
+-- What taking, giving and linking segments keep of a region.
 use Rattle.segment_region.proofs.Common.{◌≢◌, true, false, zero, suc, ◌-◌, ◌≤◌, replicate, ap, sym, ◌∙◌, arith, get_or-set_same, get_or-set_other, set, length-replicate, Segment, Segments, IsTaken, IsFree, taken_count, with_block_words, with_segment_words, with_link, IsFilled, WordBlock, place_entry, place_link, segment_of_block, link_in, segments_of_blocks, IsLink, next_of, IsFreeList, IsWhole, Link}
 use Rattle.std.proofs.Common.{◌≡◌, ℕ, ◌+◌, ◌<◌, List, [], ◌∷◌, length, Option, None, Some, get_or, refl, subst}
 use Rattle.std.proofs.lemmas.List.{length-set}

@@ -1,4 +1,4 @@
--- Representation: how a region keeps its entries: a block for each number, whose link words chain the free ones.
+-- Representation: how a region keeps its segments: a block for each number, whose link words chain the free ones.
 use Rattle.std.specs.Prelude.{◌≡◌, ℕ, zero, suc, ◌+◌, ◌<◌, ◌≤◌, Bool, true, false, if◌then◌else◌, List, [], ◌∷◌, length, Option, Some, None, slice_index_or}
 use Rattle.segment_region.specs.Segments.{Segment, Segments, taken_count}
 use Rattle.segment_region.specs.Places.{IsFilled}
@@ -8,7 +8,7 @@ use Rattle.segment_region.specs.declared.cells.Base.{Base}
 use Rattle.segment_region.specs.declared.cells.Cells.{Cells}
 use Rattle.segment_region.specs.declared.cells.Title.{Title}
 
--- a block of sixteen words
+-- a block of a region's memory: sixteen words and a link word
 abbrev pub WordBlock : Type 0
 WordBlock = Block (List ℕ)
 
@@ -40,7 +40,7 @@ abbrev pub place_link : Option WordBlock → Link
 place_link None = record { taken = true; chained = false; next = 0 }
 place_link (Some block) = block.link
 
--- the link word of the block of a number
+-- the link word in the block of the segment with this number
 abbrev pub link_in : List (Option WordBlock) → ℕ → Link
 link_in places number = place_link (slice_index_or places number None)
 

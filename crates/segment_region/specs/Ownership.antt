@@ -1,4 +1,4 @@
--- Representation: what the owner of the places of an allocation owns and lends, at values of the row R.
+-- Representation: what the owner of the places of a region's memory owns and lends, at values of the row R.
 use Rattle.std.specs.Prelude.{ℕ, ◌+◌, ◌*◌, ◌^◌, List, [], ◌∷◌, length, Option, Some, None}
 use Rattle.std.specs.Mem.{type_size}
 use base.Fraction.{full_share}

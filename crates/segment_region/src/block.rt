@@ -1,4 +1,4 @@
-//! A block of the region's memory: sixteen words, and one link word.
+//! A block of a region's memory: the sixteen words of a segment, and one link word.
 ghost use Rattle.std.specs.Prelude.{◌≡◌, replicate};
 
 use crate::slot::SegNo;
@@ -29,7 +29,7 @@ impl Link {
         }
     }
 
-    /// The link word of a block that has this one after it.
+    /// The link word of a block, taken or free, that leads to this next block.
     pub(crate) fn before(taken: bool, next: SegNo) -> Link
         ensures { IsLink result taken (Some next) }
     {
@@ -74,7 +74,7 @@ impl<W> Block<W> {
     ghost use Rattle.std.specs.Borrow.{sem};
     ghost use Rattle.segment_region.specs.Words.{LendsBlockWords};
 
-    /// The words, to be written.
+    /// The sixteen words of the segment, to be written.
     pub(crate) fn words_mut(&mut self) -> &mut W
         ensures* lends { sem 𝓛 (LendsBlockWords W.row self.entry result) }
         ensures value { result.now ≡ self.old.words }

@@ -1,4 +1,4 @@
-//! The memory of a region: one allocation, in places that each hold a block or nothing yet.
+//! The memory of a region of segments: one allocation, in places that each hold a block or nothing yet.
 //!
 //! Who owns what: a [`Base`] is where the places begin, and owns nothing. A [`Cells`] owns the places
 //! and what lies in them, and a `&` or a `&mut` to it is the right to read or to write there. A
@@ -26,6 +26,7 @@ impl<T> Clone for Base<T> {
 
     ghost is_infallible = { λ _. ⊤ };
 
+    /// A copy: it is a mere pointer.
     fn clone(&self) -> Result<Base<T>, AllocError> {
         Ok(*self)
     }

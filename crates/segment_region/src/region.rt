@@ -1,4 +1,4 @@
-//! The region: what may be taken, given back, read and written.
+//! The region of segments (16 words each): what may be taken, given back, read and written.
 ghost use Rattle.std.specs.Prelude.{◌≡◌, ◌+◌, ◌<◌, ◌≤◌, ◌↔◌, ℕ, length, replicate, None, Some, IfOk, IfSome, IfNone, IsNone};
 ghost use Rattle.std.specs.Borrow.{sem};
 ghost use Rattle.segment_region.specs.Segments.{Segments, Segment, IsTaken, IsFree, words_at, link_at, with_entry, with_link, blank, taken_count, segment_count};
@@ -43,6 +43,7 @@ impl<A: Allocator> Model for Region<A> {
 
 // Gives the allocation back, with the blocks in it.
 impl<A: Allocator> Drop for Region<A> {
+    /// Gives the region's memory back to its allocator.
     fn drop(self) {
         let Region {
             base,
@@ -105,7 +106,7 @@ impl<A: Allocator> Region<A> {
         }
     }
 
-    /// Gives a taken segment back.
+    /// Gives a taken segment back: it is free then.
     pub fn give(&mut self, segment: SegNo)
         requires { IsTaken self.old segment }
         ensures { self.new ≡ with_entry self.old segment None }

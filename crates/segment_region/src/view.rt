@@ -1,4 +1,4 @@
-//! A region that is read: what may be seen through a `&` to it, whatever allocator it has.
+//! A region of segments that is read: what may be seen through a `&` to it, whatever allocator it has.
 ghost use Rattle.std.specs.Prelude.{◌≡◌, length};
 ghost use Rattle.segment_region.specs.Segments.{IsTaken, words_at, link_at};
 ghost use Rattle.segment_region.specs.Blocks.{segments_of_blocks, IsReadable};
@@ -41,7 +41,7 @@ impl<'a> RegionView<'a> {
         RegionView { base, mark, cells }
     }
 
-    /// One more view of the same region.
+    /// One more view of the same region, for reading.
     pub fn view(&self) -> RegionView<'a>
         ensures { result ≡ self.now }
     {

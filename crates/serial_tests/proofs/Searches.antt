@@ -1,4 +1,4 @@
--- A list of searches with one step more.
+-- For tests of the core: a list of searches with one step more.
 use Rattle.std.proofs.Common.{List, [], ◌∷◌, ◌++◌}
 use Rattle.sched_rules.specs.declared.step.StepOf.{StepOf}
 use Rattle.jamboree_rules.specs.declared.leaf.LeafAnswer.{LeafAnswer}

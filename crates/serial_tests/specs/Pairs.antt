@@ -1,4 +1,4 @@
--- Representation: a stack with a root and one child of it, as the tests have it.
+-- Representation: a cactus stack with a root and one child of it, as the tests have it.
 use Rattle.std.specs.Prelude.{◌≡◌, ◌≢◌, ℕ, length, Some, None}
 use Rattle.cactus_stack.specs.Nodes.{Nodes, node_at, node_words, node_parent, IsOpen}
 

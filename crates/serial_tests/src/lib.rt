@@ -1,9 +1,9 @@
 //! Tests of all that runs in one thread: storage, cores and halls, lines, boards, searches and sessions.
 //!
 //! What each call does is proved in its crate. No contract can say that a call succeeds where there is room, that no
-//! other call asks the allocator, or that a refused growth gives all back; nor can one tell the known numbers of leaf
+//! other call asks the allocator, or that a call that is refused memory gives all back; nor can one tell the known numbers of leaf
 //! positions from the opening, what comes of readers and writers that fail, or that an answer which comes too late is
-//! noticed. `memory` has heaps of one unit more each time, which refuse each growth in turn; all is looked at afterwards,
+//! noticed. `memory` has heaps of one unit more each time, which refuse each request for memory in turn; all is looked at afterwards,
 //! and once room is given back the same call succeeds. `search` runs searches whose core has little memory, and whole
 //! sessions over memory, with an office of prepared replies. The examples at the heads of the crates stand here too.
 //!

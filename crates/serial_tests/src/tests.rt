@@ -1,3 +1,4 @@
+//! What all tests in one thread use: a test's failure, and heaps of few bytes.
 ghost use Rattle.std.specs.Prelude.{◌≡◌, true};
 
 mod memory;
@@ -10,19 +11,19 @@ use std::alloc::Global;
 use std::process::Abort;
 use tenant_quota::Left;
 
-/// Fails the test where this isn't so. An `assert!` in its place takes the prover twice as long.
+/// Fails the test unless this is true. An `assert!` in its place takes the prover twice as long.
 fn holds(rt: &impl Abort, is: bool)
     ensures { is ≡ true }
 {
     assert!(rt; is);
 }
 
-/// A heap of so many bytes.
+/// A heap that can give so many bytes and no more.
 fn heap_of(rt: &impl Abort, alloc: Global, bytes: usize) -> LocalHeap {
     LocalHeap::new(alloc, bytes).expect(rt, "room for a heap")
 }
 
-/// So much left of a reservation.
+/// What a tenant has left, of these numbers: segments, nodes and steps.
 fn left_of(segments: u32, nodes: u32, steps: u32) -> Left {
     Left {
         segments,
@@ -37,7 +38,7 @@ const OPENING: Board = Board {
     opp: 1 << 27 | 1 << 36,
 };
 
-/// The opening, Black to move.
+/// The opening position of Othello, Black to move.
 fn opening() -> Position {
     Position {
         board: OPENING,

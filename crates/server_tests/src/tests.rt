@@ -1,3 +1,4 @@
+//! What all tests of servers and of sites use: a runtime, a test's failure, readers and writers.
 ghost use Rattle.std.specs.Prelude.{◌≡◌, true};
 
 mod bells;
@@ -18,19 +19,19 @@ pub(crate) trait Host: AllocGlobal + Threads + Wait + Abort {}
 
 impl<R: AllocGlobal + Threads + Wait + Abort> Host for R {}
 
-/// Fails the test where this isn't so. An `assert!` in its place takes the prover twice as long.
+/// Fails the test unless this is true. An `assert!` in its place takes the prover twice as long.
 pub(crate) fn holds(rt: &impl Abort, is: bool)
     ensures { is ≡ true }
 {
     assert!(rt; is);
 }
 
-/// Whether bytes spell this text.
+/// Whether these bytes spell this text.
 pub(crate) fn spell(bytes: &[u8], text: &str) -> bool {
     bytes == text.as_bytes()
 }
 
-/// Whether a fault says this.
+/// Whether the words for this fault are this text.
 pub(crate) fn says(alloc: Global, fault: impl Display + Drop, text: &str) -> bool {
     matches!(format!(in alloc; "{fault}"), Ok(told) if told.as_str() == text)
 }

@@ -1,4 +1,4 @@
--- True replies make true DONE lines and true tables.
+-- A session's DONE and TABLE lines: true replies of its office make true lines.
 use Rattle.session.proofs.Common.{◌≡◌, ℕ, ◌+◌, List, [], ◌∷◌, ◌++◌, length, Bool, true, false, Option, Some, None, refl, sym, ap, ◌∙◌, LineText, Whole, TooLong, Quota, Standing, Pending, Done, Call, Hello, Get, OfficeReply, Welcome, Job, Told, Gone, Form, HelloOf, form_of, Request, Fault, Makes, Tabulates, Ends, request, form_request, quota_of, quota_request, Faulted, Closed, turns, turn_text, reply_text, table_text, calls_in, leaving, next_reply, later_replies, seated_after, calls_for, Asked, asked_at, with_call, asks_after, SaysTrue, ShowsFound, AllTrue, with_request, asks_of_lines, StandingHolds, ReplyHolds, TableHolds, TableReplyHolds, EachDoneIsTrue}
 use Rattle.session.proofs.Served.{next_turns}
 

@@ -1,4 +1,4 @@
--- One entry more among the places of a table.
+-- A session's TABLE line: one entry more among the places of the table.
 use Rattle.session.proofs.Common.{◌≡◌, ℕ, suc, ◌+◌, ◌-◌, ◌<◌, ◌≤◌, List, [], ◌∷◌, ◌++◌, length, take, replicate, slice_set, arith, sym, ap, ap₂, ◌∙◌, subst, length-append, append_assoc, take-append_seam, set-append_seam, Bound, Inside, no_bound, bounds_held, IsHeld}
 
 -- entries in their places

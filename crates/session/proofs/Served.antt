@@ -1,4 +1,4 @@
--- Lines that are answered one after another make a session.
+-- The lines of a client, answered one after another, make a session.
 use Rattle.session.proofs.Common.{◌≡◌, ℕ, List, [], ◌∷◌, ◌++◌, map, Bool, true, false, refl, sym, ap, ap₂, ◌∙◌, subst, Result, Ok, Err, append-nil, concat, WriteFailed, LineText, Leads, Answers, ReadAnswer, WriteAnswer, IsAnswered, written_texts, bytes_due, write_result, Talk, End, Bye, EndOfInput, SessionFault, Read, Write, Call, OfficeReply, is_bye, Request, Fault, Makes, Tabulates, Ends, request, LineTurn, Faulted, Made, Tabulated, Closed, turns, turn_text, calls_in, leaving, by_request, next_reply, later_replies, seated_after, Called, LeavesIf, Turned, Session, IsAnsweredOf, IsWrittenOf, session_lines, talk_result, texts_for, calls_for}
 
 -- the turns of a line that asks for this, and of the lines after it

@@ -1,4 +1,4 @@
--- Sessions over an office that keeps its asks.
+-- Sessions over an office that keeps what its tenant asked for.
 use Rattle.session.proofs.Common.{◌≡◌, List, [], ◌∷◌, ap, subst, Result, Leads, ReadAnswer, WriteAnswer, End, SessionFault, Call, OfficeReply, Called, Session, calls_for, Asked, asks_after, KeepsAsks, AllTrue, TrueSession}
 use Rattle.session.proofs.DoneLemmas.{each-done}
 

@@ -1,4 +1,5 @@
--- Meaning: an office that replies to each call in its own kind, keeps what its tenant asked for, and shows the values of just that.
+-- Meaning: a session's office that replies to each call in its own kind, keeps what its tenant asked for, and shows
+-- the values of just that.
 use Rattle.std.specs.Prelude.{◌≡◌, ◌⊎◌, ℕ, ◌+◌, ◌-◌, ◌==◌, List, [], ◌∷◌, ◌++◌, length, Option, Some, None, if◌then◌else◌, Contains}
 use Rattle.othello_board.specs.declared.cells.Cell.{Cell}
 use Rattle.othello_eval.specs.Minimax.{minimax, best_choice}
@@ -14,7 +15,7 @@ pub record Asked : Type 0 where
   pub board : List Cell
   pub depth : ℕ
 
--- these asks, and what this call asks for after them if it is an Ask
+-- what was asked so far, and what this call asks for after it if it is an Ask
 abbrev pub with_call : List Asked → Call → List Asked
 with_call asks (Ask depth board side) = asks ++ record { board = board; depth = depth } ∷ []
 with_call asks _ = asks
@@ -96,7 +97,7 @@ IsOfficeReplyTo call (Alive live) = call ≡ AskLive
 IsOfficeReplyTo call Gone = call ≡ Leave
 IsOfficeReplyTo call (Refused number) = Unit {0}
 
--- what a call of an office that keeps its asks may reply, by the asks before and after it
+-- what an office that keeps its tenant's asks may reply to this call; the asks before and after it are given
 abbrev pub KeepsAsks : List Asked → Call → OfficeReply → List Asked → Type 0
 KeepsAsks asks call reply asks' = (asks' ≡ asks_after asks call reply) × SaysTrue asks reply × IsRefusedWhere asks call reply × IsOfficeReplyTo call reply
 

@@ -1,4 +1,4 @@
--- Meaning: what a session asks of its office, and what the office replies.
+-- Meaning: what a session asks of its office (the tenant's side of the desk), and what the office replies.
 use Rattle.std.specs.Prelude.{ℕ, List, Result, Ok, Err}
 use Rattle.othello_board.specs.declared.cells.Cell.{Cell}
 use Rattle.othello_board.specs.declared.position_text.positions.Side.{Side}
@@ -9,7 +9,7 @@ use Rattle.sched_rules.specs.Refusals.{refusal_number}
 use Rattle.session.specs.declared.standings.Standing.{Standing}
 use Rattle.session.specs.declared.standings.Live.{Live}
 
--- a call of the office
+-- a call that a session makes of its office
 pub data Call : Type 0 where
   Hello : (quota : Quota) → Call
   Reserve : (quota : Quota) → Call

@@ -16,7 +16,7 @@ use Rattle.session.specs.Requests.{Request, Makes, request}
 use Rattle.session.specs.Turns.{LineTurn, Made, Tabulated, turns, turn_text}
 use Rattle.session.specs.Sessions.{Session}
 
--- these asks, and what this request asks for after them if it is an ask
+-- what was asked so far, and what this line asks for after it if it is an ASK
 abbrev pub with_request : List Asked → Request → List Asked
 with_request asks (Makes call) = with_call asks call
 with_request asks _ = asks

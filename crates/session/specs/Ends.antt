@@ -1,4 +1,4 @@
--- Meaning: the numbers of the faults of a session.
+-- Meaning: the numbers of the faults by which a session ends.
 use Rattle.std.specs.Prelude.{ℕ}
 use Rattle.session.specs.declared.faults.SessionFault.{SessionFault}
 use Rattle.session.specs.declared.faults.SessionFault.TheVariants.{Read, Write}

@@ -1,4 +1,4 @@
--- Meaning: the words of a line: a command, and its arguments.
+-- Meaning: the words of a session's line: a command, and its arguments.
 use Rattle.std.specs.Prelude.{ℕ, List, Option, Some, None, Bool, ◌&&◌, false, if◌then◌else◌, codes}
 use Rattle.std.specs.Option.{is_none}
 use Rattle.std.specs.Str.{bytes_eq}
@@ -19,7 +19,7 @@ pub data Form : Type 0 where
   LiveForm : Form
   ByeForm : Form
 
--- the command of a line of one word; None unless it is one of these
+-- the command of a line of one word; None where that is no command without arguments
 abbrev pub bare_form : List ℕ → Option Form
 bare_form word =
     if bytes_eq word (codes "QUOTA") then Some QuotaForm

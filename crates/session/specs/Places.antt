@@ -1,4 +1,4 @@
--- Representation: how the entries of a table lie in their places.
+-- Representation: how the entries of a session's TABLE line lie in their places.
 use Rattle.std.specs.Prelude.{◌≡◌, pos, ◌-◌, ◌≤◌, List, ◌++◌, length, take, replicate}
 use Rattle.othello_moves.specs.declared.choices.Choice.TheVariants.{Pass}
 use Rattle.othello_eval.specs.declared.bound.Bound.{Bound}

@@ -27,23 +27,24 @@ ask_request (Err fault) = Fault fault
 abbrev pub is_within_limits : ℕ → ℕ → Bool
 is_within_limits segments nodes = nat_le 1 segments && nat_le segments 4096 && nat_le 1 nodes && nat_le nodes 65536
 
--- what is reserved; None unless both amounts are numbers within the limits
+-- the amounts of segments and nodes that a line HELLO or RESERVE says; None unless both are numbers within the limits
 abbrev pub quota_of : Option ℕ → Option ℕ → Option Quota
 quota_of None nodes = None
 quota_of (Some segments) None = None
 quota_of (Some segments) (Some nodes) = if is_within_limits segments nodes then Some (record { segments = segments; nodes = nodes }) else None
 
--- this call with a reservation; where there is none, fault 23: an amount is no number or outside the limits
+-- what a line HELLO or RESERVE asks for: this call with the reservation that it says; fault 23 where an amount is no
+-- number or outside the limits
 abbrev pub quota_request : (Quota → Call) → Option Quota → Request
 quota_request call None = Fault NoNumber
 quota_request call (Some quota) = Makes (call quota)
 
--- what is asked of the job of this number; fault 23 where the argument is no number
+-- what a line about a job asks for, by the job's number; fault 23 where that is no number
 abbrev pub job_request : (ℕ → Request) → Option ℕ → Request
 job_request asked None = Fault NoNumber
 job_request asked (Some job) = asked job
 
--- what a command asks for, where a tenant is there
+-- what a command of a session's line asks for, where a tenant is there
 abbrev pub seated_request : Form → Request
 seated_request (HelloOf segments nodes) = Fault HelloAgain
 seated_request (ReserveOf segments nodes) = quota_request Reserve (quota_of segments nodes)
@@ -56,7 +57,7 @@ seated_request QuotaForm = Makes AskQuota
 seated_request LiveForm = Makes AskLive
 seated_request ByeForm = Ends
 
--- what a command asks for, where no tenant is there: fault 28 for all but HELLO and BYE
+-- what a command of a session's line asks for, where no tenant is there: fault 28 for all but HELLO and BYE
 abbrev pub early_request : Form → Request
 early_request (HelloOf segments nodes) = quota_request Hello (quota_of segments nodes)
 early_request ByeForm = Ends

@@ -1,4 +1,4 @@
--- Meaning: a whole session: what was read, the calls of the office, and what was written.
+-- Meaning: a whole session with a client: what was read, the calls of the office, and what was written.
 use Rattle.std.specs.Prelude.{◌≡◌, ℕ, List, ◌++◌, map, Bool, true, false, Result, Ok, Err}
 use Rattle.std.specs.List.{concat}
 use Rattle.line_io.specs.declared.faults.LineFault.{LineFault}
@@ -31,7 +31,7 @@ session_lines bytes = upto is_bye (lines_of bytes)
 abbrev pub calls_for : List LineText → List OfficeReply → List (Call × OfficeReply)
 calls_for lines replies = calls_in false (turns false lines replies)
 
--- the answers to these lines
+-- the texts that answer these lines of a session, where the office replies so
 abbrev pub texts_for : List LineText → List OfficeReply → List (List ℕ)
 texts_for lines replies = map turn_text (turns false lines replies)
 
@@ -43,7 +43,7 @@ calls bytes replies = calls_for (session_lines bytes) replies
 abbrev pub out : List ℕ → List OfficeReply → List ℕ
 out bytes replies = written_texts (texts_for (session_lines bytes) replies)
 
--- the office does this call and gives this reply
+-- the office does this call and gives this reply, by which it changes from the one state to the other
 abbrev pub Called : {O : Type 0} → (O → Call → OfficeReply → O → Type 0) → O → Call × OfficeReply → O → Type 0
 Called does from made to = does from made.0 made.1 to
 

@@ -68,18 +68,18 @@ calls_in seated (Made call reply ∷ more) = (call, reply) ∷ calls_in (seated_
 calls_in seated (Tabulated job reply ∷ more) = (Get job, reply) ∷ calls_in (seated_after seated reply) more
 calls_in seated (Closed ∷ more) = leaving seated ++ calls_in false more
 
--- two numbers and a space between them
+-- the text of two numbers with a space between them
 abbrev pub pair_text : ℕ → ℕ → List ℕ
 pair_text first second = decimal first ++ codes " " ++ decimal second
 
--- the text that tells how a job stands
+-- the answer that tells how a job stands
 abbrev pub standing_text : ℕ → Standing → List ℕ
 standing_text job Pending = codes "PENDING " ++ decimal job
 standing_text job (Done analysis) = codes "DONE " ++ decimal job ++ codes " " ++ value_text analysis.best.value analysis.best.choice
 standing_text job Spent = codes "SPENT " ++ decimal job
 standing_text job Cancelled = codes "CANCELLED " ++ decimal job
 
--- the text of a reply
+-- the answer that tells a reply of the office
 abbrev pub reply_text : OfficeReply → List ℕ
 reply_text (Welcome quota) = codes "WELCOME " ++ pair_text quota.segments quota.nodes
 reply_text (Reserved quota) = codes "RESERVED " ++ pair_text quota.segments quota.nodes
@@ -101,7 +101,7 @@ kind_text High = codes ">"
 abbrev pub entry_text : Bound → List ℕ
 entry_text bound = codes " " ++ move_text (Some bound.choice) ++ kind_text bound.kind ++ signed_decimal bound.score
 
--- the entries, one after another
+-- the text of a table's entries, one after another
 abbrev pub entries_text : List Bound → List ℕ
 entries_text [] = []
 entries_text (bound ∷ more) = entry_text bound ++ entries_text more
@@ -111,12 +111,12 @@ abbrev pub table_standing_text : ℕ → Standing → List ℕ
 table_standing_text job (Done analysis) = codes "TABLE " ++ decimal job ++ entries_text analysis.bounds
 table_standing_text job standing = standing_text job standing
 
--- the text of a reply to TABLE
+-- the answer to a line TABLE, by the office's reply
 abbrev pub table_text : OfficeReply → List ℕ
 table_text (Told job standing) = table_standing_text job standing
 table_text reply = reply_text reply
 
--- the text by which a line is answered
+-- the text by which a line of a session is answered
 abbrev pub turn_text : LineTurn → List ℕ
 turn_text (Faulted fault) = error_text (fault_number fault)
 turn_text (Made call reply) = reply_text reply

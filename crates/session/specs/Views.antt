@@ -1,4 +1,4 @@
--- Representation: the types of the code as data.
+-- Representation: the types of the session's code as data.
 use Rattle.othello_board.specs.Words.{cells}
 use Rattle.session.specs.declared.forms.Form.{Form as Formed}
 use Rattle.session.specs.declared.forms.Form.TheVariants.{Hello as hello, Reserve as reserve, Ask as ask, Get as get, Wait as wait, Cancel as cancel, Table as table, Quota as quota, Live as live, Bye as bye}
@@ -8,7 +8,7 @@ use Rattle.session.specs.Calls.{Hello, Reserve, Ask, Get, Wait, Cancel, AskQuota
 use Rattle.session.specs.Forms.{Form, HelloOf, ReserveOf, AskOf, GetOf, WaitOf, CancelOf, TableOf, QuotaForm, LiveForm, ByeForm}
 use Rattle.session.specs.Requests.{Request, Fault, Makes, Tabulates, Ends}
 
--- a command of the code as the contracts see it
+-- a command of a session's line as the contracts see it, from the type of the code
 abbrev pub form_seen : Formed → Form
 form_seen (hello segments nodes) = HelloOf segments nodes
 form_seen (reserve segments nodes) = ReserveOf segments nodes
@@ -21,7 +21,7 @@ form_seen quota = QuotaForm
 form_seen live = LiveForm
 form_seen bye = ByeForm
 
--- a request of the code as the contracts see it
+-- what a session's line asks for, as the contracts see it, from the type of the code
 abbrev pub request_seen : Requested → Request
 request_seen (fault met) = Fault met
 request_seen (to_hello amounts) = Makes (Hello amounts)

@@ -1,4 +1,4 @@
-//! The entries of a table.
+//! The entries of a session's TABLE line.
 ghost use Rattle.std.specs.Prelude.{◌≡◌, ◌≤◌, ◌<◌, [], ◌∷◌, ◌++◌, length};
 
 use othello_eval::{Bound, BoundKind};
@@ -48,7 +48,7 @@ impl Bounds {
         count: 0,
     };
 
-    /// Appends an entry.
+    /// Appends an entry to the table.
     pub fn push(&mut self, bound: Bound)
         requires { length self.old < 64 }
         ensures { self.new ≡ self.old ++ bound ∷ [] }
@@ -57,7 +57,7 @@ impl Bounds {
         self.count += 1;
     }
 
-    /// The entries, in order.
+    /// The table's entries, in order.
     pub fn as_slice(&self) -> &[Bound]
         ensures entries { result.now ≡ self.now }
         ensures few { length result.now ≤ 64 }

@@ -1,4 +1,4 @@
-//! How a session ends.
+//! How a session with a client ends.
 ghost use Rattle.std.specs.Prelude.{◌≡◌};
 ghost use Rattle.session.specs.Ends.{session_fault_number};
 
@@ -25,7 +25,7 @@ pub enum SessionFault {
 }
 
 impl SessionFault {
-    /// The number of the fault, 1 or 2.
+    /// The fault's number: 1 after a failed read, 2 after a failed write.
     pub fn number(self) -> u8
         ensures { result ≡ session_fault_number self }
     {

@@ -1,4 +1,4 @@
-//! The words of a line: a command, and its arguments.
+//! The words of a session's line: a command, and its arguments.
 ghost use Rattle.std.specs.Prelude.{◌≡◌, option_map};
 ghost use Rattle.session.specs.Forms.{form_of, bare_form, form_of_one, form_of_two};
 ghost use Rattle.session.specs.Views.{form_seen};

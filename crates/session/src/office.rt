@@ -1,4 +1,4 @@
-//! What a session asks of.
+//! What a session asks of: its office, the tenant's side of the desk.
 ghost use Rattle.std.specs.Prelude.{◌≡◌, Bool, true};
 ghost use Rattle.othello_board.specs.Words.{cells};
 ghost use Rattle.session.specs.Calls.{Call, Hello, Reserve as to_reserve, Ask, Get, Wait, Cancel, AskQuota, AskLive, Leave, OfficeReply, Welcome, Reserved, Job, Told, Ended, Rest, Alive, Gone, reply_of};

@@ -1,4 +1,4 @@
-//! What a line asks for, or its first fault.
+//! What a session's line asks for, or its first fault.
 ghost use Rattle.std.specs.Prelude.{◌≡◌};
 ghost use Rattle.line_io.specs.Views.{text_of};
 ghost use Rattle.protocol.specs.Questions.{question};

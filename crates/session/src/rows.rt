@@ -1,5 +1,6 @@
-//! The definitions of requests and sessions, tried on worked lines: each contract is computed from the definitions alone.
-//! LF is 10, CR is 13.
+//! The definitions of requests and sessions, tried on worked lines: each contract is computed from the definitions
+//! alone. LF is 10, CR is 13. The numbers of HELLO and RESERVE are segments and nodes; faults are 21 to 29, and
+//! refusals 1 to 20.
 #![tactic(auto, unfolding(crate::proofs::Common::digits, crate::proofs::Common::squares))]
 
 ghost use Rattle.std.specs.Prelude.{◌≡◌, [], ◌∷◌, ◌++◌, replicate, length, codes, pos, negsuc, Some, None, true, false};
@@ -18,7 +19,7 @@ ghost use Rattle.session.specs.Sessions.{calls, out};
 ghost use Rattle.session.specs.DoneLines.{asks_of_lines, TurnHolds};
 ghost use Rattle.session.specs.Rows.{opening_board, found, faulted};
 
-/// Each command, where a tenant is there, and HELLO where none is. Numbers may begin with zeros.
+/// Each command of a session's line, where a tenant is there, and HELLO where none is. Numbers may begin with zeros.
 pub fn commands_are_read()
     ensures hello { request false (Whole (codes "HELLO 4 8")) ≡ Makes (Hello (record { segments = 4; nodes = 8 })) }
     ensures reserve { request true (Whole (codes "RESERVE 8 8")) ≡ Makes (Reserve (record { segments = 8; nodes = 8 })) }
@@ -35,7 +36,8 @@ pub fn commands_are_read()
     ensures early_bye { request false (Whole (codes "BYE")) ≡ Ends }
 {}
 
-/// Lines that are no command with its arguments, whether a tenant is there or not.
+/// Lines of a session that are no command with its arguments: 22 for one too long, 21 for any other, whether a tenant
+/// is there or not.
 pub fn foreign_lines_are_faults()
     ensures long { faulted (request true TooLong) ≡ Some 22 }
     ensures empty { faulted (request true (Whole (codes ""))) ≡ Some 21 }
@@ -51,7 +53,8 @@ pub fn foreign_lines_are_faults()
     ensures longest { faulted (request true (Whole (replicate 128 65))) ≡ Some 21 }
 {}
 
-/// The first fault of each line: the tenant before the numbers, a depth before its position.
+/// The first fault of each line of a session. Where it may have two, it is 28 (no HELLO yet) or 29 (HELLO again) before
+/// 23 (a number), and a depth's fault (23 or 27) before its position's (24 to 26).
 pub fn faults_come_in_order()
     ensures before_hello { faulted (request false (Whole (codes "GET 1"))) ≡ Some 28 }
     ensures reserve_before_hello { faulted (request false (Whole (codes "RESERVE x 1"))) ≡ Some 28 }
@@ -109,7 +112,8 @@ pub fn a_refused_hello()
         ≡ codes "ERR 14" ++ 10 ∷ codes "WELCOME 4 8" ++ 10 ∷ codes "ERR 29" ++ 10 ∷ codes "ERR 17" ++ 10 ∷ [] }
 {}
 
-/// The end of the input ends a line too, and a line that an LF ends may be `ASK 0 `.
+/// The end of the input ends a line too: the last line, `ASK 0 ` without an LF, is answered by fault 24, as it has no
+/// position, and then the tenant leaves.
 pub fn a_last_line_without_an_end()
     ensures calls { calls (codes "HELLO 4 8" ++ 10 ∷ codes "ASK 0 ") (Welcome (record { segments = 4; nodes = 8 }) ∷ [])
         ≡ (Hello (record { segments = 4; nodes = 8 }), Welcome (record { segments = 4; nodes = 8 })) ∷ (Leave, Gone) ∷ [] }
@@ -127,7 +131,8 @@ pub fn asks_are_counted()
     ensures left { asks_of_lines ((Whole (codes "BYE"), codes "BYE") ∷ (Whole (codes "ASK 0 ---------------------------OX------XO--------------------------- X"), codes "JOB 1") ∷ []) ≡ [] }
 {}
 
-/// A tenant reserves more, and then would have less. Its asks stay.
+/// A tenant with 8 segments and 1 node reserves 8 of each, and then would have 4 segments, which is refused by 20
+/// (Lower).
 pub fn more_is_reserved()
     ensures calls { calls (codes "HELLO 8 1" ++ 10 ∷ codes "RESERVE 8 8" ++ 10 ∷ codes "RESERVE 4 8" ++ 10 ∷ [])
         (Welcome (record { segments = 8; nodes = 1 }) ∷ Reserved (record { segments = 8; nodes = 8 }) ∷ Refused 20 ∷ [])

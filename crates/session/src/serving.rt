@@ -1,4 +1,4 @@
-//! Serving a session from its first line to its last.
+//! Serving a session with a client from its first line to its last.
 ghost use Rattle.std.specs.Prelude.{◌≡◌, ◌≢◌, Err, true, false};
 ghost use Rattle.line_io.specs.Views.{text_of};
 ghost use Rattle.session.specs.Forms.{is_bye};
@@ -49,7 +49,7 @@ impl<O: Office> LineAnswerer for Handler<'_, O> {
         self.text.push(LF);
     }
 
-    /// The last answer, with its LF.
+    /// The text of the last answer, with its LF.
     fn text(&self) -> &[u8] {
         self.text.as_slice()
     }

@@ -1,4 +1,4 @@
-//! What an office tells of a job, and of what its tenant has.
+//! What a session's office tells of a job, and of what its tenant has.
 use crate::bounds::Bounds;
 use othello_eval::Valued;
 

@@ -1,4 +1,4 @@
-//! The texts of replies, each without LF. Each function writes over the last answer.
+//! The texts of a session's replies, each without LF. Each function writes over the last answer.
 ghost use Rattle.std.specs.Prelude.{◌≡◌, ◌+◌, ◌≤◌, [], ◌∷◌, ◌++◌, length, codes, decimal};
 ghost use Rattle.protocol.specs.Texts.{error_text, value_text};
 ghost use Rattle.session.specs.Calls.{Welcome, Reserved, Job, Told, Ended, Rest, Alive, reply_of};
@@ -110,7 +110,7 @@ fn push_entry(text: &mut SessionText, bound: &Bound)
     push_value(text, bound.score);
 }
 
-/// Appends the entries of a table.
+/// Appends the entries of a table to a TABLE line.
 fn push_entries(text: &mut SessionText, bounds: &[Bound])
     requires few { length bounds.now ≤ 64 }
     requires room { length text.old.items ≤ 26 }
@@ -142,7 +142,7 @@ fn write_table_standing(text: &mut SessionText, job: u64, standing: &Standing)
     }
 }
 
-/// Writes ERR and this number.
+/// Writes the answer `ERR` and this number.
 pub(crate) fn write_fault(text: &mut SessionText, number: u8)
     ensures text { text.new.items ≡ error_text number }
     ensures short { length text.new.items ≤ 72 }
@@ -254,7 +254,7 @@ pub(crate) fn write_live(text: &mut SessionText, reply: Result<Live, Refusal>)
     }
 }
 
-/// Writes the answer to BYE.
+/// Writes the answer to the line BYE.
 pub(crate) fn write_bye(text: &mut SessionText)
     ensures text { text.new.items ≡ codes "BYE" }
     ensures short { length text.new.items ≤ 72 }

@@ -45,7 +45,7 @@ fn take_hello<O: Office>(
 // The office's reply to `get` or `wait` has 800 bytes, and a function that holds one pays for them at its entry. So
 // each such call has a function of its own, and other requests don't pay.
 
-/// Answers GET: how the job stands.
+/// Answers a line GET: how the job stands.
 fn tell_job<O: Office>(office: &mut O, text: &mut SessionText, job: u64)
     ensures turn { (seated : Bool) → Turned O.does (request_seen (Request.Get job)) office.old seated text.new.items office.new seated }
     ensures short { length text.new.items ≤ 1114 }

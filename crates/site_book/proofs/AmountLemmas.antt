@@ -1,4 +1,4 @@
--- Amounts, added and compared.
+-- For the book of a site's customers: amounts (of sessions, segments and nodes), added and compared.
 use Rattle.site_book.proofs.Common.{◌≡◌, true, arith, nat_tests, Amount, nothing, plus, IsAmountWithin, is_amount_within, is_same}
 
 -- what the tests of amounts tell; a sum is no less than its second part

@@ -1,4 +1,4 @@
--- What a book's calls leave in its fields.
+-- What the calls of the book of a site's customers leave in its fields.
 use Rattle.site_book.proofs.Common.{◌≡◌, ℕ, ◌<◌, ◌≤◌, Bool, true, false, cond, List, [], ◌∷◌, ◌++◌, length, get_or, set, Option, Some, None, Result, Ok, is_ok, refl, ap, sym, ◌∙◌, subst, inl, inr, arith, if◌then◌else◌, IfNone, cases_lt, remove, Quota, Amount, Grant, Group, All, BookRefusal, Gone, Lower, Who, nothing, of_one, plus, minus, IsAmountWithin, PlanOf, is_in, used, grant_place, grant_of, grants_without, grants_raised, is_no_raise, BookOf, why_over, why_no_raise, why_not_replan, IsKept}
 use Rattle.site_book.proofs.GrantLemmas.{IsPlace, place-is, place-none, without-none, used-removed}
 use Rattle.site_book.proofs.Keepings.{kept-open, kept-raise, kept-replan}

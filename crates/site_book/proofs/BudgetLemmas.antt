@@ -1,4 +1,4 @@
--- Nothing is refused exactly where everything that is needed is left.
+-- The book of a site's customers refuses nothing exactly where everything that is needed is left.
 use Rattle.site_book.proofs.Common.{◌≡◌, ℕ, true, false, List, Some, None, refl, arith, ltb-false, le-ltb, eqb-false, eq-eqb, ne_eqb, or_parts, or_from, and_right, and_parts, and_from, Quota, IsAbove, Grant, Group, Own, Network, Guests, All, Who, same_who, is_guest, network_of, of_one, plus, IsAmountWithin, PlanOf, limit_of, is_in, used, grants_without, is_no_raise, is_beyond_part, why_over, why_no_raise, HasBudgetFor, MayGrow}
 use Rattle.site_book.proofs.AmountLemmas.{within-test, test-within}
 use Rattle.site_book.proofs.NameLemmas.{same-is, is-same, in-own}

@@ -1,4 +1,4 @@
--- What comes of who asks for a session, and of another plan.
+-- At the book of a site's customers: what comes of who asks for a session, and of another plan.
 use Rattle.site_book.proofs.Common.{◌≡◌, ℕ, suc, ◌+◌, ◌-◌, ◌<◌, ◌≤◌, ◌⊎◌, inl, inr, Bool, true, false, length-append, List, [], ◌∷◌, ◌++◌, length, Option, Some, None, refl, ap, ◌∙◌, subst, append_assoc, arith, Contains, cases_Bool, and_parts, not-true, ltb-true, is_some, is_none, Grant, BookRefusal, OverGuests, is_guest, PlanOf, IsKept, Enters, Ends, Refused, Told as those_told, Idle as those_idle, Present, ByPlan, first_told, is_idle, idler, idlest, remaining, by_book, unless_idle, stays, told_by, told_unless, with_staying}
 use Rattle.site_book.proofs.Keepings.{kept-open}
 use Rattle.site_book.specs.declared.present.Told.{Told}

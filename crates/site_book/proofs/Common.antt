@@ -1,4 +1,4 @@
--- The names that the proofs take of the library, of the crates below and of this crate's definitions, from one place.
+-- The names that the proofs of the book of a site's customers use, imported in one place.
 pub use Rattle.std.proofs.Common.{Bool, Contains, List, None, Ok, Option, Result, Some, [], add-zero, ap, append_assoc, arith, cond, drop, eqb, false, get_or}
 pub use Rattle.std.proofs.Common.{inl, inr, is_ok, leb, length, length-append, ltb, not, refl, rules, set, subst, suc, sym, true, zero-add, ℕ, ◌&&◌, ◌*◌, ◌++◌}
 pub use Rattle.std.proofs.Common.{◌+◌, ◌-◌, ◌<◌, ◌||◌, ◌∙◌, ◌∷◌, ◌≡◌, ◌≤◌, ◌⊎◌}

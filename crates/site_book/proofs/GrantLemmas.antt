@@ -1,4 +1,5 @@
--- What a new grant, a raise and an end leave of what some grants have together.
+-- In the book of a site's customers: what a new grant (a session's entry), a raise and an end leave of what some
+-- grants have together.
 use Rattle.site_book.proofs.Common.{◌≡◌, ℕ, suc, ◌<◌, ◌≤◌, Bool, true, false, ◌&&◌, ◌||◌, cond, List, [], ◌∷◌, ◌++◌, length, get_or, set, ltb, Some, None, refl, arith, nat_tests, is_some, remove, Quota, Amount, Grant, Group, All, Who, nothing, of_one, plus, IsAmountWithin, is_in, used_by, used, is_held_as, grant_place, grant_of, grants_without, grants_raised}
 use Rattle.site_book.proofs.AmountLemmas.{plus-swap, plus-group, within-same, within-plus, within-more}
 

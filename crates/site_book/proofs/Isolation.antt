@@ -1,4 +1,4 @@
--- What others do changes nothing for customers who share no budget with them.
+-- In the book of a site's customers: what others do changes nothing for customers who share no budget with them.
 use Rattle.site_book.proofs.Common.{◌≡◌, ℕ, Bool, true, false, not, ◌&&◌, cond, List, [], ◌∷◌, Option, Some, None, refl, ap, sym, ◌∙◌, inl, inr, arith, cases_Bool, and_parts, and_from, is_none, Quota, Amount, Grant, Group, Own, Network, Guests, BookRefusal, OverBudget, OverNetwork, OverGuests, Lower, Who, Named, same_who, is_guest, network_of, of_one, plus, is_amount_within, PlanOf, limit_of, is_in, used, grants_without, is_no_raise, BookOf, BookEvent, Opens, Raises, Closes, Replans, first_refusal, why_over, why_no_raise, part_over, are_within, why_not_replan, answer_of_book, taken, book_after_answer, book_after, book_after_events, is_of, is_event_kept, only_events, answers_of, grants_of}
 use Rattle.site_book.proofs.NameLemmas.{same-is}
 use Rattle.site_book.proofs.BudgetLemmas.{IsPart}

@@ -1,4 +1,4 @@
--- Each event leaves all budgets kept.
+-- Each event in the book of a site's customers leaves all within their budgets.
 use Rattle.site_book.proofs.Common.{◌≡◌, ℕ, ◌≤◌, true, false, List, [], ◌∷◌, ◌++◌, length, Option, Some, None, refl, ap, ◌∙◌, inl, inr, ◌⊎◌, arith, cases_Bool, and_parts, and_from, and_right, is_none, Quota, Grant, Group, Own, Network, Guests, All, BookRefusal, Who, is_guest, network_of, nothing, IsAmountWithin, PlanOf, limit_of, sums_fit, is_in, used, grant_of, grants_without, grants_raised, BookOf, BookEvent, Opens, Raises, Closes, Replans, why_over, why_no_raise, is_over, part_over, are_within, why_not_replan, answer_of_book, taken, book_after_answer, book_after, HasBudgetFor, IsKept}
 use Rattle.site_book.proofs.AmountLemmas.{within-test, test-within, within-trans, within-nothing, same-is_same, same-self}
 use Rattle.site_book.proofs.NameLemmas.{same-is, in-own}

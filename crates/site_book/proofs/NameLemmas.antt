@@ -1,4 +1,4 @@
--- Who is the same as whom.
+-- Whose a site's session is: who is the same as whom.
 use Rattle.site_book.proofs.Common.{◌≡◌, true, arith, Own, Who, same_who, is_in}
 
 pub same-is : (a b : Who) → same_who a b ≡ true → a ≡ b

@@ -1,4 +1,4 @@
--- Lemmas that attributes name.
+-- The lemmas that attributes of the code of a site's book name, for the search rules of its proofs.
 use Rattle.site_book.proofs.GrantLemmas.{there-is}
 use Rattle.site_book.proofs.BookLemmas.{gone-why, found-held, raise-is, place-there, raised-list, removed-list, kept-list}
 use Rattle.site_book.proofs.Keepings.{comes-in, kept-replan, let-in, kept-new}

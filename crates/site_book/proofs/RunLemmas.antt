@@ -1,4 +1,4 @@
--- What holds after each list of events.
+-- What holds of the book of a site's customers after each list of events.
 use Rattle.site_book.proofs.Common.{◌≡◌, ℕ, true, List, [], ◌∷◌, ◌++◌, Option, Some, None, refl, ap, ◌∙◌, subst, arith, Quota, Amount, Grant, All, BookRefusal, Who, of_one, plus, IsAmountWithin, PlanOf, used, grant_of, grants_without, grants_raised, BookOf, BookEvent, why_over, why_no_raise, answer_of_book, book_after_answer, book_after, book_after_events, answers, Name, names_without, open_after, still_open, names_granted, IsKept}
 use Rattle.site_book.proofs.GrantLemmas.{used-push, used-with-ask}
 use Rattle.site_book.proofs.BudgetLemmas.{grow-from}

@@ -1,4 +1,5 @@
--- Where each part is within its budget, and the budgets fit, all sessions together are within the totals.
+-- In the book of a site's customers: where each part is within its budget, and the budgets fit, all sessions together
+-- are within the totals of the hall.
 use Rattle.site_book.proofs.Common.{◌≡◌, ℕ, suc, ◌+◌, ◌-◌, ◌≤◌, Bool, true, false, ◌&&◌, ◌||◌, leb, eqb, List, [], ◌∷◌, get_or, refl, sym, subst, inl, inr, zero-add, add-zero, arith, cases_Bool, and_parts, leb-true, le-leb, eq-eqb, Amount, Grant, Group, Own, Guests, All, Who, Named, V4, V6, same_who, is_guest, nothing, plus, sum_of, is_amount_within, IsAmountWithin, PlanOf, limit_of, sums_fit, is_in, used_by, used}
 use Rattle.site_book.proofs.AmountLemmas.{within-test, within-trans, within-same, within-more, within-both, plus-swap}
 use Rattle.site_book.proofs.GrantLemmas.{used-split, used-alike}

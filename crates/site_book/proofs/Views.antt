@@ -1,4 +1,4 @@
--- What some customers see of the grants.
+-- What some customers of a site see of the grants in its book.
 use Rattle.site_book.proofs.Common.{◌≡◌, ℕ, Bool, true, false, List, [], ◌∷◌, ◌++◌, refl, arith, and_parts, Quota, Grant, Who, used_by, is_held_as, grant_of, grants_without, grants_raised, grants_of}
 use Rattle.site_book.proofs.NameLemmas.{same-is}
 

@@ -1,4 +1,4 @@
--- Meaning: what must be left for a session and for a raise, in plain numbers.
+-- Meaning: what must be left in the book of a site's customers for a session and for a raise, in plain numbers.
 use Rattle.std.specs.Prelude.{◌≡◌, ℕ, true, List}
 use Rattle.tenant_quota.specs.Quota.{Quota, IsAbove}
 use Rattle.site_book.specs.declared.held.Grant.{Grant}
@@ -9,8 +9,8 @@ use Rattle.site_book.specs.Amounts.{of_one, plus, IsAmountWithin}
 use Rattle.site_book.specs.Plans.{PlanOf, budget_of}
 use Rattle.site_book.specs.Grants.{used, grants_without}
 
--- so much more than what the customer has is within its budget; and of a guest, than what those of its wider network and all guests have
--- within theirs
+-- a customer's budget has room for so much more than what the customer has; and for a guest, so has the budget of its
+-- wider network's guests together, and that of all guests together
 pub record HasBudgetFor (plan : PlanOf) (who : Who) (ask : Quota) (grants : List Grant) : Type 0 where
   pub own : IsAmountWithin (plus (of_one ask) (used (Own who) grants)) (budget_of plan who)
   pub network : is_guest who ≡ true → IsAmountWithin (plus (of_one ask) (used (Network (network_of who)) grants)) plan.network

@@ -1,25 +1,25 @@
--- Meaning: amounts of sessions, segments and nodes, compared and added one by one.
+-- Meaning: amounts of a site's sessions, segments and nodes, compared and added one by one.
 use Rattle.std.specs.Prelude.{◌+◌, ◌-◌, ◌≤◌, ◌==◌, ◌&&◌, Bool, nat_le, List, [], ◌∷◌}
 use Rattle.tenant_quota.specs.Quota.{Quota}
 use Rattle.site_book.specs.declared.amount.Amount.{Amount}
 
--- no session
+-- the amount of no session: no segments and no nodes
 abbrev pub nothing : Amount
 nothing = record { sessions = 0; segments = 0; nodes = 0 }
 
--- one session, which reserves this
+-- the amount of a single session with this reservation
 abbrev pub of_one : Quota → Amount
 of_one ask = record { sessions = 1; segments = ask.segments; nodes = ask.nodes }
 
--- both together
+-- two amounts together
 abbrev pub plus : Amount → Amount → Amount
 plus a b = record { sessions = a.sessions + b.sessions; segments = a.segments + b.segments; nodes = a.nodes + b.nodes }
 
--- the first less the second
+-- the first amount less the second
 abbrev pub minus : Amount → Amount → Amount
 minus a b = record { sessions = a.sessions - b.sessions; segments = a.segments - b.segments; nodes = a.nodes - b.nodes }
 
--- all of these together
+-- all of these amounts together
 abbrev pub sum_of : List Amount → Amount
 sum_of [] = nothing
 sum_of (a ∷ amounts) = plus a (sum_of amounts)
@@ -34,6 +34,6 @@ pub record IsAmountWithin (a b : Amount) : Type 0 where
 abbrev pub is_amount_within : Amount → Amount → Bool
 is_amount_within a b = nat_le a.sessions b.sessions && nat_le a.segments b.segments && nat_le a.nodes b.nodes
 
--- whether both are the same
+-- whether two amounts are the same
 abbrev pub is_same : Amount → Amount → Bool
 is_same a b = (a.sessions == b.sessions) && (a.segments == b.segments) && (a.nodes == b.nodes)

@@ -1,4 +1,4 @@
--- Meaning: what a book holds, why it refuses what it is asked for, and what comes of it.
+-- Meaning: what the book of a site's customers holds, why it refuses what it is asked for, and what comes of it.
 use Rattle.std.specs.Prelude.{ℕ, Bool, true, not, ◌&&◌, is_none, List, [], ◌∷◌, ◌++◌, Option, Some, None, if◌then◌else◌}
 use Rattle.tenant_quota.specs.Quota.{Quota}
 use Rattle.site_book.specs.declared.amount.Amount.{Amount}
@@ -21,25 +21,27 @@ pub record BookOf : Type 0 where
   pub plan : PlanOf
   pub grants : List Grant
 
--- a book in which nothing has happened
+-- the book of a hall with this plan, in which nothing has happened
 abbrev pub new_book : PlanOf → BookOf
 new_book plan = record { plan = plan; grants = [] }
 
--- the refusal of the first test that applies
+-- the refusal of the first of these tests that applies; None where none applies
 abbrev pub first_refusal : List (Bool × BookRefusal) → Option BookRefusal
 first_refusal [] = None
 first_refusal (test ∷ tests) = if test.0 then Some test.1 else first_refusal tests
 
--- whether so much more than what the part has is beyond what it may have, where the customer is one of it
+-- whether a part of the customers (one customer, a network's guests, all guests, or all) would have more than it may
+-- have, if this customer had so much more; no where the customer isn't one of the part
 abbrev pub is_beyond_part : PlanOf → Group → Who → Quota → Amount → Bool
 is_beyond_part plan part who ask has = is_in part who && not (is_amount_within (plus (of_one ask) has) (limit_of plan part))
 
--- the same of its own budget, that of its wider network and that of all guests, which have so much, in this order
+-- why so much more is beyond the customer's own budget, its wider network's or all guests', which have these amounts
+-- already; the first in this order, None where it is within all three
 abbrev pub why_beyond : PlanOf → Who → Quota → Amount → Amount → Amount → Option BookRefusal
 why_beyond plan who ask own network guests =
     first_refusal ((is_beyond_part plan (Own who) who ask own, OverBudget) ∷ (is_beyond_part plan (Network (network_of who)) who ask network, OverNetwork) ∷ (is_beyond_part plan Guests who ask guests, OverGuests) ∷ [])
 
--- why so much more than what these grants have isn't granted to a customer
+-- why a customer isn't granted so much more beside these grants; None where it is granted
 abbrev pub why_over : PlanOf → Who → Quota → List Grant → Option BookRefusal
 why_over plan who ask grants = why_beyond plan who ask (used (Own who) grants) (used (Network (network_of who)) grants) (used Guests grants)
 
@@ -48,16 +50,16 @@ abbrev pub why_no_raise : PlanOf → Who → ℕ → Quota → List Grant → Op
 why_no_raise plan who session ask grants None = Some Gone
 why_no_raise plan who session ask grants (Some held) = if is_no_raise held.ask ask then Some Lower else why_over plan who ask (grants_without who session grants)
 
--- whether the part has more than it may have, where the customer is one of it
+-- whether a part of the customers, of which this customer is one, has more than it may have
 abbrev pub is_over : PlanOf → Group → Who → List Grant → Bool
 is_over plan part who grants = is_in part who && not (is_amount_within (used part grants) (limit_of plan part))
 
--- the first part of which the customer is one that has more than it may have
+-- the first part of the customers, of those that this customer belongs to, that has more than it may have
 abbrev pub part_over : PlanOf → List Grant → Who → Option Group
 part_over plan grants who =
     if is_over plan (Own who) who grants then Some (Own who) else if is_over plan (Network (network_of who)) who grants then Some (Network (network_of who)) else if is_over plan Guests who grants then Some Guests else None
 
--- what there is to say of a grant whose part has more than it may have
+-- what is told of a grant whose part has more than it may have: whose it is, which part, and both amounts
 abbrev pub overrun_as : PlanOf → List Grant → Grant → Option Group → Option Overrun
 overrun_as plan grants held None = None
 overrun_as plan grants held (Some part) =
@@ -96,6 +98,6 @@ abbrev pub book_after_answer : BookOf → BookEvent → Option BookRefusal → B
 book_after_answer book event None = taken book event
 book_after_answer book event (Some refusal) = book
 
--- the book after an event
+-- the book after an event: as it was where the event is refused
 abbrev pub book_after : BookOf → BookEvent → BookOf
 book_after book event = book_after_answer book event (answer_of_book book event)

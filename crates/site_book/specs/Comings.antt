@@ -1,4 +1,4 @@
--- Meaning: what comes of one who asks for a session, and who has to end for another plan.
+-- Meaning: what comes of one who asks a site for a session, and who has to end for another plan.
 use Rattle.std.specs.Prelude.{ℕ, List, [], ◌∷◌, ◌++◌, Bool, ◌&&◌, is_none, Option, Some, None, if◌then◌else◌}
 use Rattle.tenant_quota.specs.Quota.{Quota}
 use Rattle.site_book.specs.declared.held.Grant.{Grant}
@@ -14,22 +14,26 @@ use Rattle.site_book.specs.declared.present.Present.{Present}
 use Rattle.site_book.specs.declared.present.Told.TheVariants.{ByPlan}
 use Rattle.site_book.specs.Rolls.{first_told, remaining, idlest}
 
--- the idlest guest is to end, if there is one
+-- what comes of one who asks for a session and whom the book refuses: the idlest guest is to end for it; where there
+-- is no idle guest, it is refused by this
 abbrev pub ends_or : BookRefusal → Option Present → Coming
 ends_or refusal None = Refused refusal
 ends_or refusal (Some present) = Ends present.session refusal
 
--- of one for whom all guests together have too much: the idlest of them is to end, where there is room once all idle ones have gone
+-- what comes of one whom the book refuses since all guests together have too much: the idlest guest is to end, where
+-- there would be room once all idle ones have gone; else it is refused
 abbrev pub unless_idle : BookRefusal → Option BookRefusal → Option Present → Coming
 unless_idle OverGuests None idle = ends_or OverGuests idle
 unless_idle refusal why idle = Refused refusal
 
--- of one who is refused: it waits where there is room once those have gone who were told to end
+-- what comes of one whom the book refuses: it waits, where there would be room once those have gone who were told to
+-- end; else it is as `unless_idle` says
 abbrev pub if_refused : BookRefusal → Option BookRefusal → Option BookRefusal → Option Present → Coming
 if_refused refusal None why idle = Waits refusal
 if_refused refusal (Some staying) why idle = unless_idle refusal why idle
 
--- of one whom the book refuses, or doesn't
+-- what comes of one who asks for a session: it enters where the book has no refusal; else it waits for those who
+-- leave, an idle guest is to end, or it is refused
 abbrev pub by_book : Option BookRefusal → Option BookRefusal → Option BookRefusal → Option Present → Coming
 by_book None staying why idle = Enters
 by_book (Some refusal) staying why idle = if_refused refusal staying why idle
@@ -40,8 +44,8 @@ abbrev pub coming : PlanOf → List Grant → List Present → Who → Quota →
 coming plan grants roll who ask now most =
     by_book (why_over plan who ask grants) (why_over plan who ask (remaining those_told grants roll)) (why_over plan who ask (remaining (those_idle now most) grants roll)) (idlest now most roll)
 
--- whether a session stays under another plan, by those that stay of those before it: it wasn't told to end, and the plan allows it beside
--- them
+-- whether a session stays under another plan, where these grants before it stay: it wasn't told to end, and the plan
+-- allows it beside them
 abbrev pub stays : PlanOf → List Grant → Grant → Present → Bool
 stays plan before held present = is_none present.told && is_none (why_over plan held.who held.ask before)
 
@@ -49,16 +53,16 @@ stays plan before held present = is_none present.told && is_none (why_over plan 
 abbrev pub told_to_end : Present → Present
 told_to_end present = record present { told = first_told present.told ByPlan }
 
--- those that stay, and a session more where that stays too
+-- the grants that stay under another plan, and one more where its session stays too
 abbrev pub with_staying : Bool → List Grant → Grant → List Grant
 with_staying stays before held = if stays then before ++ held ∷ [] else before
 
--- a session, told to end where it doesn't stay
+-- the entry of a session, told to end unless it stays under another plan
 abbrev pub told_unless : Bool → Present → Present
 told_unless stays present = if stays then present else told_to_end present
 
--- the roll, where those that don't stay under another plan are told to end. Those stay, in the order in which they came, that the plan allows
--- beside those before them that stay
+-- the roll under another plan: those sessions stay, in the order in which they came, that the plan allows beside the
+-- ones before them that stay; the others are told to end
 abbrev pub told_by : PlanOf → List Grant → List Grant → List Present → List Present
 told_by plan before [] roll = roll
 told_by plan before (held ∷ grants) [] = []

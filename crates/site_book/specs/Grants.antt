@@ -1,4 +1,5 @@
--- Meaning: the grants that are out, and what some of them have together.
+-- Meaning: the grants that are out in the book of a site's customers (an entry for each session), and what some of
+-- them have together.
 use Rattle.std.specs.Prelude.{ℕ, suc, ◌==◌, Bool, true, ◌&&◌, ◌||◌, nat_lt, List, [], ◌∷◌, Option, Some, None, if◌then◌else◌}
 use Rattle.tenant_quota.specs.Quota.{Quota}
 use Rattle.site_book.specs.declared.amount.Amount.{Amount}
@@ -9,23 +10,23 @@ use Rattle.site_book.specs.declared.who.Who.{Who}
 use Rattle.site_book.specs.Names.{same_who, is_guest, network_of}
 use Rattle.site_book.specs.Amounts.{nothing, of_one, plus}
 
--- whether a session of this customer is one of the part
+-- whether the grants of this customer belong to this part of all grants
 abbrev pub is_in : Group → Who → Bool
 is_in (Own who) other = same_who who other
 is_in (Network who) other = is_guest other && same_who who (network_of other)
 is_in Guests other = is_guest other
 is_in All other = true
 
--- what the grants have together whose customers pass the test
+-- what the grants of the customers that pass the test have together
 abbrev pub used_by : (Who → Bool) → List Grant → Amount
 used_by test [] = nothing
 used_by test (held ∷ grants) = if test held.who then plus (of_one held.ask) (used_by test grants) else used_by test grants
 
--- what these grants have together
+-- what the grants of a part have together: sessions, segments and nodes
 abbrev pub used : Group → List Grant → Amount
 used part grants = used_by (is_in part) grants
 
--- whether a grant is that of this session of this customer
+-- whether a grant is of this session of this customer
 abbrev pub is_held_as : Who → ℕ → Grant → Bool
 is_held_as who session held = same_who who held.who && (session == held.session)
 
@@ -44,7 +45,7 @@ abbrev pub grants_without : Who → ℕ → List Grant → List Grant
 grants_without who session [] = []
 grants_without who session (held ∷ grants) = if is_held_as who session held then grants else held ∷ grants_without who session grants
 
--- the grants, the first of this session having this
+-- the grants, once the first of this session reserves this
 abbrev pub grants_raised : Who → ℕ → Quota → List Grant → List Grant
 grants_raised who session ask [] = []
 grants_raised who session ask (held ∷ grants) = if is_held_as who session held then record held { ask = ask } ∷ grants else held ∷ grants_raised who session ask grants

@@ -1,4 +1,4 @@
--- Representation: what a book keeps.
+-- Representation: what the book of a site's customers keeps true.
 use Rattle.std.specs.Prelude.{◌≡◌, List, true}
 use Rattle.site_book.specs.declared.held.Grant.{Grant}
 use Rattle.site_book.specs.declared.held.Group.{Group}

@@ -1,4 +1,4 @@
--- Meaning: what a plan of a hall allows: its named customers, and its guests.
+-- Meaning: what a plan of a site's hall allows: its named customers, and its guests.
 use Rattle.std.specs.Prelude.{Bool, ◌&&◌, nat_le, List, slice_index_or}
 use Rattle.site_book.specs.declared.amount.Amount.{Amount}
 use Rattle.site_book.specs.declared.held.Group.{Group}
@@ -16,7 +16,8 @@ pub record PlanOf : Type 0 where
   pub network : Amount
   pub guests : Amount
 
--- what a customer may have: a guest as each guest, and one that the plan doesn't name nothing
+-- what a customer may have: a guest what the plan allows each guest, and a named customer its own budget; nothing
+-- where the plan doesn't name it
 abbrev pub budget_of : PlanOf → Who → Amount
 budget_of plan (Named number) = slice_index_or plan.customers number nothing
 budget_of plan (V4 address) = plan.guest

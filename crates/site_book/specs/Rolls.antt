@@ -1,4 +1,4 @@
--- Meaning: who is there, how long idle, and who is told to end.
+-- Meaning: which sessions are at a site's hall, how long each has said nothing, and which is told to end.
 use Rattle.std.specs.Prelude.{ℕ, ◌-◌, ◌==◌, Bool, false, not, ◌&&◌, ◌||◌, nat_lt, List, [], ◌∷◌, map, is_some, is_none, Option, Some, None, if◌then◌else◌}
 use Rattle.site_book.specs.declared.held.Grant.{Grant}
 use Rattle.site_book.specs.declared.who.Who.{Who}
@@ -18,11 +18,11 @@ use Rattle.site_book.specs.declared.present.Whom.TheVariants.{One, Each}
 abbrev pub names_present : List Present → List Name
 names_present roll = map (λ present. (present.who, present.session)) roll
 
--- a session that has just come
+-- the entry of a session that has just come
 abbrev pub newcomer : Who → ℕ → ℕ → Present
 newcomer who session now = record { who = who; session = session; since = now; last = now; waits = false; told = None }
 
--- whether it is this session of this customer
+-- whether an entry of the roll is of this session of this customer
 abbrev pub is_present_as : Who → ℕ → Present → Bool
 is_present_as who session present = same_who who present.who && (session == present.session)
 
@@ -31,40 +31,42 @@ abbrev pub without_present : Who → ℕ → List Present → List Present
 without_present who session [] = []
 without_present who session (present ∷ roll) = if is_present_as who session present then roll else present ∷ without_present who session roll
 
--- the first reason for which a session was told to end stays
+-- the reason for which a session was told to end: the first that was noted stays
 abbrev pub first_told : Option Told → Told → Option Told
 first_told None why = Some why
 first_told (Some told) why = Some told
 
--- a session after this mark: its last line came now; it waits for a job from now on, or doesn't any more; it is told to end
+-- a session's entry with this mark: its last line came now; it waits for a job from now on, or doesn't any more; or it
+-- is told to end
 abbrev pub marked : SessionMark → Present → Present
 marked (Spoke now) present = record present { last = now }
 marked (Waits waits now) present = record present { waits = waits; last = now }
 marked (told_to why) present = record present { told = first_told present.told why }
 
--- whether a session is meant: by its number, or as one of a part of the customers
+-- whether a mark means this session: by its number, or as one of a part of the customers
 abbrev pub is_meant : Whom → Present → Bool
 is_meant (One session) present = session == present.session
 is_meant (Each part) present = is_in part present.who
 
--- a session after a mark for these
+-- a session's entry with this mark, if the mark means it
 abbrev pub marked_if : Whom → SessionMark → Present → Present
 marked_if whom mark present = if is_meant whom present then marked mark present else present
 
--- the roll after a mark for these
+-- the roll with this mark at the sessions that it means
 abbrev pub marked_all : Whom → SessionMark → List Present → List Present
 marked_all whom mark roll = map (marked_if whom mark) roll
 
--- whether it is a guest's session that waits for no job, hasn't been told to end, and has said nothing for longer than `most`
+-- whether an entry is of a guest's session that waits for no job, hasn't been told to end, and has said nothing for
+-- longer than `most`
 abbrev pub is_idle : ℕ → ℕ → Present → Bool
 is_idle now most present = is_guest present.who && is_none present.told && not present.waits && nat_lt most (now - present.last)
 
--- whether a session goes: it was told to end; or, as well, it is idle
+-- whether a session goes: it was told to end; or, where idle ones go too, it is idle
 abbrev pub goes : Leaver → Present → Bool
 goes those_told present = is_some present.told
 goes (those_idle now most) present = is_some present.told || is_idle now most present
 
--- the grants that are left when these have gone, where the roll names the grants' sessions in their order
+-- the grants that stay when some sessions leave; the roll names the sessions of the grants in their order
 abbrev pub remaining : Leaver → List Grant → List Present → List Grant
 remaining leaver [] roll = []
 remaining leaver (held ∷ grants) [] = held ∷ grants

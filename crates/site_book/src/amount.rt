@@ -1,3 +1,4 @@
+//! Amounts in the book of a site's customers: sessions, and the segments and nodes that they reserve together.
 ghost use Rattle.std.specs.Prelude.{◌≡◌, ◌+◌, ◌<◌, ◌≤◌, ◌^◌};
 ghost use Rattle.site_book.specs.Amounts.{is_amount_within, is_same, plus, minus, of_one, IsAmountWithin};
 
@@ -23,7 +24,7 @@ impl Amount {
         nodes: 0,
     };
 
-    /// Whether it is no more than the other in sessions, segments and nodes.
+    /// Whether this amount is no more than the other in sessions, segments and nodes.
     pub fn is_within(self, other: Amount) -> bool
         ensures { result ≡ is_amount_within self other }
     {
@@ -32,7 +33,7 @@ impl Amount {
             && self.nodes <= other.nodes
     }
 
-    /// Whether both are the same.
+    /// Whether both amounts are the same.
     pub(crate) fn is_same(self, other: Amount) -> bool
         ensures { result ≡ is_same self other }
     {
@@ -41,7 +42,7 @@ impl Amount {
             && self.nodes == other.nodes
     }
 
-    /// With one session more, which reserves this.
+    /// The amount with one session more, which reserves this.
     pub(crate) fn with_one(self, ask: Reserve) -> Amount
         requires sessions { self.sessions < 2 ^ 31 }
         requires segments { self.segments < 2 ^ 63 }
@@ -57,7 +58,7 @@ impl Amount {
         }
     }
 
-    /// What is left of it without the other, which is within it.
+    /// What is left of an amount without another, which is within it.
     pub(crate) fn less(self, other: Amount) -> Amount
         requires { IsAmountWithin other self }
         ensures { result ≡ minus self other }

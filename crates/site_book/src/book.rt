@@ -1,3 +1,4 @@
+//! The book of a site's customers: what each may have at once (its budget), and has (a grant for each session).
 ghost use Rattle.std.specs.Prelude.{◌≡◌, [], ◌≤◌, None, length, is_some, IfOk, IfNone};
 ghost use Rattle.site_book.specs.declared.held.Group.TheVariants.{All};
 ghost use Rattle.site_book.specs.Amounts.{IsAmountWithin, of_one, plus};
@@ -59,7 +60,7 @@ impl CustomerBook {
         &self.grants
     }
 
-    /// The plan by which it goes.
+    /// The plan by which the book grants sessions.
     pub fn plan(&self) -> &Plan
         ensures { result.now ≡ self.now.plan }
     {

@@ -1,3 +1,4 @@
+//! What comes of one who asks a site for a session, by the book of its customers and by who is there.
 ghost use Rattle.std.specs.Prelude.{◌≡◌, ◌≤◌, ◌<◌, [], length};
 ghost use Rattle.site_book.specs.Comings.{coming, unless_idle, stays, told_by, told_unless, with_staying};
 
@@ -75,8 +76,8 @@ fn unless_idle(refusal: BookRefusal, why: Option<BookRefusal>, idle: Option<Pres
     }
 }
 
-/// Whether a session stays under another plan, by those that stay of those before it. Then it is one of them; else it is told to
-/// end.
+/// The entry of a session under another plan: as it was, if it stays beside those before it that stay, and then its
+/// grant is added to theirs; else told to end.
 fn judged(
     plan: &Plan,
     before: &mut ArrayVec<Grant, MOST>,
@@ -98,7 +99,8 @@ fn judged(
     }
 }
 
-/// Whether a session stays under another plan, by those that stay of those before it.
+/// Whether a session stays under another plan: it wasn't told to end, and the plan allows it beside those before it
+/// that stay.
 fn stays(plan: &Plan, before: &[Grant], held: &Grant, present: &Present) -> bool
     requires { length before.now ≤ 64 }
     ensures { result ≡ stays plan.now before.now held.now present.now }
@@ -106,7 +108,7 @@ fn stays(plan: &Plan, before: &[Grant], held: &Grant, present: &Present) -> bool
     present.told.is_none() && why_over(plan, before, held.who, held.ask).is_none()
 }
 
-/// The sessions, where those that don't stay under another plan are told to end.
+/// The entries of a hall's sessions, where those that don't stay under another plan are told to end.
 pub fn told_by(plan: &Plan, grants: &[Grant], roll: &[Present]) -> ArrayVec<Present, MOST>
     requires few { length grants.now ≤ 64 }
     requires alike { length grants.now ≡ length roll.now }

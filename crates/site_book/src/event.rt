@@ -1,3 +1,4 @@
+//! What happens in the book of a site's customers: sessions are opened, raised and closed, and another plan comes.
 use crate::plan::Plan;
 use crate::who::Who;
 use tenant_quota::Reserve;

@@ -1,3 +1,4 @@
+//! The grants that are out in the book of a site's customers, one for each session, and their sums.
 ghost use Rattle.std.specs.Prelude.{◌≡◌, ◌+◌, ◌<◌, ◌≤◌, ◌^◌, length, if◌then◌else◌, ◌≢◌, None, Some};
 ghost use Rattle.std.specs.List.{remove};
 ghost use Rattle.std.specs.Vec.{vec_capacity};
@@ -21,6 +22,7 @@ pub struct Grant {
 
 // Only for the free places of an `ArrayVec`, which need some value.
 impl Default for Grant {
+    /// A filler for the places of a list that aren't used.
     fn default() -> Grant {
         match Reserve::new(1, 1) {
             Some(ask) => Grant {
@@ -62,7 +64,8 @@ pub struct Overrun {
 }
 
 impl Group {
-    /// Whether a session of this customer is one of them.
+    /// Whether the grants of this customer belong to this part of all grants (a customer's, a network's, the guests',
+    /// or all).
     pub fn has(self, other: Who) -> bool
         ensures { result ≡ is_in self other }
     {
@@ -75,7 +78,7 @@ impl Group {
     }
 }
 
-/// The amount with that of a grant more, if it is one of the part.
+/// The sum with a grant's amount added, if that grant belongs to the part.
 fn with_grant(sum: Amount, part: Group, held: &Grant) -> Amount
     requires room_sessions { sum.sessions < 2 ^ 31 }
     requires room_segments { sum.segments < 2 ^ 63 }
@@ -93,7 +96,7 @@ fn with_grant(sum: Amount, part: Group, held: &Grant) -> Amount
     }
 }
 
-/// What some of the grants have together.
+/// What the grants of a part have together: sessions, segments and nodes.
 pub(crate) fn used_in(grants: &[Grant], part: Group) -> Amount
     requires { length grants.now ≤ 64 }
     ensures value { result ≡ used part grants.now }
@@ -108,7 +111,7 @@ pub(crate) fn used_in(grants: &[Grant], part: Group) -> Amount
     sum
 }
 
-/// What some of the grants have together without the one at a place.
+/// What the grants of a part have together, without the grant at a place.
 pub(crate) fn used_besides(grants: &[Grant], place: usize, part: Group) -> Amount
     requires few { length grants.now ≤ 64 }
     requires there { place < length grants.now }
@@ -156,7 +159,7 @@ pub(crate) fn take_out(grants: &mut Vec<Grant>, who: Who, session: u64)
     }
 }
 
-/// Lets the first grant of this session, which is there, have this.
+/// Sets what the first grant of this session reserves; the session has a grant.
 #[tactic(auto, using(crate::proofs::Rules::set_ask_rules))]
 pub(crate) fn set_ask(grants: &mut Vec<Grant>, who: Who, session: u64, ask: Reserve)
     requires { grant_of who session grants.old.items ≢ None }
@@ -167,7 +170,7 @@ pub(crate) fn set_ask(grants: &mut Vec<Grant>, who: Who, session: u64, ask: Rese
     grants[place].ask = ask;
 }
 
-/// Whether the second is no raise of the first: less in segments or nodes, or the same in both.
+/// Whether a new reservation is no raise of the present one: less in segments or in nodes, or the same in both.
 pub(crate) fn is_lower(now: Reserve, ask: Reserve) -> bool
     ensures { result ≡ is_no_raise now ask }
 {

@@ -1,5 +1,5 @@
-//! What follows for every list of events on a new book, and of all grants and sessions. A function here does nothing: its contract is the
-//! law.
+//! Laws on the book of a site's customers: what follows for every list of events on a new one, and of all grants and
+//! sessions. A function here does nothing: its contract is the law.
 ghost use Rattle.std.specs.Prelude.{◌≡◌, ◌+◌, ◌≤◌, ◌↔◌, ℕ, length, List, [], Some, None, Bool, true, IsTrue, ◌≢◌, ◌-◌, ◌<◌, false, Contains};
 ghost use Rattle.tenant_quota.specs.Quota.{Quota};
 ghost use Rattle.site_book.specs.declared.held.Grant.{Grant};

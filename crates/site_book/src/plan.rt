@@ -1,3 +1,4 @@
+//! The plan of a site's hall: what each named customer and the guests may have at once.
 ghost use Rattle.std.specs.Prelude.{◌≡◌, ◌&&◌, IsTrue, IsSome, IfSome, ◌↔◌};
 ghost use Rattle.site_book.specs.Amounts.{is_amount_within, is_same, sum_of, plus};
 ghost use Rattle.site_book.specs.Plans.{limit_of, budget_of, sums_fit};
@@ -62,7 +63,8 @@ impl Plan {
         self.totals
     }
 
-    /// What a customer may have: a guest as each guest, and one that the plan doesn't name nothing.
+    /// What a customer may have: a guest what the plan allows each guest, and a named customer its own budget; nothing
+    /// where the plan doesn't name it.
     pub fn budget(&self, who: Who) -> Amount
         ensures { result ≡ budget_of self.now who }
     {
@@ -77,7 +79,7 @@ impl Plan {
         }
     }
 
-    /// Whether it is the plan of a hall with these totals.
+    /// Whether this is the plan of a hall with these totals.
     pub(crate) fn fits(&self, totals: Amount) -> bool
         ensures { result ≡ (is_same self.now.totals totals && sums_fit self.now) }
     {

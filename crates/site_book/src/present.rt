@@ -1,3 +1,4 @@
+//! Who is at a site's hall: one session, what it does, and why it is told to end.
 ghost use Rattle.std.specs.Prelude.{◌≡◌};
 ghost use Rattle.site_book.specs.Rolls.{first_told, goes, is_idle, is_meant, is_present_as, marked, marked_if, newcomer};
 
@@ -38,6 +39,7 @@ pub struct Present {
 
 // Only for the free places of an `ArrayVec`, which need some value.
 impl Default for Present {
+    /// A filler for the places of a list that aren't used.
     fn default() -> Present {
         Present::newcomer(Who::Named(0), 0, 0)
     }
@@ -78,7 +80,7 @@ pub enum Leaver {
 }
 
 impl Present {
-    /// A session that comes now.
+    /// The entry of a session that comes now.
     pub fn newcomer(who: Who, session: u64, now: u64) -> Present
         ensures { result ≡ newcomer who session now }
     {
@@ -92,14 +94,15 @@ impl Present {
         }
     }
 
-    /// Whether it is this session of this customer.
+    /// Whether this is the entry of the session of this number of this customer.
     pub(crate) fn is(&self, who: Who, session: u64) -> bool
         ensures { result ≡ is_present_as who session self.now }
     {
         who.is(self.who) && session == self.session
     }
 
-    /// Whether it is a guest's that waits for no job, wasn't told to end, and has said nothing for longer than `most`.
+    /// Whether the session is a guest's that waits for no job, wasn't told to end, and has said nothing for longer than
+    /// `most`.
     pub(crate) fn is_idle(&self, now: u64, most: u64) -> bool
         ensures { result ≡ is_idle now most self.now }
     {
@@ -109,7 +112,7 @@ impl Present {
             && most < now.saturating_sub(self.last)
     }
 
-    /// Whether it is one of those that are looked at as gone.
+    /// Whether the session counts as gone: it was told to end, or, where the idle count too, it is an idle guest's.
     pub(crate) fn goes(&self, leaver: Leaver) -> bool
         ensures { result ≡ goes leaver self.now }
     {
@@ -119,7 +122,7 @@ impl Present {
         }
     }
 
-    /// Whether it is meant.
+    /// Whether `whom` means this session: by its number, or as one of a part of the customers.
     fn is_meant(&self, whom: Whom) -> bool
         ensures { result ≡ is_meant whom self.now }
     {
@@ -129,7 +132,8 @@ impl Present {
         }
     }
 
-    /// After this mark.
+    /// The session's entry with this mark: its last line came now; it waits for a job from now on, or doesn't any more;
+    /// or it is told to end.
     fn marked(self, mark: SessionMark) -> Present
         ensures { result ≡ marked mark self }
     {
@@ -147,7 +151,7 @@ impl Present {
         }
     }
 
-    /// After a mark for these.
+    /// The session's entry with this mark, if the mark is for it.
     pub(crate) fn marked_if(self, whom: Whom, mark: SessionMark) -> Present
         ensures { result ≡ marked_if whom mark self }
     {

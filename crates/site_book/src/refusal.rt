@@ -1,3 +1,4 @@
+//! Why the book of a site's customers refuses an event.
 /// Why a book refuses an event.
 #[derive(Clone, Copy, Debug, PartialEq, Eq)]
 pub enum BookRefusal {

@@ -1,3 +1,4 @@
+//! The roll of a site's hall: who is there, in the order in which they came.
 ghost use Rattle.std.specs.Prelude.{◌≡◌, ◌+◌, ◌≤◌, ◌<◌, ◌++◌, ◌∷◌, [], length, if◌then◌else◌};
 ghost use Rattle.site_book.specs.Comings.{told_by};
 ghost use Rattle.site_book.specs.Rolls.{idler, idlest, marked_all, newcomer, remaining, without_present};
@@ -30,7 +31,7 @@ impl Model for Roll {
 }
 
 impl Roll {
-    /// Nobody is there.
+    /// The roll of a new hall: no session is there.
     pub fn new() -> Roll
         ensures { result ≡ [] }
     {
@@ -39,7 +40,7 @@ impl Roll {
         }
     }
 
-    /// All who are there.
+    /// The entries of all sessions that are there, in the order in which they came.
     pub fn entries(&self) -> &[Present]
         ensures entries { result.now ≡ self.now }
         ensures few { length result.now ≤ 64 }
@@ -47,7 +48,7 @@ impl Roll {
         self.entries.as_slice()
     }
 
-    /// A session comes now.
+    /// Enters a session that comes now.
     pub fn enter(&mut self, who: Who, session: u64, now: u64)
         requires { length self.old < 64 }
         ensures { self.new ≡ self.old ++ newcomer who session now ∷ [] }
@@ -62,14 +63,15 @@ impl Roll {
         self.entries = others(self.entries.as_slice(), who, session);
     }
 
-    /// Notes something of these sessions.
+    /// Puts this mark (it spoke, it waits, it is told to end) at the sessions of the roll that are meant.
     pub fn mark(&mut self, whom: Whom, mark: SessionMark)
         ensures { self.new ≡ marked_all whom mark self.old }
     {
         self.entries = marked(self.entries.as_slice(), whom, mark);
     }
 
-    /// Tells those to end that don't stay under another plan, where these are their grants.
+    /// Tells those sessions to end that couldn't stay under another plan; these are the grants of the sessions, in
+    /// their order.
     pub fn tell_by(&mut self, plan: &Plan, grants: &[Grant])
         requires few { length grants.now ≤ 64 }
         requires alike { length grants.now ≡ length self.old }
@@ -79,7 +81,7 @@ impl Roll {
     }
 }
 
-/// The sessions without the first of this customer and number.
+/// The sessions of a roll without the first one of this customer and number.
 fn others(roll: &[Present], who: Who, session: u64) -> ArrayVec<Present, MOST>
     requires { length roll.now ≤ 64 }
     ensures { result.items ≡ without_present who session roll.now }
@@ -96,7 +98,7 @@ fn others(roll: &[Present], who: Who, session: u64) -> ArrayVec<Present, MOST>
     left
 }
 
-/// Appends a session, unless this is so.
+/// Appends a session to the list of those that stay, unless it goes.
 fn keep_unless(left: &mut ArrayVec<Present, MOST>, goes: bool, present: &Present)
     requires { length left.old.items < 64 }
     ensures { left.new.items ≡ (if goes then left.old.items else left.old.items ++ present.now ∷ []) }
@@ -106,7 +108,7 @@ fn keep_unless(left: &mut ArrayVec<Present, MOST>, goes: bool, present: &Present
     }
 }
 
-/// The sessions after a mark for these.
+/// The sessions of a roll, with this mark at those that are meant.
 fn marked(roll: &[Present], whom: Whom, mark: SessionMark) -> ArrayVec<Present, MOST>
     requires { length roll.now ≤ 64 }
     ensures { result.items ≡ marked_all whom mark roll.now }
@@ -120,7 +122,7 @@ fn marked(roll: &[Present], whom: Whom, mark: SessionMark) -> ArrayVec<Present, 
     made
 }
 
-/// The grants that are left when these have gone, where the roll names the grants' sessions in their order.
+/// The grants that stay when some sessions leave; the roll names the sessions of the grants in their order.
 pub fn remaining(grants: &[Grant], roll: &[Present], leaver: Leaver) -> ArrayVec<Grant, MOST>
     requires few { length grants.now ≤ 64 }
     requires alike { length grants.now ≡ length roll.now }
@@ -140,7 +142,7 @@ pub fn remaining(grants: &[Grant], roll: &[Present], leaver: Leaver) -> ArrayVec
     left
 }
 
-/// Appends a grant, unless this is so.
+/// Appends a grant to the list of those that stay, unless its session goes.
 fn hold_unless(left: &mut ArrayVec<Grant, MOST>, goes: bool, held: &Grant)
     requires { length left.old.items < 64 }
     ensures { left.new.items ≡ (if goes then left.old.items else left.old.items ++ held.now ∷ []) }
@@ -150,7 +152,7 @@ fn hold_unless(left: &mut ArrayVec<Grant, MOST>, goes: bool, held: &Grant)
     }
 }
 
-/// Of the idle sessions the one that has said nothing for longest.
+/// The idle session of a roll that has said nothing for longest; None where none is idle.
 pub fn idlest(roll: &[Present], now: u64, most: u64) -> Option<Present>
     ensures { result ≡ idlest now most roll.now }
 {
@@ -163,7 +165,7 @@ pub fn idlest(roll: &[Present], now: u64, most: u64) -> Option<Present>
     best
 }
 
-/// Of two sessions the one that has said nothing for longer; the first where it is the same.
+/// Of two sessions of a roll the one that has said nothing for longer; the first where both have for as long.
 fn idler(best: Option<Present>, next: Present) -> Option<Present>
     ensures { result ≡ idler best (Some next) }
 {

@@ -1,4 +1,6 @@
-//! The definitions, tried on small halls: each contract is computed from the definitions alone.
+//! The definitions of who is at a site's hall and who goes, tried on small halls: each contract is computed from the
+//! definitions alone. `guest 1 5` is guest 1, who came at millisecond 5; `named_held 1 5` is the school's session 1
+//! with 5 segments; `asks` has who is there, who comes, and the time.
 ghost use Rattle.std.specs.Prelude.{◌≡◌, [], ◌∷◌, map, Some, None, true, false};
 ghost use Rattle.site_book.specs.declared.refusal.BookRefusal.TheVariants.{OverBudget, OverGuests};
 ghost use Rattle.site_book.specs.declared.held.Group.TheVariants.{Guests, Own};
@@ -14,7 +16,8 @@ ghost use Rattle.site_book.specs.Rolls.{idlest, marked_all, names_present, newco
 ghost use Rattle.site_book.specs.RollRows.{guest_held, named_held, guest, named_present, asks};
 ghost use Rattle.site_book.specs.Comings.{coming, told_by};
 
-/// Marks are noted of those who are meant, and the first reason to end stays.
+/// A mark (it spoke, it waits, it is told to end) changes just the sessions that it means; the first reason to end
+/// stays.
 pub fn marks_are_noted()
     ensures spoke { marked_all (One 2) (Spoke 9) (guest 1 5 ∷ guest 2 6 ∷ []) ≡ guest 1 5 ∷ record (guest 2 6) { last = 9 } ∷ [] }
     ensures waits { marked_all (One 1) (waits true 8) (guest 1 5 ∷ guest 2 6 ∷ []) ≡ record (guest 1 5) { waits = true; last = 8 } ∷ guest 2 6 ∷ [] }

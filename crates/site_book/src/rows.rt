@@ -1,4 +1,6 @@
-//! The definitions, tried on small halls: each contract is computed from the definitions alone.
+//! The definitions of the book of a site's customers, tried on small halls: each contract is computed from the
+//! definitions alone. An `amount` is of sessions, segments and nodes, an `ask` of segments and nodes; `Opens` and
+//! `Raises` stand with whose the session is, and its number.
 ghost use Rattle.std.specs.Prelude.{◌≡◌, [], ◌∷◌, Some, None, true, false, map};
 ghost use Rattle.site_book.specs.declared.held.Grant.{Grant};
 ghost use Rattle.site_book.specs.declared.held.Group.TheVariants.{Own, Network, Guests, All};
@@ -12,7 +14,8 @@ ghost use Rattle.site_book.specs.declared.event.BookEvent.TheVariants.{Opens, Ra
 ghost use Rattle.site_book.specs.Events.{book_after_events, answers, only_events, still_open};
 ghost use Rattle.site_book.specs.Rows.{amount, ask, hall_for, small, school, answers_told, one_sided, even, sold, ended_in_time, told_one_sided, beyond_even};
 
-/// Budgets that fit a hall, and ones that don't.
+/// The school's budget and the guests' fit a hall of 4 sessions, 40 segments and 400 nodes; with more sessions,
+/// segments or nodes together than the hall has they don't; and no hall has 65 sessions.
 pub fn sums_are_added()
     ensures fit { sums_fit small ≡ true }
     ensures sessions { sums_fit (hall_for (amount 3 20 200) (amount 2 9 100)) ≡ false }
@@ -21,7 +24,8 @@ pub fn sums_are_added()
     ensures no_hall { sums_fit (record small { totals = amount 65 40 400 }) ≡ false }
 {}
 
-/// The school opens a session, raises it, opens a second, and has no more.
+/// The school, which may have 2 sessions, 20 segments and 200 nodes, opens a session, raises it, opens a second, and
+/// has no more.
 pub fn a_school()
     ensures budget { answers_told (
         Opens school 1 (ask 5 100) ∷ Opens school 2 (ask 16 100) ∷ Opens school 3 (ask 15 100) ∷ Opens school 4 (ask 1 1) ∷ [])
@@ -35,7 +39,8 @@ pub fn a_school()
     ensures all { used All (book_after_events (new_book small) (Opens school 1 (ask 5 100) ∷ Opens (V4 7) 2 (ask 4 50) ∷ [])).grants ≡ amount 2 9 150 }
 {}
 
-/// Each guest has one session, those of a wider network have two, and all together two.
+/// Each guest has one session (5 segments, 50 nodes), those of a wider network together two (8, 90), and all guests
+/// together two (9, 100).
 pub fn guests()
     ensures own { answers_told (Opens (V4 7) 1 (ask 4 50) ∷ Opens (V4 7) 2 (ask 1 1) ∷ Opens (V4 8) 3 (ask 4 50) ∷ []) ≡ None ∷ Some OverBudget ∷ None ∷ [] }
     ensures network { answers_told (Opens (V6 65536) 1 (ask 5 50) ∷ Opens (V6 65537) 2 (ask 4 40) ∷ Opens (V6 131072) 3 (ask 4 40) ∷ []) ≡ None ∷ Some OverNetwork ∷ None ∷ [] }

@@ -1,3 +1,4 @@
+//! Whose a site's session is: a named customer's, or a guest's by its address.
 ghost use Rattle.std.specs.Prelude.{◌≡◌};
 ghost use Rattle.site_book.specs.Names.{same_who, is_guest, network_of};
 
@@ -13,7 +14,7 @@ pub enum Who {
 }
 
 impl Who {
-    /// Whether both are the same.
+    /// Whether both are the same customer or guest.
     pub fn is(self, other: Who) -> bool
         ensures { result ≡ same_who self other }
     {
@@ -24,7 +25,7 @@ impl Who {
         }
     }
 
-    /// Whether it is a guest.
+    /// Whether the session's owner is a guest.
     pub fn is_guest(self) -> bool
         ensures { result ≡ is_guest self }
     {
@@ -46,6 +47,7 @@ impl Who {
         }
     }
 
+    /// Whether the session's owner is the customer that the plan names at this place.
     fn is_named(self, number: u32) -> bool
         ensures { result ≡ same_who (Who.Named number) self }
     {
@@ -56,6 +58,7 @@ impl Who {
         }
     }
 
+    /// Whether the session's owner is the guest of this IPv4 address.
     fn is_v4(self, address: u32) -> bool
         ensures { result ≡ same_who (Who.V4 address) self }
     {
@@ -66,6 +69,7 @@ impl Who {
         }
     }
 
+    /// Whether the session's owner is the guest of this IPv6 network (the address's first 64 bits).
     fn is_v6(self, network: u64) -> bool
         ensures { result ≡ same_who (Who.V6 network) self }
     {

@@ -1,4 +1,4 @@
--- What comes of one whom the book allows, and who isn't admitted for all that.
+-- At a site's desk: what comes of one whom the book allows, and who isn't admitted for all that.
 use Rattle.site_desk.proofs.Common.{◌≡◌, ◌∙◌, ap, Enters, only_enters, Turned, ByBook, OldTenant, OutOfMemory, BookedOf, IsTurnedAway, SiteOf, IsCame, met}
 use Rattle.site_book.specs.declared.coming.Comer.{Comer}
 use Rattle.site_book.specs.declared.refusal.BookRefusal.{BookRefusal}

@@ -1,4 +1,4 @@
--- What a hall's steps do to its seats.
+-- What the hall's steps do to the seats of a site's desk.
 use Rattle.site_desk.proofs.Common.{◌≡◌, ℕ, ◌+◌, ◌≤◌, ◌==◌, ◌||◌, ◌^◌, ◌⊎◌, inl, inr, nat_le, nat_lt, nat_tests, true, false, cases_Bool, Option, Some, None, Result, Ok, Err, refl, ap, sym, ◌∙◌, arith, false≢true, Quota, Refusal, StepOf, Admit, AdmitMore, Leave, DidOf, Functions, Tenant, admitted_with, Outcome, is_lower, lone, lone_step, tenant_of, CoreState, tenant_in, reservations_in, is_full, is_beyond, with_outcome, shared_with, AreNumbersGiven, IsOneStep, IsTaken, shared-after-taken, step-taken, by-kinds, unless-passed, is_within_seat}
 use Rattle.sched_rules.specs.declared.refusal.Refusal.TheVariants.{OldTenant, OutOfMemory}
 use Rattle.hall.specs.Journals.{is_worker_step}

@@ -1,4 +1,4 @@
--- Each call leaves the grants the hall's tenants.
+-- At a site's desk: after each call the book's grants are still those of the hall's tenants, one to one.
 use Rattle.site_desk.proofs.Common.{◌≡◌, ◌≢◌, ℕ, ◌+◌, ◌<◌, ◌≤◌, length, OnErr, inl, inr, true, false, List, [], ◌∷◌, ◌++◌, Option, Some, None, Result, Ok, Err, refl, ap, sym, ◌∙◌, subst, arith, cases_Bool, is_some, AreRising, Quota, Refusal, StepOf, Admit, AdmitMore, Leave, DidOf, Tenant, admitted_with, is_lower, tenant_of, tenant_in, with_outcome, reservations_in, is_full, is_beyond, AreNumbersGiven, AreNumbersTaken, tenant_in-new, IsTaken, Leaf, LeafAnswer, jamboree, HallOf, IsDecided, IsDone, Amount, Grant, All, Lower, Who, of_one, plus, IsAmountWithin, used, grant_of, grants_without, BookOf, Opens, Raises, Closes, taken, why_no_raise, why_over, BookedOf, IsBooked, IsRaise, IsRaiseTold, IsTurnedAway, TookInHall, is_within_seat, turned_by, BookedSeat, seats_in_book, seats_in_hall, number_of}
 use Rattle.site_book.specs.declared.refusal.BookRefusal.{BookRefusal}
 use Rattle.sched_rules.specs.declared.refusal.Refusal.TheVariants.{NoJob, OutOfMemory as HallOutOfMemory}

@@ -1,4 +1,4 @@
--- Who is listed is who has a grant, after each call.
+-- At a site's desk: the sessions that are listed are those that have a grant, after each call.
 use Rattle.site_desk.proofs.Common.{◌≡◌, ℕ, ◌<◌, ◌≤◌, ◌&&◌, inl, inr, Bool, true, false, cond, eqb, List, [], ◌∷◌, ◌++◌, length, refl, ap, sym, ◌∙◌, arith, length-append, cases_Bool, Quota, Grant, Who, same_who, is_held_as, grants_without, BookOf, Opens, Raises, Closes, taken, Name, names_granted, PlanOf, SessionMark, Spoke, Waits, Told as told_to, Present, Whom, is_meant, is_present_as, marked, marked_all, marked_if, names_present, newcomer, without_present, stays, told_by, told_unless, with_staying, IsListed, names-with-ask}
 
 abbrev name_of : Present → Name

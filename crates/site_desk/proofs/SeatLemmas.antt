@@ -1,4 +1,4 @@
--- Seats, by a book's grants and by a hall's tenants.
+-- The seats of a site's desk, by its book's grants and by its hall's tenants.
 use Rattle.site_desk.proofs.Common.{◌≡◌, ℕ, ◌+◌, ◌<◌, ◌≤◌, inl, inr, true, false, cond, eqb, List, [], ◌∷◌, ◌++◌, length, Option, Some, None, refl, ap, sym, ◌∙◌, subst, arith, cases_Bool, eqb-true, eq-eqb, ne_eqb, and_parts, or_from, lt-leb, le-ltb, sum_by-cons, AreAbove, AreRising, Quota, reserved_segments, reserved_nodes, Account, Tenant, account_in, CoreState, tenant_in, with_tenant, without_tenant, accounts_in, reservations_in, is_full, is_beyond, AreNumbersTaken, Amount, Grant, All, Who, same_who, nothing, of_one, plus, IsAmountWithin, used, is_held_as, grant_of, grants_without, grants_raised, plus-swap, BookedSeat, seats_in_book, seats_in_hall, number_of}
 
 abbrev Entries : Type 0

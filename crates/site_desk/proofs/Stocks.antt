@@ -1,4 +1,4 @@
--- What the desks of a site are made of is what their numbers name.
+-- The names that clauses use for the desks of a site: each desk is made of what the names say for its number.
 use Rattle.site_desk.proofs.Common.{◌≡◌, ℕ, ◌+◌, List, [], ◌∷◌, ◌++◌, length, sym, ap, ◌∙◌, subst, arith, nat_tests}
 use Rattle.site_desk.specs.Stocks.{NamesOf, StockOf, IsStock, AreStocked, at_place, desk_names}
 

@@ -1,4 +1,4 @@
--- What a worker is given that has waited, where nobody who shares has a ready frame.
+-- At a site's desk: what a worker that has waited is given, where nobody who shares has a ready frame.
 use Rattle.site_desk.proofs.Common.{inr, Option, Some, None, subst, Task, SiteOf, IsNextReady, IsNextTask, IsSitePick}
 
 pub next_by : (before after : SiteOf) (found : Option Task) → IsSitePick before None after → IsNextReady after.booked.hall.shared found → IsNextTask before found after

@@ -1,4 +1,4 @@
--- Meaning: a hall with its book, and what each call does to both.
+-- Meaning: the hall of a site's desk with the book of its customers, and what each call does to both.
 use Rattle.std.specs.Prelude.{◌≡◌, ℕ, ◌+◌, ◌≤◌, ◌^◌, Bool, true, false, Some, None, Result, Ok, Err, IsSome}
 use Rattle.numbered_list.specs.Places.{AreRising}
 use Rattle.tenant_quota.specs.Quota.{Quota}
@@ -19,7 +19,7 @@ use Rattle.site_desk.specs.declared.turned.Turned.{Turned}
 use Rattle.site_desk.specs.declared.turned.Turned.TheVariants.{ByBook, OldTenant, OutOfMemory}
 use Rattle.site_desk.specs.BookedSeats.{seats_in_book, seats_in_hall, number_of}
 
--- a hall and its book
+-- the hall of a site's desk and the book of its customers
 pub record BookedOf : Type 0 where
   pub hall : HallOf
   pub book : BookOf
@@ -52,7 +52,7 @@ abbrev pub IsLetIn : BookedOf → Who → Quota → ℕ → BookedOf → Type 0
 IsLetIn before who ask number after =
     (why_over before.book.plan who ask before.book.grants ≡ None) × (number ≡ before.hall.shared.newest + 1) × (after.book ≡ taken before.book (Opens who number ask)) × TookInHall before.hall (Admit number ask) after.hall
 
--- or it is turned away, and nothing changes: the book refuses it, or the hall has no number or no memory left
+-- a customer is turned away, and nothing changes: the book refuses it, or the hall has no number or no memory left
 abbrev pub IsTurnedAway : BookedOf → Who → Quota → Turned → BookedOf → Type 0
 IsTurnedAway before who ask (ByBook refusal) after = (why_over before.book.plan who ask before.book.grants ≡ Some refusal) × (after ≡ before)
 IsTurnedAway before who ask OldTenant after = (2 ^ 62 ≤ before.hall.shared.newest) × (after ≡ before)

@@ -1,4 +1,4 @@
--- Meaning: what one has who asked for a session.
+-- Meaning: what one has who asked a site's desk for a session: a seat, or why there is none.
 use Rattle.std.specs.Prelude.{◌≡◌, ℕ, [], None}
 use Rattle.tenant_quota.specs.Quota.{Quota}
 use Rattle.sched_rules.specs.Cores.{tenant_in}
@@ -22,7 +22,7 @@ pub record IsNewSeat (begun : HallOf) (plan : PlanOf) (at : ℕ) (who : Who) (as
   pub new : tenant_in begun.shared.tenants seat.seat.tenant ≡ None
   pub opened : IsOpened plan who seat.seat.tenant ask seat.books
 
--- one who has a seat has a new one of its own
+-- what one has who asked a site's desk for a session: if seated, a new seat of its own; else nothing is said here
 abbrev pub IsEntry : HallOf → PlanOf → ℕ → Who → Quota → SeatOutcome SiteSeatOf → Type 0
 IsEntry begun plan at who ask (Seated seat) = IsNewSeat begun plan at who ask seat
 IsEntry begun plan at who ask _ = Unit {0}

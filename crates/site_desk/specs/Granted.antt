@@ -15,7 +15,7 @@ use Rattle.site_book.specs.Books.{BookOf, new_book, answer_of_book, book_after, 
 use Rattle.site_book.specs.Events.{book_after_events}
 use Rattle.site_book.specs.Plans.{PlanOf, limit_of, sums_fit}
 
--- the events of a history, in order
+-- the events of a book's history, in order, without who made them
 abbrev pub events_of : List (ℕ × BookEvent) → List BookEvent
 events_of [] = []
 events_of (entry ∷ entries) = entry.1 ∷ events_of entries

@@ -1,4 +1,4 @@
--- Meaning: what lies under a site's lock, and what each call does to it.
+-- Meaning: what lies under the lock of a site's desk, and what each call does to it.
 use Rattle.std.specs.Prelude.{◌≡◌, ℕ, ◌+◌, ◌%◌, ◌^◌, ◌==◌, Bool, true, false, ◌&&◌, ◌||◌, ◌⊎◌, List, [], ◌∷◌, ◌++◌, map, is_none, Option, Some, None, Result}
 use Rattle.sched_rules.specs.declared.refusal.Refusal.{Refusal}
 use Rattle.sched_rules.specs.declared.step.StepOf.{StepOf}
@@ -48,13 +48,14 @@ pub record SiteOf : Type 0 where
 abbrev pub IsListed : BookOf → List Present → Type 0
 IsListed book roll = names_present roll ≡ names_granted book.grants
 
--- what comes of one who asks for a session there
+-- what comes of one who asks for a session at the desk, by its book, its roll and the time
 abbrev pub met : SiteOf → Comer → Coming
 met site comer = coming site.booked.book.plan site.booked.book.grants site.roll comer.who comer.ask comer.at comer.most
 
--- what is done where one asks for a session: where it enters, its tenant is admitted, its grant entered, which the book's history then has,
--- itself listed and its share begun, all at once; where a guest is to end for it, that one is told so; and else nothing changes. It is turned
--- away where the book refuses it and nobody's going would help, or where no number or no memory is left
+-- what is done where one asks a site's desk for a session. Where it enters, all at once: its tenant is admitted; its
+-- grant is entered, and the book's history has it; it is listed; and its share of the workers begins. Where a guest is
+-- to end for it, that guest is told so. Else nothing changes. It is turned away where the book refuses it and nobody's
+-- going would help, or where no number or no memory is left
 abbrev pub IsCame : SiteOf → Comer → SeatOutcome SiteSeatOf → SiteOf → Type 0
 IsCame before comer (Seated seat) after =
     (met before comer ≡ Enters) × IsLetIn before.booked comer.who comer.ask seat.seat.tenant after.booked × (after ≡ record before { booked = after.booked; events = before.events ++ (seat.books.maker, Opens comer.who seat.seat.tenant comer.ask) ∷ []; roll = before.roll ++ newcomer comer.who seat.seat.tenant comer.at ∷ []; shares = tenant_entered seat.seat.tenant (share_customer comer.who) (share_network comer.who) before.shares })
@@ -70,12 +71,12 @@ abbrev pub IsSessionGone : SiteOf → SiteSeatOf → SiteOf → Type 0
 IsSessionGone before seat after =
     IsEnd before.booked seat.who seat.seat.tenant after.booked × (after ≡ record before { booked = after.booked; events = before.events ++ (seat.books.maker, Closes seat.who seat.seat.tenant) ∷ []; roll = without_present seat.who seat.seat.tenant before.roll; shares = unshared seat.seat.tenant before.shares; left = (before.left + 1) % 2 ^ 64 })
 
--- one step was offered to the hall, and nothing else was done
+-- one step was offered to the hall under the site's lock, and nothing else was done
 abbrev pub IsSiteStep : SiteOf → StepOf LeafAnswer → Result (DidOf Leaf) Refusal → SiteOf → Type 0
 IsSiteStep before step answer after =
     IsDecided before.booked.hall step answer after.booked.hall × (after ≡ record before { booked = record before.booked { hall = after.booked.hall } })
 
--- the same of a seat's step
+-- one step of a seat was offered to the hall under the site's lock, and nothing else was done
 abbrev pub IsSeatStep : {X : Type 0} → SiteOf → StepOf LeafAnswer → Result X Refusal → SiteOf → Type 0
 IsSeatStep before step answer after =
     IsDone before.booked.hall step answer after.booked.hall × (after ≡ record before { booked = record before.booked { hall = after.booked.hall } })

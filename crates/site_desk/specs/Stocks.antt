@@ -23,16 +23,16 @@ pub record NamesOf : Type 0 where
   pub granted : ℕ → TableId
   pub plan : ℕ → PlanOf
 
--- this is for a desk of this number: the number names it
+-- what a desk of this number is made of: the hall, history and plan that the number names
 abbrev pub IsStock : NamesOf → ℕ → StockOf → Type 0
 IsStock names at stock = (stock.opened ≡ names.table at) × (stock.hall ≡ names.begun at) × (stock.granted ≡ names.granted at) × (stock.book.plan ≡ names.plan at)
 
--- these are for desks whose numbers follow each other from this one on
+-- each of these stocks is what the desk of its number is made of; the numbers follow each other from this one on
 abbrev pub AreStocked : NamesOf → ℕ → List StockOf → Type 0
 AreStocked names at [] = Unit {0}
 AreStocked names at (stock ∷ stocks) = IsStock names at stock × AreStocked names (at + 1) stocks
 
--- something of each of these, by its place from 0 on; something else behind them
+-- the element at a place of a list, counted from 0; another value beyond its end
 abbrev pub at_place : {X : Type 0} → (StockOf → X) → X → List StockOf → ℕ → X
 at_place field none [] at = none
 at_place field none (stock ∷ stocks) at = if at == 0 then field stock else at_place field none stocks (at - 1)
@@ -41,7 +41,7 @@ at_place field none (stock ∷ stocks) at = if at == 0 then field stock else at_
 abbrev pub no_plan : PlanOf
 no_plan = record { totals = nothing; customers = []; guest = nothing; network = nothing; guests = nothing }
 
--- the names of the desks of these, by their places
+-- the names of the desks that are made of these stocks, by their places
 abbrev pub desk_names : List StockOf → NamesOf
 desk_names stocks = record {
   table = at_place (λ stock. stock.opened) no_table stocks;

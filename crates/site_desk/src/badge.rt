@@ -1,4 +1,4 @@
-//! A worker's badge at a site.
+//! A worker's badge at a site's desk: its right to take steps there.
 ghost use Rattle.std.specs.Prelude.{◌≡◌, ◌+◌, ◌<◌, ◌^◌};
 
 use desk::WorkerBadge;
@@ -25,7 +25,7 @@ impl Model for SiteBadge {
 }
 
 impl SiteBadge {
-    /// That of a worker that begins.
+    /// The badge of a worker that begins: no step was taken with it.
     pub(crate) fn new() -> SiteBadge
         ensures { result ≡ 0 }
     {
@@ -35,7 +35,7 @@ impl SiteBadge {
         }
     }
 
-    /// One badge in place of two, with the sum of their shares, and the waits of the first.
+    /// One badge in place of two: its share is the sum of theirs. It waits for the lock as the first one does.
     pub fn join(self, other: SiteBadge) -> SiteBadge
         ensures { self + other < 2 ^ 128 → result ≡ self + other }
     {
@@ -52,18 +52,22 @@ impl WorkerBadge for SiteBadge {
 
     ghost may_join = { Unit {0} };
 
+    /// How many steps were taken with this badge.
     fn share(&self) -> u128 {
         self.steps
     }
 
+    /// How long the badge's worker waits between two tries to take the desk's lock.
     fn backoff(&self) -> Backoff {
         self.backoff
     }
 
+    /// Sets how long the badge's worker waits between two tries to take the desk's lock.
     fn wait_by(&mut self, backoff: Backoff) {
         self.backoff = backoff;
     }
 
+    /// One badge in place of two workers' badges, with the sum of their shares.
     fn joined(self, other: SiteBadge) -> SiteBadge {
         self.join(other)
     }

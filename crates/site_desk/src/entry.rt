@@ -1,3 +1,4 @@
+//! What comes of one who asks a site's desk for a session: a seat, or why there is none.
 use crate::turned::Turned;
 use site_book::BookRefusal;
 

@@ -1,5 +1,5 @@
-//! What lies under a site's lock: the hall with the history of its steps, the book of its customers, the roll of who is there, and who
-//! shares the workers. The seat is the grant.
+//! What lies under the lock of a site's desk: the hall with the history of its steps, the book of its customers, the
+//! roll of who is there, and who shares the workers. The seat is the grant.
 //!
 //! A session is a tenant and a grant of the same number. It begins by [`LockedSite::come`], may be raised, and ends by
 //! [`LockedSite::leave`]; each of these does both or neither. All other steps of the hall neither begin nor end a tenant, nor raise what it
@@ -258,7 +258,7 @@ impl<J: SiteNaming, A: Allocator + Clone> LockedSite<J, A> {
         }
     }
 
-    /// Notes something of these sessions.
+    /// Puts this mark (it spoke, it waits, it is told to end) at the sessions of the roll that are meant.
     #[tactic(auto, using(crate::proofs::Lists::names_marked))]
     pub(crate) fn mark(&mut self, whom: Whom, mark: SessionMark)
         ensures { self.new ≡ record self.old { roll = marked_all whom mark self.old.roll } }
@@ -395,14 +395,14 @@ impl<J: SiteNaming, A: Allocator + Clone> LockedSite<J, A> {
         self.events.show(&mut seat.books);
     }
 
-    /// The hall, for reading.
+    /// The desk's hall, for reading.
     pub(crate) fn hall(&self) -> &Hall<A>
         ensures { result.now ≡ self.now.booked.hall }
     {
         self.noted.hall()
     }
 
-    /// The number of the desk.
+    /// The number of the desk among those of the site.
     pub(crate) fn at(&self) -> u64
         ensures { result ≡ self.now.at }
     {
@@ -416,8 +416,9 @@ impl<J: SiteNaming, A: Allocator + Clone> LockedSite<J, A> {
         stays_in(self.roll.entries(), number)
     }
 
-    /// The task that comes next, by who was served least: the newest ready frame of a tenant of a customer that none with a ready frame
-    /// was served less than; `None` where no tenant that shares has one. The frame isn't taken, and nobody is charged.
+    /// The task that comes next: the newest ready frame of the tenant that was served least, or, each fourth time, has
+    /// waited longest; None where that tenant has none, or there is no such tenant. The frame isn't taken, and nobody
+    /// is charged.
     pub(crate) fn pick(&mut self) -> Option<Task>
         ensures { IsSitePick self.old result self.new }
     {
@@ -425,7 +426,7 @@ impl<J: SiteNaming, A: Allocator + Clone> LockedSite<J, A> {
         fair_task(hall, &mut self.shares)
     }
 
-    /// This tenant was served so much more, if it is one that shares.
+    /// Notes that a tenant was served so much more, if it is one that shares the workers.
     fn charge(&mut self, tenant: u64, amount: u64)
         ensures { self.new ≡ record self.old { shares = charged_to tenant amount self.old.shares } }
     {
@@ -439,7 +440,7 @@ impl<J: SiteNaming, A: Allocator + Clone> LockedSite<J, A> {
         self.left
     }
 
-    /// The book, for reading.
+    /// The book of the desk's customers, for reading.
     pub(crate) fn book(&self) -> &CustomerBook
         ensures book { result.now ≡ self.now.booked.book }
         ensures by { IsBookBy (J.plan self.now.at) self.now.events result.now }
@@ -471,7 +472,7 @@ impl<J: SiteNaming, A: Allocator + Clone> LockedSite<J, A> {
         overruns
     }
 
-    /// All who are there.
+    /// The entries of all sessions that are there, in the order in which they came.
     pub(crate) fn listed(&self) -> ArrayVec<Present, MOST>
         ensures { result.items ≡ self.now.roll }
     {
@@ -499,6 +500,7 @@ impl<J: SiteNaming, A: Allocator + Clone> UnderLock for LockedSite<J, A> {
     // What is said of a pick is that it is a fair one at the hall as it is then.
     ghost is_fair = { λ site task. IsFairTask site.booked.hall.shared site.shares task };
 
+    /// Offers a worker's step to the hall, and counts it in the badge where it is taken.
     fn offer(&mut self, badge: &mut SiteBadge, step: &Step<Jamboree>) -> StepAnswer {
         let answer = self.noted.offer(&mut self.workers, step);
         if answer.is_ok() {
@@ -507,14 +509,18 @@ impl<J: SiteNaming, A: Allocator + Clone> UnderLock for LockedSite<J, A> {
         answer
     }
 
+    /// Whether some tenant has a ready frame.
     fn has_ready(&self) -> bool {
         has_ready(self.noted.hall())
     }
 
+    /// Whether who waits for this job waits on: its session wasn't told to end, and the job hasn't ended.
     fn waits_on(&self, tenant: u64, job: u64) -> bool {
         self.stays(tenant) && is_awaited(self.noted.hall(), tenant, job)
     }
 
+    /// The task that comes next, by who was served least or has waited longest; else any ready frame. None where none
+    /// is ready.
     fn next_task(&mut self) -> Option<Task> {
         match self.pick() {
             Some(task) => Some(task),
@@ -522,10 +528,13 @@ impl<J: SiteNaming, A: Allocator + Clone> UnderLock for LockedSite<J, A> {
         }
     }
 
+    /// The task that comes next, by who was served least or has waited longest; None where that tenant has no ready
+    /// frame, or there is no such tenant.
     fn pick(&mut self) -> Option<Task> {
         self.pick()
     }
 
+    /// Notes that a session's tenant, and so its network and its customer, were served so much more.
     fn charge(&mut self, tenant: u64, amount: u64) {
         self.charge(tenant, amount);
     }

@@ -1,4 +1,4 @@
-//! The names of the histories of a site's desks.
+//! The names that clauses use for the histories of a site's desks.
 use std::marker::Brand;
 
 /// A type that stands for the histories of a site's desks. Each desk has a number, by which its history is known: so desks of one type lie

@@ -16,7 +16,8 @@ ghost use Rattle.site_desk.specs.BookedSeats.{seats_in_book, seats_in_hall};
 ghost use Rattle.site_desk.specs.Granted.{book_at, events_of, is_open_by, AreGranted, AreHeld, IsBookBy, IsBookLook, IsGrantedFrom, IsNotReplanned, IsOpened, IsPartOnce, IsReplannedBy};
 ghost use Rattle.site_desk.specs.declared.turned.Turned.TheVariants.{OldTenant, OutOfMemory};
 
-/// A seat is a number and what it reserves, whosever it is and whatever its tenant does.
+/// Of grants or of tenants: who is at the hall is a number and what it reserves, whosever it is and whatever its tenant
+/// does.
 pub fn seats_are_read()
     ensures book { seats_in_book (
         record { who = Named 0; session = 1; ask = record { segments = 4; nodes = 8 } } ∷ record { who = V4 7; session = 3; ask = record { segments = 5; nodes = 9 } } ∷ [])
@@ -25,7 +26,7 @@ pub fn seats_are_read()
         ≡ (1, record { segments = 4; nodes = 8 }) ∷ (3, record { segments = 5; nodes = 9 }) ∷ [] }
 {}
 
-/// Which steps leave all seats as they are.
+/// Admit, AdmitMore and Leave change who is at the hall and what it reserves; a Cancel doesn't.
 pub fn steps_within_seats()
     ensures admit { is_within_seat {A = ℕ} (Admit 1 (record { segments = 4; nodes = 8 })) ≡ false }
     ensures more { is_within_seat {A = ℕ} (AdmitMore 1 (record { segments = 4; nodes = 8 })) ≡ false }
@@ -33,7 +34,7 @@ pub fn steps_within_seats()
     ensures cancel { is_within_seat {A = ℕ} (Cancel 1 1) ≡ true }
 {}
 
-/// Why a customer is turned away by the hall.
+/// A customer is turned away by the hall for want of a tenant's number or of memory.
 pub fn turned_by_the_hall()
     ensures numbers { turned_by NoNumber ≡ OldTenant }
     ensures memory { turned_by NoMemory ≡ OutOfMemory }

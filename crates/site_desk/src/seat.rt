@@ -1,4 +1,4 @@
-//! A session's seat.
+//! A session's seat at a site's desk.
 ghost use Rattle.std.specs.Prelude.{◌≡◌, ◌≢◌, ◌≤◌, ◌<◌, length, Err, None, Contains};
 ghost use Rattle.sched_rules.specs.declared.refusal.Refusal.TheVariants.{NoJob, NoJobsLeft};
 ghost use Rattle.hall.specs.desk_rules.Asked.{ask_refusals, cancel_refusals, seat_asked_at, IsShown};
@@ -37,21 +37,21 @@ impl<J: SiteNaming> Model for SiteSeat<J> {
 }
 
 impl<J: SiteNaming> SiteSeat<J> {
-    /// Whose it is.
+    /// Whose the seat is: a named customer or a guest.
     pub fn who(&self) -> Who
         ensures { result ≡ self.now.who }
     {
         self.who
     }
 
-    /// Its number, which is its tenant's.
+    /// The number of the seat's session, which is its tenant's.
     pub fn number(&self) -> u64
         ensures { result ≡ self.now.seat.tenant }
     {
         self.core.tenant()
     }
 
-    /// What it asked, from job 1 on; at most 256.
+    /// What the seat has asked for, its job 1 first; at most 256 jobs.
     pub fn asked(&self) -> &[SeatAsked]
         ensures asked { result.now ≡ self.now.seat.asked }
         ensures few { length result.now ≤ 256 }
@@ -59,7 +59,8 @@ impl<J: SiteNaming> SiteSeat<J> {
         self.core.asked()
     }
 
-    /// How it is refused where it asks at another desk than its own, as one that isn't there.
+    /// How a seat is refused that asks for a job at another desk than its own: as a tenant that isn't there, or as one
+    /// that has asked for 256 jobs.
     pub(crate) fn ask_elsewhere(&self) -> Refusal
         ensures refused { Contains ask_refusals result }
         ensures full { length self.now.seat.asked ≡ 256 → result ≡ NoJobsLeft }
@@ -71,7 +72,7 @@ impl<J: SiteNaming> SiteSeat<J> {
         }
     }
 
-    /// How it is refused where it cancels at another desk.
+    /// How a seat is refused that cancels a job at another desk than its own.
     pub(crate) fn cancel_elsewhere(&self, job: u64) -> Refusal
         ensures refused { Contains cancel_refusals result }
         ensures none { seat_asked_at self.now.seat.asked job ≡ None → result ≡ NoJob }
@@ -82,7 +83,7 @@ impl<J: SiteNaming> SiteSeat<J> {
         }
     }
 
-    /// What it is told of a job at another desk.
+    /// What a seat is told of a job at another desk than its own.
     pub(crate) fn told_elsewhere(&self, job: u64) -> Result<Outcome, Refusal>
         ensures { IsShown (seat_asked_at self.now.seat.asked job) result }
     {

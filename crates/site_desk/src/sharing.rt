@@ -1,4 +1,4 @@
-//! As who a session shares the workers with others.
+//! As who a site's session shares the workers with others.
 ghost use Rattle.std.specs.Prelude.{◌≡◌};
 ghost use Rattle.fair_share.specs.Shares.{tenant_entered};
 ghost use Rattle.site_desk.specs.Sharing.{share_customer, share_network, unshared};
@@ -20,7 +20,8 @@ fn share_customer(who: Who) -> u32
     }
 }
 
-/// Its network there: a guest's is its 64 bits of IPv6, and of an address of IPv4 those of 6to4 (RFC 3056). A named customer has one.
+/// The network under which a session shares the workers: a guest's is its 64 bits of IPv6, and of an address of IPv4
+/// those of 6to4 (RFC 3056). A named customer has one.
 fn share_network(who: Who) -> u64
     ensures { result ≡ share_network who }
 {
@@ -31,14 +32,14 @@ fn share_network(who: Who) -> u64
     }
 }
 
-/// A customer's tenant shares from now on.
+/// Lets a customer's tenant share the workers from now on.
 pub(crate) fn share(shares: &mut FairShare, who: Who, tenant: u64)
     ensures { shares.new ≡ tenant_entered tenant (share_customer who) (share_network who) shares.old }
 {
     let _place = shares.enter(tenant, share_customer(who), share_network(who));
 }
 
-/// A tenant shares no more.
+/// A tenant that leaves shares the workers no more.
 pub(crate) fn unshare(shares: &mut FairShare, tenant: u64)
     ensures { shares.new ≡ unshared tenant shares.old }
 {

@@ -63,6 +63,7 @@ impl<J: SiteNaming, A: Allocator> Model for SiteDesk<J, A> {
 
 // By hand: were it derived, each crate that holds a desk would have to prove again that all its parts are dropped.
 impl<J: SiteNaming, A: Allocator> Drop for SiteDesk<J, A> {
+    /// Drops the lock with what lies under it.
     fn drop(self) {
         let SiteDesk {
             at: _,
@@ -104,7 +105,7 @@ impl<J: SiteNaming, A: Allocator + Clone> SiteDesk<J, A> {
         kept
     }
 
-    /// Takes the lock.
+    /// Takes the desk's lock, and gives what lies under it.
     fn enter<R: Wait>(&self, rt: &R) -> MutexGuard<'_, Kept<LockedSite<J, A>>>
         ensures { (mutex_guard_value result).value.at ≡ self.now }
     {
@@ -335,7 +336,7 @@ impl<J: SiteNaming, A: Allocator + Clone> SiteDesk<J, A> {
         true
     }
 
-    /// Notes that these sessions said a line, or don't wait any more.
+    /// Puts this mark (it spoke, or doesn't wait any more) at the sessions of the desk that are meant.
     pub fn mark<R: Wait>(&self, rt: &R, whom: Whom, mark: SessionMark) {
         self.lock.enter(rt).value.mark(whom, mark);
     }
@@ -377,7 +378,7 @@ impl<J: SiteNaming, A: Allocator + Clone> SiteDesk<J, A> {
         self.lock.enter(rt).value.overruns(plan)
     }
 
-    /// All who are there.
+    /// The entries of all sessions that are there, in the order in which they came.
     pub fn roll<R: Wait>(&self, rt: &R) -> ArrayVec<Present, MOST> {
         self.lock.enter(rt).value.listed()
     }
@@ -414,14 +415,18 @@ impl<J: SiteNaming, A: Allocator + Clone> SiteDesk<J, A> {
 impl<J: SiteNaming, A: Allocator + Clone> Workplace for SiteDesk<J, A> {
     type Badge = SiteBadge;
 
+    /// A new worker's badge.
     fn badge<R: Wait>(&self, _rt: &R) -> Option<SiteBadge> {
         Some(self.badge())
     }
 
+    /// Closes the desk: who waits there goes on.
     fn close<R: Wait>(&self, rt: &R) {
         self.close(rt);
     }
 
+    /// Takes the desk's lock, lets the worker take its steps under it, lets the lock go, and wakes who waits for what
+    /// became of them. Returns what the worker holds then.
     fn work<G: Gate, R: Wait>(
         &self,
         rt: &R,
@@ -433,10 +438,14 @@ impl<J: SiteNaming, A: Allocator + Clone> Workplace for SiteDesk<J, A> {
         steps(rt, self.hold(rt, badge), badge, tasks, gate, round)
     }
 
+    /// The task that comes next: the newest ready frame of the tenant that was served least, or, each fourth time, has
+    /// waited longest; None where that tenant has none, or there is no such tenant. The frame isn't taken.
     fn pick<R: Wait>(&self, rt: &R) -> Option<Task> {
         self.lock.enter(rt).value.pick()
     }
 
+    /// Waits until a frame is ready or the desk is closed, and returns the task that comes next: a pick, else any ready
+    /// frame. None only where the desk is closed.
     fn next_task<R: Wait>(&self, rt: &R) -> Option<Task> {
         self.lock.next_task(rt)
     }

@@ -1,3 +1,4 @@
+//! Why a site's desk turns a customer away.
 ghost use Rattle.std.specs.Prelude.{◌≡◌};
 ghost use Rattle.site_desk.specs.Booked.{turned_by};
 

@@ -1,4 +1,4 @@
--- How much the lines that pass cost together.
+-- For the rates in a site's file: how much the lines of a customer that pass cost together.
 use Rattle.std.proofs.Common.{◌≡◌, ℕ, suc, ◌+◌, ◌*◌, ◌≤◌, inl, inr, true, leb, List, [], ◌∷◌, arith}
 use Rattle.std.proofs.lemmas.Bool.{cases_Bool}
 use Rattle.site_file.specs.declared.rate.Rate.{Rate}

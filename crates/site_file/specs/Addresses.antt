@@ -1,4 +1,4 @@
--- Meaning: addresses, the networks that have them, and the guest of an address.
+-- Meaning: addresses as a site's file has them, the networks that have them, and the guest of an address.
 use Rattle.std.specs.Prelude.{ℕ, ◌-◌, ◌/◌, ◌%◌, ◌^◌, ◌==◌, Bool, false, ◌&&◌, if◌then◌else◌}
 use Rattle.site_book.specs.declared.who.Who.{Who}
 use Rattle.site_book.specs.declared.who.Who.TheVariants.{V4 as v4_guest, V6 as v6_guest}

@@ -1,4 +1,4 @@
--- Meaning: what no directory says that a site goes by.
+-- Meaning: what the directory of customers in a site's file may not say.
 use Rattle.std.specs.Prelude.{ℕ, ◌+◌, ◌==◌, Bool, true, false, ◌&&◌, ◌||◌, nat_le, List, [], ◌∷◌, Option, Some, None, string_bytes, if◌then◌else◌}
 use Rattle.site_file.specs.declared.rate.Rate.{Rate}
 use Rattle.site_file.specs.declared.address.Network.{Network}
@@ -12,11 +12,11 @@ use Rattle.site_file.specs.declared.checks.DirectoryFault.TheVariants.{Rates, Ke
 use Rattle.site_file.specs.Addresses.{is_same_network}
 use Rattle.site_file.specs.Keys.{customer_of_digest, customer_of_name}
 
--- something comes back after a time above 0, and may come at all
+-- a rate of lines lets lines pass at all: its period is above 0, and so is the count that may come at once
 abbrev pub is_fit_rate : Rate → Bool
 is_fit_rate rate = nat_le 1 rate.period && nat_le 1 rate.burst
 
--- that of each customer
+-- whether each customer's rate lets lines pass at all
 abbrev pub are_fit_terms : List Terms → Bool
 are_fit_terms [] = true
 are_fit_terms (terms ∷ customers) = is_fit_rate terms.rate && are_fit_terms customers
@@ -26,12 +26,12 @@ abbrev pub has_token : ℕ → List TokenKey → Bool
 has_token number [] = false
 has_token number (key ∷ keys) = (key.customer == number) || has_token number keys
 
--- whether a certificate is
+-- whether the customer of this number has a certificate among these keys
 abbrev pub has_certificate : ℕ → List CertificateKey → Bool
 has_certificate number [] = false
 has_certificate number (key ∷ keys) = (key.customer == number) || has_certificate number keys
 
--- whether a network is
+-- whether the customer of this number has a network among these keys
 abbrev pub has_network : ℕ → List NetworkKey → Bool
 has_network number [] = false
 has_network number (key ∷ keys) = (key.customer == number) || has_network number keys
@@ -50,7 +50,7 @@ abbrev pub same_network : Network → List NetworkKey → Option ℕ
 same_network network [] = None
 same_network network (key ∷ keys) = if is_same_network key.network network then Some key.customer else same_network network keys
 
--- the first of two
+-- the first of two customers, if there is one; else the second
 abbrev pub or_other : Option ℕ → Option ℕ → Option ℕ
 or_other None next = next
 or_other (Some number) next = Some number
@@ -60,12 +60,12 @@ abbrev pub repeated_token : List TokenKey → Option ℕ
 repeated_token [] = None
 repeated_token (key ∷ keys) = or_other (customer_of_digest key.digest keys) (repeated_token keys)
 
--- that of two certificates
+-- the customer of the second of two certificates of the same name, if there are such
 abbrev pub repeated_certificate : List CertificateKey → Option ℕ
 repeated_certificate [] = None
 repeated_certificate (key ∷ keys) = or_other (customer_of_name (string_bytes key.name) keys) (repeated_certificate keys)
 
--- that of two networks
+-- the customer of the second of two networks that are the same, if there are such
 abbrev pub repeated_network : List NetworkKey → Option ℕ
 repeated_network [] = None
 repeated_network (key ∷ keys) = or_other (same_network key.network keys) (repeated_network keys)
@@ -74,12 +74,12 @@ repeated_network (key ∷ keys) = or_other (same_network key.network keys) (repe
 abbrev pub shared_key : Keys → Option ℕ
 shared_key keys = or_other (repeated_token keys.tokens.items) (or_other (repeated_certificate keys.certificates.items) (repeated_network keys.networks.items))
 
--- the fault of the first test that fails
+-- the fault of the first of two tests of a directory that finds one
 abbrev pub or_fault : Option DirectoryFault → Option DirectoryFault → Option DirectoryFault
 or_fault None next = next
 or_fault (Some fault) next = Some fault
 
--- the fault where a test says false
+-- this fault of a directory, unless the test says yes
 abbrev pub fault_unless : Bool → DirectoryFault → Option DirectoryFault
 fault_unless test fault = if test then None else Some fault
 

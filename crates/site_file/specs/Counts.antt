@@ -1,4 +1,4 @@
--- Meaning: a whole number of the file.
+-- Meaning: a whole number in a site's file.
 use Rattle.std.specs.Prelude.{ℕ, ℤ, pos, negsuc, ◌&&◌, nat_le, Option, Some, None, if◌then◌else◌}
 
 -- the number, where it is from `least` to `most`

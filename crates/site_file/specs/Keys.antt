@@ -1,4 +1,4 @@
--- Meaning: who a connection is, by the keys of the file.
+-- Meaning: whose a connection to a site is, by the keys of its file: tokens, certificates, networks.
 use Rattle.std.specs.Prelude.{ℕ, nat_lt, List, [], ◌∷◌, Option, Some, None, option_map, string_bytes, if◌then◌else◌}
 use Rattle.std.specs.Str.{bytes_eq}
 use Rattle.sha2.specs.Sha256.{sha256}
@@ -31,7 +31,7 @@ abbrev pub closest : Address → List NetworkKey → Option NetworkKey
 closest address [] = None
 closest address (key ∷ keys) = if has key.network address then closer (Some key) (closest address keys) else closest address keys
 
--- the customer of this number, or else another
+-- the named customer of this number, if a number is given; else this other customer
 abbrev pub named_or : Option ℕ → Who → Who
 named_or None who = who
 named_or (Some number) who = Named number

@@ -1,4 +1,4 @@
--- Meaning: what a directory says of a customer.
+-- Meaning: what the directory in a site's file says of a customer.
 use Rattle.std.specs.Prelude.{List, slice_index_or}
 use Rattle.site_book.specs.declared.who.Who.{Who}
 use Rattle.site_book.specs.declared.who.Who.TheVariants.{Named, V4, V6}

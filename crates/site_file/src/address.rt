@@ -1,4 +1,4 @@
-//! Addresses and networks.
+//! Addresses and networks, as a site's file has them.
 ghost use Rattle.std.specs.Prelude.{◌≡◌, ◌≤◌};
 ghost use Rattle.std.specs.Int.{w32, w64, from_be_bytes};
 ghost use Rattle.std.specs.Prelude.{take, drop};
@@ -47,7 +47,7 @@ impl Address {
         }
     }
 
-    /// The same of a socket's address.
+    /// The address that a socket's address of IPv4 or IPv6 stands for.
     pub fn of_ip(ip: IpAddr) -> Address {
         match ip {
             IpAddr::V4(ip) => Address::v4(ip.octets()),
@@ -85,7 +85,7 @@ fn same_front(width: u8, bits: u8, a: u64, b: u64) -> bool
 }
 
 impl Network {
-    /// How many bits count: the more there are, the fewer addresses it has.
+    /// How many first bits of an address the network fixes: the more there are, the fewer addresses it has.
     pub(crate) fn bits(self) -> u8
         ensures { result ≡ fixed_bits self }
     {
@@ -95,7 +95,7 @@ impl Network {
         }
     }
 
-    /// Whether both are the same network.
+    /// Whether both networks are the same.
     pub(crate) fn is(self, other: Network) -> bool
         ensures { result ≡ is_same_network self other }
     {
@@ -109,7 +109,7 @@ impl Network {
         }
     }
 
-    /// Whether it has the address.
+    /// Whether this network has the address.
     pub(crate) fn has(self, address: Address) -> bool
         ensures { result ≡ has self address }
     {
@@ -120,6 +120,7 @@ impl Network {
     }
 }
 
+/// Whether an IPv4 network, with so many bits fixed, has this address.
 fn has_v4(own: u32, bits: u8, address: Address) -> bool
     ensures { result ≡ has (Network.V4 own bits) address }
 {
@@ -129,6 +130,7 @@ fn has_v4(own: u32, bits: u8, address: Address) -> bool
     }
 }
 
+/// Whether an IPv6 network, with so many bits fixed, has this address.
 fn has_v6(high: u64, low: u64, bits: u8, address: Address) -> bool
     ensures { result ≡ has (Network.V6 high low bits) address }
 {

@@ -1,4 +1,4 @@
-//! A file that is read again: who was there before keeps its number and its home.
+//! A site's file that is read again: who was there before keeps its number and its home.
 use crate::config::SiteConfig;
 use crate::directory::{Directory, Terms};
 use crate::faults::FileFault;
@@ -34,6 +34,7 @@ pub(crate) fn changed_word(told: &FileContents, now: &SiteConfig) -> Option<&'st
     None
 }
 
+/// Whether both files name the same path, or neither names one.
 fn is_same_path(new: &Option<String>, now: &Option<String>) -> bool {
     match (new, now) {
         (None, None) => true,
@@ -57,6 +58,8 @@ pub(crate) fn renumber(
     }
 }
 
+/// Gives each customer of a new file the number that it had by the file before, and new ones the next numbers. Each
+/// keeps the home that it had, unless the new file asks for another.
 fn renumber_all(alloc: Global, told: &mut FileContents, now: &[Terms]) -> Result<(), AllocError> {
     let numbers = numbers_of(alloc, &told.directory.customers, now)?;
     let count = count_of(&numbers, now.len());
@@ -84,7 +87,7 @@ fn numbers_of(alloc: Global, new: &[Terms], now: &[Terms]) -> Result<Vec<usize>,
     Ok(numbers)
 }
 
-/// This number, or else the next one that nobody has.
+/// The number that the customer had, or else the next one that nobody has.
 fn same_or_next(same: Option<usize>, next: &mut usize) -> usize {
     match same {
         Some(number) => number,
@@ -96,7 +99,7 @@ fn same_or_next(same: Option<usize>, next: &mut usize) -> usize {
     }
 }
 
-/// The number behind all of these and behind `least`.
+/// How many customers there are: one more than the greatest of these numbers, and no fewer than `least`.
 fn count_of(numbers: &[usize], least: usize) -> usize {
     let mut count = least;
     for number in numbers {
@@ -105,7 +108,7 @@ fn count_of(numbers: &[usize], least: usize) -> usize {
     count
 }
 
-/// Puts each value at its number, where there is one.
+/// Puts each value at the place that its customer's number names.
 fn put<T: Copy + Drop>(all: &mut [T], values: &[T], numbers: &[usize]) {
     for (place, number) in numbers.iter().enumerate() {
         if *number < all.len() && place < values.len() {
@@ -114,7 +117,7 @@ fn put<T: Copy + Drop>(all: &mut [T], values: &[T], numbers: &[usize]) {
     }
 }
 
-/// Has each who was there be at home where it was.
+/// Lets each customer that was in the file before keep its home, the hall where it was.
 fn keep_homes(wanted: &mut [Option<u32>], now: &[Terms]) {
     for (place, terms) in now.iter().enumerate() {
         if place < wanted.len() {
@@ -123,7 +126,7 @@ fn keep_homes(wanted: &mut [Option<u32>], now: &[Terms]) {
     }
 }
 
-/// Puts each home that the file asks for at its customer's number.
+/// Puts each home (a hall) that the new file asks for at its customer's number.
 fn put_wanted(all: &mut [Option<u32>], wanted: &[Option<u32>], numbers: &[usize]) {
     for (place, number) in numbers.iter().enumerate() {
         if let Some(hall) = wanted.get(place).copied().flatten() {
@@ -134,7 +137,8 @@ fn put_wanted(all: &mut [Option<u32>], wanted: &[Option<u32>], numbers: &[usize]
     }
 }
 
-/// The terms of all: first of those who were there, who may have nothing unless the new ones say else.
+/// The terms of all customers by their numbers: those of the file before, without any connection, unless the new file
+/// says what they may have; then the new customers'.
 fn new_terms(
     alloc: Global,
     new: &[Terms],
@@ -153,7 +157,7 @@ fn new_terms(
     Ok(customers)
 }
 
-/// Puts what is said of a customer at its number, or behind all.
+/// Puts what the new file says of a customer at its number, or at the end for a new customer.
 fn set_terms(customers: &mut Vec<Terms>, number: usize, terms: &Terms) -> Result<(), AllocError> {
     if number < customers.len() {
         customers[number].connections = terms.connections;
@@ -169,6 +173,7 @@ fn set_terms(customers: &mut Vec<Terms>, number: usize, terms: &Terms) -> Result
     )
 }
 
+/// Appends what the file says of one customer.
 fn push_terms(
     customers: &mut Vec<Terms>,
     name: &String,
@@ -186,7 +191,7 @@ fn push_terms(
     Ok(())
 }
 
-/// The number of a customer.
+/// The number that a customer of the new file has from now on.
 fn new_number(numbers: &[usize], customer: u32) -> u32 {
     match numbers.get(customer as usize) {
         Some(number) => u32::try_from(*number).unwrap_or(u32::MAX),

@@ -1,4 +1,4 @@
-//! What no directory says that a site goes by.
+//! What the directory of customers in a site's file may not say.
 ghost use Rattle.std.specs.Prelude.{◌≡◌, IfOk, IfErr, Some, None};
 ghost use Rattle.site_file.specs.Checks.{are_fit_terms, fault_of, first_keyless, has_certificate, has_key, has_network, has_token, is_fit_rate, repeated_certificate, repeated_network, repeated_token, same_network, shared_key};
 
@@ -63,14 +63,14 @@ impl Directory {
     }
 }
 
-/// Whether lines come back, and some may come at once.
+/// Whether a rate lets lines pass at all: its period is above 0, and so is the count that may come at once.
 fn is_fit_rate(rate: Rate) -> bool
     ensures { result ≡ is_fit_rate rate }
 {
     rate.period > 0 && rate.burst > 0
 }
 
-/// Whether that holds of each customer.
+/// Whether each customer's rate lets lines pass at all.
 fn are_fit_terms(customers: &[Terms]) -> bool
     ensures { result ≡ are_fit_terms customers.now }
 {
@@ -103,6 +103,7 @@ fn has_key(keys: &Keys, number: usize) -> bool
         || has_network(&keys.networks, number)
 }
 
+/// Whether the customer of this number has a token.
 fn has_token(keys: &[TokenKey], number: usize) -> bool
     ensures { result ≡ has_token number keys.now }
 {
@@ -114,6 +115,7 @@ fn has_token(keys: &[TokenKey], number: usize) -> bool
     false
 }
 
+/// Whether the customer of this number has a certificate.
 fn has_certificate(keys: &[CertificateKey], number: usize) -> bool
     ensures { result ≡ has_certificate number keys.now }
 {
@@ -125,6 +127,7 @@ fn has_certificate(keys: &[CertificateKey], number: usize) -> bool
     false
 }
 
+/// Whether the customer of this number has a network.
 fn has_network(keys: &[NetworkKey], number: usize) -> bool
     ensures { result ≡ has_network number keys.now }
 {
@@ -161,7 +164,7 @@ fn repeated_token(keys: &[TokenKey]) -> Option<u32>
     None
 }
 
-/// The same of certificates.
+/// The customer of the second of two certificates of the same name.
 fn repeated_certificate(keys: &[CertificateKey]) -> Option<u32>
     ensures { result ≡ repeated_certificate keys.now }
 {
@@ -173,7 +176,7 @@ fn repeated_certificate(keys: &[CertificateKey]) -> Option<u32>
     None
 }
 
-/// The same of networks.
+/// The customer of the second of two networks that are the same.
 fn repeated_network(keys: &[NetworkKey]) -> Option<u32>
     ensures { result ≡ repeated_network keys.now }
 {

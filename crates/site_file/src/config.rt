@@ -119,7 +119,7 @@ impl SiteConfig {
     }
 }
 
-/// What is said of each guest.
+/// The terms of each guest: its name, connections and rate of lines.
 pub(crate) fn guest_terms(
     alloc: Global,
     connections: u32,

@@ -1,4 +1,4 @@
-//! What a site looks up: names, keys, rates and homes.
+//! What a site looks up in its file: customers' names, keys, rates and homes.
 ghost use Rattle.std.specs.Prelude.{◌≡◌, option_copied};
 ghost use Rattle.site_file.specs.Keys.{who_of};
 ghost use Rattle.site_file.specs.Terms.{terms_of};

@@ -1,4 +1,4 @@
-//! What is wrong with a file.
+//! What is wrong with a site's file.
 use std::alloc::{AllocError, Global};
 use thiserror::Error;
 
@@ -71,7 +71,7 @@ struct Search {
 }
 
 impl Search {
-    /// Whether a line is that of the word.
+    /// Whether a search of a file's lines for a word ends at this line, since the word stands there.
     fn ends_at(self, line: &str, head: &str, key: &str) -> bool {
         if line.starts_with('[') {
             head.is_empty() && head_of(line) == key
@@ -80,7 +80,7 @@ impl Search {
         }
     }
 
-    /// The search after a line that isn't.
+    /// Goes on with a search of a file's lines for a word, past a line where the word doesn't stand.
     fn after(self, line: &str, here: usize, head: &str, number: usize) -> Search {
         if line.starts_with('[') {
             self.after_head(head_of(line) == head, here, number)
@@ -89,7 +89,8 @@ impl Search {
         }
     }
 
-    /// The search after the head of a table, which is one of those looked for, or isn't.
+    /// Goes on with a search of a file's lines for a word, past the head of a table: `is_same` says whether it is a
+    /// table of the name looked for.
     fn after_head(self, is_same: bool, here: usize, number: usize) -> Search {
         let is_there = is_same && self.seen == number;
         Search {

@@ -1,4 +1,4 @@
-//! A file's text as what a site can go by.
+//! The text of a site's file as what a site can go by.
 ghost use Rattle.std.specs.Prelude.{◌≡◌, IfOk, None};
 ghost use Rattle.site_file.specs.Checks.{fault_of};
 ghost use Rattle.site_file.specs.Homes.{AreAtHome};
@@ -44,7 +44,7 @@ pub fn read_config_again(
     config_of(alloc, text, told)
 }
 
-/// All that a text says.
+/// All that a site file's text says, or its first fault.
 fn told_of(alloc: Global, text: &str) -> Result<FileContents, FileFault> {
     match toml::table_from_str(alloc, text) {
         Ok(table) => told_in(&Section::whole(alloc, text, &table)),
@@ -52,7 +52,7 @@ fn told_of(alloc: Global, text: &str) -> Result<FileContents, FileFault> {
     }
 }
 
-/// That a word can't be changed.
+/// The fault of a file read again that changes a word which can't be changed while the site runs.
 fn changed(alloc: Global, text: &str, word: &str) -> FileFault {
     match format!(in alloc; "`{word}` can't be changed while the site runs") {
         Ok(words) => FileFault::at(alloc, line_of(text, "", 0, word), words.as_str()),
@@ -126,7 +126,7 @@ fn checked(alloc: Global, text: &str, config: SiteConfig) -> Result<SiteConfig, 
     }
 }
 
-/// The fault in words.
+/// The fault of a directory in words, with its line in the text.
 fn told(alloc: Global, text: &str, directory: &Directory, fault: DirectoryFault) -> FileFault {
     match fault {
         DirectoryFault::Rates => FileFault::at(alloc, 1, "a rate is above 0"),
@@ -147,7 +147,7 @@ fn told(alloc: Global, text: &str, directory: &Directory, fault: DirectoryFault)
     }
 }
 
-/// A fault of a customer in words.
+/// The fault of a customer in words.
 fn of_customer(
     alloc: Global,
     text: &str,
@@ -169,7 +169,7 @@ fn of_customer(
     }
 }
 
-/// That a hall has less than is given away in it.
+/// The fault that more is given away in a hall than the hall has, in words.
 fn beyond(alloc: Global, text: &str, hall: u32, given: Amount, whole: Amount) -> FileFault {
     match beyond_text(alloc, hall, given, whole) {
         Ok(words) => FileFault::at(alloc, line_of(text, "", 0, "hall"), words.as_str()),
@@ -177,6 +177,7 @@ fn beyond(alloc: Global, text: &str, hall: u32, given: Amount, whole: Amount) ->
     }
 }
 
+/// What is said where the budgets in a hall are beyond what the hall has.
 fn beyond_text(
     alloc: Global,
     hall: u32,
@@ -189,7 +190,7 @@ fn beyond_text(
     format!(in alloc; "hall {hall}: the budgets' sum, {given}, is more than the hall has, {whole}")
 }
 
-/// An amount in words.
+/// An amount of sessions, segments and nodes in words.
 pub fn amount_text(alloc: Global, amount: Amount) -> Result<String, AllocError> {
     let (sessions, segments, nodes) = (amount.sessions, amount.segments, amount.nodes);
     format!(in alloc; "{sessions} sessions, {segments} segments, {nodes} nodes")

@@ -1,4 +1,4 @@
-//! Amounts: what a hall has, and what guests may have.
+//! Amounts in a site's file: what a hall has, and what guests may have.
 use crate::config::FULL_HALL;
 use crate::faults::FileFault;
 use crate::section::Section;

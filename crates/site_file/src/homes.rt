@@ -165,6 +165,7 @@ pub(crate) fn given_at(
     given
 }
 
+/// Both amounts together, in sessions, segments and nodes.
 fn sum(a: Amount, b: Amount) -> Amount {
     Amount {
         sessions: a.sessions.saturating_add(b.sessions),

@@ -1,11 +1,11 @@
-//! The keys of a customer's table.
+//! The keys in a customer's table of a site's file: tokens, certificates, networks.
 use crate::faults::FileFault;
 use crate::keys::{CertificateKey, Keys, NetworkKey, TokenKey};
 use crate::parsing::{digest_of, network_of};
 use crate::section::{Section, text_of};
 use std::alloc::Global;
 
-/// No keys.
+/// The keys of a file that has none yet.
 pub(crate) fn no_keys(alloc: Global) -> Keys {
     Keys {
         tokens: Vec::new(alloc),

@@ -1,4 +1,4 @@
-//! The keys by which a file's customers are known.
+//! The keys by which a site knows the customers of its file.
 ghost use Rattle.std.specs.Prelude.{◌≡◌, Some, option_copied};
 ghost use Rattle.site_file.specs.Keys.{by_address, by_connection, by_name, by_token, closer, closest, customer_of_digest, customer_of_name};
 
@@ -63,6 +63,7 @@ impl Keys {
         }
     }
 
+    /// The customer of this certificate name; None where there is no certificate, or it is nobody's.
     fn by_name(&self, certificate: Option<&[u8]>) -> Option<u32>
         ensures { result ≡ by_name self.now.certificates.items (option_copied certificate.entry) }
     {
@@ -72,6 +73,7 @@ impl Keys {
         }
     }
 
+    /// The customer of the closest network that has this address; else the guest of the address.
     fn by_address(&self, address: Address) -> Who
         ensures { result ≡ by_address self.now.networks.items address }
     {

@@ -1,4 +1,5 @@
-//! What follows: of the directories that are accepted, and of all lines. A function here does nothing: its contract is the law.
+//! Laws on a site's file: of the directories that are accepted, and of all lines of a customer. A function here does
+//! nothing: its contract is the law.
 ghost use Rattle.std.specs.Prelude.{◌≡◌, List, None, true, ℕ, ◌+◌, ◌*◌, ◌≤◌};
 ghost use Rattle.site_file.specs.declared.directory.Terms.{Terms};
 ghost use Rattle.site_file.specs.declared.keys.Keys.{Keys};

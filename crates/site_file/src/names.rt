@@ -1,4 +1,4 @@
-//! Names for people.
+//! The names of a site's customers, as people read them.
 use crate::directory::Directory;
 use site_book::Who;
 use std::alloc::{AllocError, Global};

@@ -1,4 +1,4 @@
-//! Digests and networks, read from their texts.
+//! Digests and networks, read from their texts in a site's file.
 ghost use Rattle.std.specs.Prelude.{◌<◌, IfSome};
 
 use crate::address::{Address, Network};
@@ -18,7 +18,7 @@ pub(crate) fn digest_of(text: &[u8]) -> Option<[u8; 32]> {
     Some(digest)
 }
 
-/// The value of a hexadecimal digit.
+/// The value of a hexadecimal digit; None for any other byte.
 fn hex_value(byte: u8) -> Option<u8>
     ensures { IfSome result (λ value. value < 16) }
 {
@@ -44,7 +44,7 @@ pub(crate) fn network_of(text: &str) -> Option<Network> {
     }
 }
 
-/// The number of one to three digits.
+/// The number that one to three digits write, as the bits of a network; None for any other text.
 fn bits_of(text: &str) -> Option<u8> {
     if text.is_empty() || !are_digits(text.as_bytes()) {
         return None;
@@ -52,6 +52,7 @@ fn bits_of(text: &str) -> Option<u8> {
     text.parse::<u8>().ok()
 }
 
+/// Whether each byte is a decimal digit.
 fn are_digits(bytes: &[u8]) -> bool {
     for byte in bytes {
         if !byte.is_ascii_digit() {
@@ -61,6 +62,7 @@ fn are_digits(bytes: &[u8]) -> bool {
     true
 }
 
+/// The IPv4 network with so many bits fixed; None beyond 32, or where the other bits aren't 0.
 fn v4_network(address: Address, bits: u8) -> Option<Network> {
     match address {
         Address::V4(own) if bits <= 32 && is_base(u64::from(own), 32 - bits) => {
@@ -70,6 +72,7 @@ fn v4_network(address: Address, bits: u8) -> Option<Network> {
     }
 }
 
+/// The IPv6 network with so many bits fixed, or the IPv4 network that it maps; None where the other bits aren't 0.
 fn v6_network(octets: [u8; 16], bits: u8) -> Option<Network> {
     let (high, low) = match Address::v6(octets) {
         Address::V6(high, low) => (high, low),

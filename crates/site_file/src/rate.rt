@@ -1,3 +1,4 @@
+//! The rate at which a customer of a site may say lines that ask for a reservation.
 ghost use Rattle.std.specs.Prelude.{◌≡◌, ◌<◌, ◌^◌};
 ghost use Rattle.site_file.specs.Rates.{paid_after, may_pass};
 
@@ -31,14 +32,14 @@ impl Model for Meter {
 }
 
 impl Meter {
-    /// Nothing was said yet.
+    /// The meter of a customer that has said nothing yet.
     pub fn new() -> Meter
         ensures { result ≡ 0 }
     {
         Meter { paid: 0 }
     }
 
-    /// A line comes now: whether it passes. One that doesn't costs nothing.
+    /// A line comes now: whether the customer's rate lets it pass. One that doesn't pass costs nothing.
     pub fn pass(&mut self, rate: Rate, now: u64) -> bool
         requires { now < 2 ^ 62 }
         ensures passes { result ≡ may_pass rate self.old now }

@@ -1,4 +1,4 @@
-//! Rates of lines.
+//! Rates of lines, read from the text of a site's file.
 use crate::faults::FileFault;
 use crate::rate::Rate;
 use crate::section::Section;

@@ -1,4 +1,4 @@
-//! The tables of a file.
+//! The tables of a site's file, read one by one.
 use crate::config::{Entrances, Limits, Workers, guest_terms};
 use crate::directory::{Directory, Terms};
 use crate::faults::FileFault;
@@ -84,7 +84,7 @@ struct Customers {
     keys: Keys,
 }
 
-/// What a file says whose text is this table.
+/// All that a site's file says, whose whole text was read as this table.
 pub(crate) fn told_in(file: &Section<'_>) -> Result<FileContents, FileFault> {
     file.end(&FILE)?;
     let entrances = entrances_in(file)?;
@@ -121,7 +121,7 @@ pub(crate) fn told_in(file: &Section<'_>) -> Result<FileContents, FileFault> {
     })
 }
 
-/// Where the site listens: at one place at least.
+/// At which addresses a site listens, by its file: there is one at least.
 fn entrances_in(file: &Section<'_>) -> Result<Entrances, FileFault> {
     let proxied = file.place("listen")?;
     let plain = file.place("plain")?;
@@ -136,7 +136,7 @@ fn entrances_in(file: &Section<'_>) -> Result<Entrances, FileFault> {
     })
 }
 
-/// Where a machine asks: no other host is to reach it.
+/// The address at which a site tells its health, by its file: one of this machine, so that no other host reaches it.
 fn health_in(file: &Section<'_>) -> Result<Option<SocketAddr>, FileFault> {
     match file.place("health")? {
         Some(place) if !place.ip().is_loopback() => {
@@ -149,7 +149,7 @@ fn health_in(file: &Section<'_>) -> Result<Option<SocketAddr>, FileFault> {
     }
 }
 
-/// The path where the operator asks.
+/// The path of the operator's socket in a site's file, if it names one.
 fn control_in(file: &Section<'_>) -> Result<Option<String>, FileFault> {
     match file.path("control")? {
         None => Ok(None),
@@ -160,6 +160,7 @@ fn control_in(file: &Section<'_>) -> Result<Option<String>, FileFault> {
     }
 }
 
+/// The workers of the file: how many (1 to 62), and the grain (0 to 12).
 fn workers_in(file: &Section<'_>) -> Result<Workers, FileFault> {
     let count = file.count("workers", 1, 62)?;
     let grain = file.count("grain", 0, 12)?;
@@ -169,7 +170,7 @@ fn workers_in(file: &Section<'_>) -> Result<Workers, FileFault> {
     })
 }
 
-/// The numbers and times of a file.
+/// The limits of a site's file: how many connections it takes, and its times.
 fn limits_in(file: &Section<'_>) -> Result<Limits, FileFault> {
     let usual = Limits::USUAL;
     let connections = file.count("connections", 1, GREATEST)?;
@@ -184,7 +185,7 @@ fn limits_in(file: &Section<'_>) -> Result<Limits, FileFault> {
     }
 }
 
-/// The times of a table, and of these where it says nothing.
+/// The times that a table of a site's file says, and these where it says nothing.
 fn times_in(section: &Section<'_>, usual: Limits) -> Result<Limits, FileFault> {
     section.end(&SECONDS)?;
     let welcome = seconds_in(section, "welcome", usual.welcome)?;
@@ -202,7 +203,7 @@ fn times_in(section: &Section<'_>, usual: Limits) -> Result<Limits, FileFault> {
     })
 }
 
-/// A time, a second to a day.
+/// A time of a site's file in seconds, from one to a day, or its usual value.
 fn seconds_in(section: &Section<'_>, key: &str, usual: u32) -> Result<u32, FileFault> {
     let seconds = section.count(key, 1, 86_400)?;
     Ok(seconds.unwrap_or(usual))
@@ -217,7 +218,8 @@ fn guest_in(each: &Section<'_>, budget: Amount) -> Result<Terms, FileFault> {
     Ok(terms)
 }
 
-/// The connections that are said, or four for each session and 16.
+/// How many connections a customer may have, by its table in a site's file; where it says nothing four for each
+/// session, and 16 more.
 fn connections_in(section: &Section<'_>, budget: Amount) -> Result<u32, FileFault> {
     let connections = section.count("connections", 1, GREATEST)?;
     Ok(connections.unwrap_or(budget.sessions.saturating_mul(4).saturating_add(16)))
@@ -251,7 +253,7 @@ pub(crate) fn customer_named(customers: &[Terms], name: &str) -> Option<usize> {
 }
 
 impl Customers {
-    /// No customer.
+    /// The customers of a site's file of which none was read yet.
     fn new(alloc: Global) -> Customers {
         Customers {
             budgets: Vec::new(alloc),
@@ -261,7 +263,7 @@ impl Customers {
         }
     }
 
-    /// Adds the customer of a table.
+    /// Reads the table of one customer, and adds it.
     fn read(&mut self, section: &Section<'_>, count: u32) -> Result<(), FileFault> {
         section.end(&CUSTOMER)?;
         let name = section.name(b"_.@-")?;
@@ -278,6 +280,7 @@ impl Customers {
         self.push(budget, hall, terms)
     }
 
+    /// Appends one customer: its budget, the hall that it wants, and its terms.
     fn push(&mut self, budget: Amount, hall: Option<u32>, terms: Terms) -> Result<(), FileFault> {
         self.budgets.push(budget)?;
         self.wanted.push(hall)?;

@@ -1,4 +1,6 @@
-//! The definitions, tried on instances: each contract is computed from the definitions alone.
+//! The definitions of a site's file, tried on instances: each contract is computed from the definitions alone.
+//! 3405803776 is 203.0.113.0, and 2306139568115548161 the first half of 2001:db8:0:1::; beside a network stands how
+//! many bits it fixes.
 ghost use Rattle.std.specs.Prelude.{◌≡◌, Some, None, [], ◌∷◌, true, false, pos, negsuc};
 ghost use Rattle.site_book.specs.declared.who.Who.TheVariants.{Named, V4 as v4_guest, V6 as v6_guest};
 ghost use Rattle.site_file.specs.declared.address.Address.TheVariants.{V4, V6};
@@ -12,7 +14,8 @@ ghost use Rattle.site_file.specs.Checks.{repeated_network, has_network, is_fit_r
 ghost use Rattle.site_file.specs.Rates.{paid_after, may_pass, passed};
 ghost use Rattle.site_file.specs.Counts.{count_within};
 
-/// Addresses at the edges of networks, and of the other version.
+/// Addresses at the edges of networks: the first and the last within, those before and behind them without, and those
+/// of the other version of IP.
 pub fn networks_have_addresses()
     ensures first { has (v4_network 3405803776 24) (V4 3405803776) ≡ true }
     ensures last { has (v4_network 3405803776 24) (V4 3405804031) ≡ true }
@@ -44,7 +47,9 @@ pub fn customers_are_found()
     ensures no_certificate { by_connection [] (record { network = v4_network 3405803776 24; customer = 3 } ∷ []) None (V4 3405803776) ≡ Named 3 }
 {}
 
-/// What is checked.
+/// What checks of a directory find: the customer of the second of two networks that are the same, and none where they
+/// differ in how many bits they fix; whether a customer has a network; and that a rate whose period or count is 0 lets
+/// no line pass.
 pub fn directories_are_checked()
     ensures twice { repeated_network (record { network = v4_network 3405803776 24; customer = 0 } ∷ record { network = v4_network 3405803776 25; customer = 1 } ∷ record { network = v4_network 3405803776 24; customer = 2 } ∷ []) ≡ Some 2 }
     ensures once { repeated_network (record { network = v4_network 3405803776 24; customer = 0 } ∷ record { network = v4_network 3405803776 25; customer = 1 } ∷ []) ≡ None }
@@ -54,7 +59,8 @@ pub fn directories_are_checked()
     ensures no_burst { is_fit_rate (record { period = 1; burst = 0 }) ≡ false }
 {}
 
-/// Three at once, and then one each ten microseconds; a silence gives back three at most.
+/// At a rate of one line each 10 microseconds and 3 at once: three pass at one time, then one each ten microseconds; a
+/// silence gives back three at most.
 pub fn three_at_once()
     ensures burst { passed (record { period = 10; burst = 3 }) 0 (100 ∷ 100 ∷ 100 ∷ 100 ∷ 100 ∷ []) ≡ 3 }
     ensures steady { passed (record { period = 10; burst = 3 }) 0 (100 ∷ 100 ∷ 100 ∷ 109 ∷ 110 ∷ 111 ∷ 120 ∷ []) ≡ 5 }
@@ -66,7 +72,7 @@ pub fn three_at_once()
     ensures back { paid_after (record { period = 10; burst = 2 }) 100 95 ≡ 110 }
 {}
 
-/// Numbers at the edges of what is allowed.
+/// Of a count from 1 to 4,096: 1 is within, and 0 and 4,097 aren't. Nor is -1 within 0 to 4,096.
 pub fn numbers_are_counts()
     ensures least { count_within (pos 1) 1 4096 ≡ Some 1 }
     ensures below { count_within (pos 0) 1 4096 ≡ None }

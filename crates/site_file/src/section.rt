@@ -1,4 +1,4 @@
-//! A table of the file, whose words are taken by their types.
+//! A table of a site's file, whose words are taken by their types.
 ghost use Rattle.std.specs.Prelude.{◌≡◌, ◌≤◌, IfOk, IfSome};
 ghost use Rattle.site_file.specs.Counts.{count_within};
 
@@ -20,7 +20,7 @@ pub(crate) struct Section<'t> {
 /// What a list of tables is to be.
 pub(crate) const TABLES: &str = "is to be tables, each with a head of two brackets";
 
-/// The number, where it is from `least` to `most`.
+/// The number as one from `least` to `most`; None where it isn't within them.
 pub(crate) fn count_of(number: i64, least: u32, most: u32) -> Option<u32>
     ensures value { result ≡ count_within number least most }
     ensures within { IfSome result (λ count. (least ≤ count) × (count ≤ most)) }
@@ -32,7 +32,7 @@ pub(crate) fn count_of(number: i64, least: u32, most: u32) -> Option<u32>
 }
 
 impl<'t> Section<'t> {
-    /// The file itself.
+    /// The whole file as one table.
     pub(crate) fn whole(alloc: Global, text: &'t str, table: &'t Table) -> Section<'t> {
         Section {
             alloc,
@@ -43,13 +43,13 @@ impl<'t> Section<'t> {
         }
     }
 
-    /// The fault that stands at this word.
+    /// The fault of a site's file, in these words, at the line where this word of the table stands.
     pub(crate) fn fault(&self, key: &str, what: &str) -> FileFault {
         let line = line_of(self.text, self.head, self.number, key);
         FileFault::at(self.alloc, line, what)
     }
 
-    /// What is wrong with a word.
+    /// The fault of a site's file that says what is wrong with a word of the table, at the line where it stands.
     pub(crate) fn told(&self, key: &str, what: &str) -> FileFault {
         match format!(in self.alloc; "`{key}` {what}") {
             Ok(words) => self.fault(key, words.as_str()),
@@ -57,7 +57,7 @@ impl<'t> Section<'t> {
         }
     }
 
-    /// Whether the word is there.
+    /// Whether the table has this word.
     pub(crate) fn has(&self, key: &str) -> bool {
         self.table.get(key).is_some()
     }
@@ -79,7 +79,7 @@ impl<'t> Section<'t> {
         }
     }
 
-    /// That a word is no whole number within these limits.
+    /// The fault that a word of the table is no whole number within these limits.
     fn no_count(&self, key: &str, least: u32, most: u32) -> FileFault {
         match format!(in self.alloc; "is to be a whole number from {least} to {most}") {
             Ok(what) => self.told(key, what.as_str()),
@@ -87,7 +87,7 @@ impl<'t> Section<'t> {
         }
     }
 
-    /// The same of a word that must be there.
+    /// A whole number within these limits of a word that the table must have; else its fault.
     pub(crate) fn needed_count(&self, key: &str, least: u32, most: u32) -> Result<u32, FileFault>
         ensures { IfOk result (λ count. (least ≤ count) × (count ≤ most)) }
     {
@@ -97,7 +97,7 @@ impl<'t> Section<'t> {
         }
     }
 
-    /// A text, if the word is there.
+    /// A text of the table, if it has this word; a fault where it is no text.
     fn word(&self, key: &str, what: &str) -> Result<Option<&'t str>, FileFault> {
         match self.table.get(key) {
             None => Ok(None),
@@ -127,7 +127,7 @@ impl<'t> Section<'t> {
         }
     }
 
-    /// A name that must be there: letters, digits and these signs.
+    /// The name in a customer's table of a site's file, which must be there: letters, digits and these signs.
     pub(crate) fn name(&self, signs: &[u8]) -> Result<&'t str, FileFault> {
         let what = "is to be one word";
         match self.word("name", what)? {
@@ -137,7 +137,8 @@ impl<'t> Section<'t> {
         }
     }
 
-    /// The values of a list; none where the word isn't there.
+    /// The values of a list in a table of a site's file; no values where the word isn't there; a fault where it is no
+    /// list.
     pub(crate) fn list(&self, key: &str, what: &str) -> Result<&'t [Value], FileFault> {
         match self.table.get(key) {
             None => Ok(&[]),
@@ -146,7 +147,8 @@ impl<'t> Section<'t> {
         }
     }
 
-    /// The table of this name, whose head has this word.
+    /// The table of this name within this one; a fault where it is missing, or no table. `head` is how the file writes
+    /// its head.
     pub(crate) fn table(&self, key: &str, head: &'t str) -> Result<Section<'t>, FileFault> {
         match self.table.get(key) {
             None => Err(self.told(key, "is missing")),
@@ -159,7 +161,7 @@ impl<'t> Section<'t> {
         }
     }
 
-    /// The same of a table that may be missing.
+    /// The table of this name within this one, or None where it is missing; a fault where it is no table.
     pub(crate) fn part(&self, key: &str, head: &'t str) -> Result<Option<Section<'t>>, FileFault> {
         if self.has(key) {
             Ok(Some(self.table(key, head)?))
@@ -186,7 +188,7 @@ impl<'t> Section<'t> {
         }
     }
 
-    /// Refuses a word that is none of these.
+    /// Refuses a table of a site's file that has a word which isn't among these.
     pub(crate) fn end(&self, known: &[&str]) -> Result<(), FileFault> {
         for key in self.table.keys() {
             let key = key.as_str();
@@ -206,7 +208,7 @@ pub(crate) fn text_of(value: &Value) -> &str {
     }
 }
 
-/// Whether a word is one of these.
+/// Whether a word is one of these words.
 pub(crate) fn is_among(words: &[&str], word: &str) -> bool {
     for other in words {
         if *other == word {

@@ -1,4 +1,4 @@
--- A line less its token ends a session only where the line does.
+-- A line of a site's session less its token ends the session only where the line does.
 use Rattle.site_office.proofs.Common.{◌≡◌, ℕ, zero, suc, List, [], ◌∷◌, take, Bool, true, false, refl, Option, Some, None, arith, nat_tests, option_map, if◌then◌else◌, codes, bytes_eq, LineText, Whole, TooLong, is_bye, tokenless, less_token, token_by, token_of}
 
 -- the first byte of a line that bears a token, by how it splits at its first space

@@ -1,4 +1,4 @@
--- What each answer keeps, a chain of answers keeps.
+-- What each answer of a site's session keeps, a chain of answers keeps.
 use Rattle.site_office.proofs.Common.{◌≡◌, ℕ, List, [], ◌∷◌, sym, ap, ◌∙◌, LineText, Answers}
 
 pub chain-keeps : {A N : Type 0} (answers : A → LineText → List ℕ → A → Type 0) (name : A → N) → ((a : A) (line : LineText) (text : List ℕ) (b : A) → answers a line text b → name b ≡ name a)

@@ -1,4 +1,4 @@
--- The names that the proofs take of the library, of the crates below and of this crate's definitions, from one place.
+-- The names that the proofs of a site's sessions use, imported in one place.
 pub use Rattle.desk.specs.Seats.{SeatOf, seeing}
 pub use Rattle.sched_rules.specs.Cores.{tenant_in}
 pub use Rattle.desk_office.proofs.OneTenant.{EndsAtBye, answered-ends, ends-is_bye, one-tenant, seated-stays, stays-seated}

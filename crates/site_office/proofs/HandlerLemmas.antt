@@ -1,4 +1,4 @@
--- Whether a tenant is there, through the lines of a session.
+-- Whether a tenant is there, through the lines of a site's session.
 use Rattle.site_office.proofs.Common.{◌≡◌, ℕ, List, [], ◌∷◌, Bool, true, false, Option, sym, ap, subst, ◌∙◌, LineText, Answers, Call, Hello, Reserve, Get, Leave, OfficeReply, Gone, Request, Fault, Makes, Tabulates, Ends, LeavesIf, Turned, seated_after, Quota, Greeted, Known, Unknown, Crowded, Info, SiteRequest, Greets, Raises, Informs, Pings, Plain, IsRefused, IsWelcomed, IsGreeted, IsRaised, SiteTurned}
 
 -- what each answer keeps true stays true through a chain of them

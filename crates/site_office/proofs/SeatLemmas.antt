@@ -1,4 +1,4 @@
--- Whether a seat is there.
+-- Whether a site's session has a seat at its desk.
 use Rattle.site_office.proofs.Common.{◌≡◌, ℕ, false, refl, ap, Option, Some, None, is_some, option_map, SiteSeatOf, SiteTraceOf, at_site, IsSameSeat, Stays}
 
 -- nothing is there

@@ -1,4 +1,4 @@
--- A token is shorter than its line.
+-- The token in a line of a site's session is shorter than the line.
 use Rattle.site_office.proofs.Common.{◌≡◌, ℕ, suc, ◌<◌, ◌≤◌, List, [], ◌∷◌, length, eqb, cond, Bool, true, false, sym, subst, arith, Option, Some, None, codes, option_map, bytes_eq, split_at_space, is_token, last_word, word_after, word_after_two, token_after, token_by, token_of}
 
 -- what follows the first space is shorter than this

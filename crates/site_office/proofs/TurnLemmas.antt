@@ -1,4 +1,4 @@
--- What a call of the office is, by what the desk's call has done.
+-- What a call of the office of a site's session is, by what the desk's call has done.
 use Rattle.site_office.proofs.Common.{PlanOf, Who, IsNewSeat, Hello, Welcome, Refused, comer_refusals, live_answer, [], ◌∷◌, Contains, IfErr, MatchResult, map, Left, Tenant, NoTenant, refusal_number, left, tenant_in, core_at, lone_tenant, IsLook, IsTrueTo, Took, LeaveStep, left_in_core, live_in_core, found_or_no_tenant, live_in, seeing, refused-by, ask_of, asks_of, KeepsAsks, AskQuota, AskLive, Leave, Rest, Alive, Gone, OfficeOf, SiteOfficeOf, IsTurnOf, History, length, sum_by, ◌≡◌, ℕ, true, refl, sym, ap, subst, ◌∙◌, inl, inr, arith, Option, Some, None, Result, Ok, Err, is_some, option_map, Quota, Refusal, HallOutOfMemory, HallOf, SeatOf, Call, Reserve, OfficeReply, Reserved, reply_of, seated_after, with_seat, IsTurnAt, reserve-turn, RaiseTurned, ByBook, NumbersOut, NoMemory, IsRaiseTold, SiteSeatOf, SiteTraceOf, at_site, office_of, IsSiteTurn, IsTracedAt, place_of, raise_refusal}
 
 -- how a raise is answered

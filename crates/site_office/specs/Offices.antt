@@ -12,11 +12,11 @@ pub record SiteOfficeOf : Type 0 where
   pub seat : Option SiteSeatOf
   pub knew : Option SiteTraceOf
 
--- the office of these
+-- the office of a site's connection, by its desk's number, its seat and what it knew
 abbrev pub at_site : ℕ → Option SiteSeatOf → Option SiteTraceOf → SiteOfficeOf
 at_site at seat knew = record { at = at; seat = seat; knew = knew }
 
--- the same as an office at any desk
+-- the office of a site's connection, seen as an office at any desk
 abbrev pub office_of : SiteOfficeOf → OfficeOf
 office_of office = record { seat = option_map (λ s. s.seat) office.seat; knew = option_map (λ t. t.known) office.knew }
 

@@ -1,4 +1,5 @@
--- Meaning: how HELLO and RESERVE are refused, by why the desk turned away; and how LIVE is answered.
+-- Meaning: how HELLO and RESERVE of a site's session are refused, by why the desk turned away; and how LIVE is
+-- answered.
 use Rattle.std.specs.Prelude.{ℕ, List, [], ◌∷◌, Result, Ok, Err}
 use Rattle.session.specs.declared.standings.Live.{Live}
 use Rattle.site_desk.specs.declared.turned.Turned.{Turned}
@@ -7,13 +8,14 @@ use Rattle.sched_rules.specs.declared.refusal.Refusal.{Refusal}
 use Rattle.sched_rules.specs.declared.refusal.Refusal.TheVariants.{Full, NoTenant, Lower, OldTenant as no_number, OutOfMemory as no_memory}
 use Rattle.site_book.specs.declared.refusal.BookRefusal.TheVariants.{OverBudget, OverNetwork, OverGuests, Gone, Lower as lower, Unfit, Beyond}
 
--- how HELLO is refused: 14 where a budget has no room
+-- the refusal that answers HELLO, by why the desk turned the customer away: 14 where a budget has no room
 abbrev pub comer_refusal : Turned → Refusal
 comer_refusal (ByBook refusal) = Full
 comer_refusal OldTenant = no_number
 comer_refusal OutOfMemory = no_memory
 
--- how RESERVE is refused: 1 where the session isn't there, 20 where it is no raise, 14 where a budget has no room, 19 for want of memory
+-- the refusal that answers RESERVE, by why the desk turned it away: 1 where the session isn't there, 20 where it is no
+-- raise, 14 where a budget has no room, 19 for want of memory
 abbrev pub raise_refusal : Turned → Refusal
 raise_refusal (ByBook Gone) = NoTenant
 raise_refusal (ByBook lower) = Lower

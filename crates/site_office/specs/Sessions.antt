@@ -28,14 +28,15 @@ use Rattle.site_office.specs.Refusing.{raise_refusal}
 use Rattle.site_office.specs.Tokens.{without_token}
 use Rattle.site_office.specs.Turns.{info_text}
 
--- a line less its token
+-- a line of a site's session less its token
 abbrev pub tokenless : LineText → LineText
 tokenless TooLong = TooLong
 tokenless (Whole bytes) = Whole (without_token bytes)
 
--- how a line is answered beside the session, by what it asks for. HELLO is refused by 31 as too many lines came in a time, by 30 as nobody has the
--- token, or by 14 as its customer has too many connections; RESERVE by 31, or as the book refuses it; INFO and PING are told; a line with a fault is
--- refused by that one's number. By none of these is anything asked of a desk's history. No other line is answered so
+-- how a line is answered beside the session, by what it asks for. HELLO is refused by 31 as too many lines came in a
+-- time, by 30 as nobody has the token, or by 14 as its customer has too many connections; RESERVE by 31, or as the
+-- book refuses it; INFO and PING are told; a line with a fault is refused by the fault's number. None of these asks
+-- anything of a desk's history. No other line is answered so
 abbrev pub IsBeside : SiteRequest → List ℕ → Type 0
 IsBeside (Greets token quota) text = (text ≡ error_text 31) ⊎ ((text ≡ error_text 30) ⊎ (text ≡ error_text 14))
 IsBeside (Raises quota) text = (text ≡ error_text 31) ⊎ ((why : BookRefusal) × (text ≡ error_text (refusal_number (raise_refusal (ByBook why)))))

@@ -12,7 +12,7 @@ is_token_byte byte = nat_lt 32 byte && not (byte == 127)
 abbrev pub is_token : List ℕ → Bool
 is_token word = nat_le 1 (length word) && list_all is_token_byte word
 
--- this word, where it is a token and no further word follows it (None)
+-- this word of a line, where it is a token and no further word follows; else None
 abbrev pub last_word : List ℕ → Option (List ℕ × List ℕ) → Option (List ℕ)
 last_word word None = if is_token word then Some word else None
 last_word word (Some _) = None

@@ -10,7 +10,7 @@ use Rattle.site_office.specs.declared.access.Greeted.TheVariants.{Known, Unknown
 use Rattle.site_office.specs.declared.access.Info.{Info}
 use Rattle.site_office.specs.Lines.{SiteRequest, Greets, Raises, Informs, Pings, Plain}
 
--- a number, and the space before it
+-- the text of a space and a number
 abbrev pub spaced_number : ℕ → List ℕ
 spaced_number number = codes " " ++ decimal number
 
@@ -20,7 +20,7 @@ info_text info =
     codes "INFO" ++ spaced_number info.grain ++ spaced_number info.may_segments ++ spaced_number info.may_nodes
     ++ spaced_number info.has_segments ++ spaced_number info.has_nodes ++ codes " 1.0.0"
 
--- the line is refused by this number, and nothing happens
+-- a line of a site's session is refused by this number, and nothing else happens
 abbrev pub IsRefused : {O : Type 0} → ℕ → O → Bool → List ℕ → O → Bool → Type 0
 IsRefused number from seated text to seated' = (from ≡ to) × (seated' ≡ seated) × (text ≡ error_text number)
 

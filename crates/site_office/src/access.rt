@@ -1,4 +1,4 @@
-//! What a handler asks of beside a session's office.
+//! What the handler of a site's session asks of beside the session's office: who may enter.
 ghost use Rattle.std.specs.Prelude.{◌≡◌, Option};
 ghost use Rattle.std.specs.Option.{option_copied};
 
@@ -52,7 +52,7 @@ pub trait AccessControl {
     fn pay(&mut self) -> bool
         ensures { pays self.old result self.new };
 
-    /// What the customer may have and has.
+    /// Tells what the session's customer may have and what it has.
     fn inform(&mut self) -> Info
         ensures { informs self.old result self.new };
 }

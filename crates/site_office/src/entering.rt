@@ -1,4 +1,4 @@
-//! How an office's calls are refused, by why the desk turned away, and what it tells of LIVE.
+//! How the calls of a site's office are refused, by why the desk turned away, and what it tells of LIVE.
 ghost use Rattle.std.specs.Prelude.{◌≡◌};
 ghost use Rattle.site_office.specs.Refusing.{comer_refusal, live_answer, raise_refusal};
 
@@ -9,7 +9,7 @@ use session::Live;
 use site_book::BookRefusal;
 use site_desk::Turned;
 
-/// How HELLO is refused.
+/// The refusal that a line HELLO is answered by, for why the desk turned the customer away.
 pub(crate) fn comer_refusal(turned: Turned) -> Refusal
     ensures { result ≡ comer_refusal turned }
 {
@@ -20,7 +20,7 @@ pub(crate) fn comer_refusal(turned: Turned) -> Refusal
     }
 }
 
-/// How RESERVE is refused.
+/// The refusal that a line RESERVE is answered by, for why the desk turned it away.
 pub(crate) fn raise_refusal(turned: Turned) -> Refusal
     ensures { result ≡ raise_refusal turned }
 {
@@ -33,7 +33,7 @@ pub(crate) fn raise_refusal(turned: Turned) -> Refusal
     }
 }
 
-/// What is counted where one is turned away.
+/// By which cause the site counts a refusal, for why the desk turned the customer away; None where it isn't counted.
 pub(crate) fn cause_of(turned: Turned) -> Option<Cause> {
     match turned {
         Turned::ByBook(BookRefusal::OverBudget) => Some(Cause::Budget),

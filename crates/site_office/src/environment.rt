@@ -1,4 +1,4 @@
-//! What an office asks of its site, the environment in which it is, and what it tells it.
+//! What the office of a site's connection asks of the site around it (clock, keys, rates), and what it tells it.
 use site_book::Who;
 
 /// Whose a session is to be.
@@ -49,7 +49,7 @@ pub enum Note {
 /// What an office asks of its site: the time, whose a token is, whether a line is paid for. Times are milliseconds of the environment's
 /// clock.
 pub trait Environment {
-    /// The time.
+    /// The time by the site's clock, in milliseconds.
     fn now(&self) -> u64;
 
     /// How long a guest may say nothing, where another comes.
@@ -62,6 +62,6 @@ pub trait Environment {
     /// Whether a line that asks for a reservation passes by this customer's rate.
     fn pay(&mut self, who: Who) -> bool;
 
-    /// Notes what has happened.
+    /// Notes in the site what has happened to the session.
     fn note(&mut self, note: Note);
 }

@@ -49,7 +49,7 @@ impl<O: Office + AccessControl> LineAnswerer for SiteHandler<'_, O> {
         self.text.push(LF);
     }
 
-    /// The last answer, with its LF.
+    /// The text of the last answer, with its LF.
     fn text(&self) -> &[u8] {
         self.text.as_slice()
     }

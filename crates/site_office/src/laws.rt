@@ -1,4 +1,4 @@
-//! What follows for whole sessions: a law, which is the contract of a function that does nothing.
+//! Laws on whole sessions of a site. A function here does nothing: its contract is the law.
 ghost use Rattle.std.specs.Prelude.{◌≡◌, ℕ, List, Bool, false, Option, Result};
 ghost use Rattle.line_io.specs.declared.faults.LineFault.{LineFault};
 ghost use Rattle.line_io.specs.declared.talking.TalkEnd.{TalkEnd};
@@ -16,9 +16,10 @@ use crate::handler::SiteHandler;
 use line_io::{LineAnswerer, Sink, Source};
 use session::Office;
 
-/// A law: nobody stays. Let it be told of an office whether it has a tenant, where each call's reply says so as a session does (from a
-/// WELCOME on, until the tenant has left) and nothing else changes it. Then after a session that began without a tenant there is none,
-/// however it ended: by BYE, by the end of its input, or by a fault.
+/// A law: after a session of a site no tenant of it is at the desk, however the session ended (by BYE, by the end of
+/// its input, or by a fault), if none was there before. It holds for any office of which one can tell whether it has a
+/// tenant: the replies to its calls change that as a session says (a WELCOME begins a tenant, and its leaving ends it),
+/// and nothing else does.
 pub fn nobody_stays<'a, S: Source, K: Sink, O: Office + AccessControl>()
     ensures { (here : O → Bool)
         → ((from : O) (call : Call) (reply : OfficeReply) (to : O) → O.does from call reply to → here to ≡ seated_after (here from) reply)

@@ -1,4 +1,4 @@
-//! The office of one connection.
+//! The office of one connection at a site's desk: what its sessions ask of.
 ghost use Rattle.std.specs.Prelude.{◌≡◌, IfOk, IfErr, Contains};
 ghost use Rattle.sched_rules.specs.declared.step.StepOf.TheVariants.{Leave};
 ghost use Rattle.desk.specs.Histories.{IsTrueTo, Took};
@@ -170,7 +170,7 @@ impl<'a, J: SiteNaming, H: Environment, R: Wait + Clock, A: Allocator + Clone> S
         true
     }
 
-    /// How one who was turned away is refused.
+    /// Has the site count that the desk turned the session's customer away, and returns the refusal for that.
     fn turned_away(&mut self, turned: Turned) -> Refusal
         ensures refusal { result ≡ comer_refusal turned }
         ensures same_seat { self.new.seat ≡ self.old.seat }
@@ -181,7 +181,7 @@ impl<'a, J: SiteNaming, H: Environment, R: Wait + Clock, A: Allocator + Clone> S
         comer_refusal(turned)
     }
 
-    /// Has a refusal counted.
+    /// Has the site count a refusal by its cause, if it is one that is counted.
     fn count(&mut self, cause: Option<Cause>)
         ensures same_seat { self.new.seat ≡ self.old.seat }
         ensures same_who { self.new.who ≡ self.old.who }
@@ -192,7 +192,7 @@ impl<'a, J: SiteNaming, H: Environment, R: Wait + Clock, A: Allocator + Clone> S
         }
     }
 
-    /// Notes that the session of this number said something, unless that was noted of late.
+    /// Notes at the desk that the session of this number said something, unless that was noted within the last second.
     fn hear(&mut self, number: u64)
         ensures same_seat { self.new.seat ≡ self.old.seat }
         ensures same_who { self.new.who ≡ self.old.who }
@@ -206,7 +206,7 @@ impl<'a, J: SiteNaming, H: Environment, R: Wait + Clock, A: Allocator + Clone> S
         }
     }
 
-    /// As `hear`, if there is a session.
+    /// Notes at the desk that the session said something, as `hear` does, if there is a session.
     fn hear_any(&mut self)
         ensures same_seat { self.new.seat ≡ self.old.seat }
         ensures same_who { self.new.who ≡ self.old.who }
@@ -250,7 +250,7 @@ impl<'a, J: SiteNaming, H: Environment, R: Wait + Clock, A: Allocator + Clone> S
         }
     }
 
-    /// The session waits for a job from now on. Returns the time.
+    /// Tells the site that the session waits for a job from now on. Returns the time.
     fn begin_wait(&mut self) -> u64
         ensures same_seat { self.new.seat ≡ self.old.seat }
         ensures same_who { self.new.who ≡ self.old.who }
@@ -260,7 +260,7 @@ impl<'a, J: SiteNaming, H: Environment, R: Wait + Clock, A: Allocator + Clone> S
         self.environment.now()
     }
 
-    /// The session doesn't wait any more; it was told this.
+    /// Tells the site and the desk that the session doesn't wait for its job any more, as it was told this.
     fn end_wait(&mut self, answer: &Result<Standing, Refusal>)
         ensures same_seat { self.new.seat ≡ self.old.seat }
         ensures same_who { self.new.who ≡ self.old.who }
@@ -288,7 +288,7 @@ impl<'a, J: SiteNaming, H: Environment, R: Wait + Clock, A: Allocator + Clone> S
         self.desk.leave(self.rt, seat).unwrap()
     }
 
-    /// What the session's customer may have and has.
+    /// What the session's customer may have, and what it has; nothing of both where there is no session.
     fn amounts(&mut self) -> (Amount, Amount)
         ensures seat { IsSameSeat self.old.seat self.new.seat }
         ensures same_who { self.new.who ≡ self.old.who }
@@ -409,7 +409,7 @@ impl<J: SiteNaming, H: Environment, R: Wait + Clock, A: Allocator + Clone> Acces
 
     ghost informs = { λ from info to. IsSameSeat from.seat to.seat × (to.who ≡ from.who) × (to.desk ≡ from.desk) × (to.knew ≡ from.knew) };
 
-    /// Whose the next session is to be. Nothing is asked where one is there.
+    /// Says whose the next session is to be, by the token of its HELLO. Nothing is asked while a session is there.
     fn greet(&mut self, token: Option<&[u8]>) -> Greeted {
         if self.seat.is_some() {
             return Greeted::Known;
@@ -434,7 +434,7 @@ impl<J: SiteNaming, H: Environment, R: Wait + Clock, A: Allocator + Clone> Acces
         }
     }
 
-    /// Pays for a line by the customer's rate.
+    /// Whether a line of the session passes by its customer's rate, to which it is charged.
     fn pay(&mut self) -> bool {
         let passes = self.environment.pay(self.who);
         if !passes {
@@ -443,7 +443,7 @@ impl<J: SiteNaming, H: Environment, R: Wait + Clock, A: Allocator + Clone> Acces
         passes
     }
 
-    /// What the session's customer may have and has.
+    /// Tells what the session's customer may have and what it has, in segments and nodes, and the grain.
     fn inform(&mut self) -> Info {
         self.hear_any();
         let (may, has) = self.amounts();

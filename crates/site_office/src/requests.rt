@@ -1,4 +1,4 @@
-//! What a line asks for.
+//! What a line of a site's session asks for.
 ghost use Rattle.std.specs.Prelude.{◌≡◌};
 ghost use Rattle.line_io.specs.Views.{text_of};
 ghost use Rattle.site_office.specs.Lines.{info_request, site_request};
@@ -45,7 +45,7 @@ pub fn read_site_request(seated: bool, line: Line<'_>) -> SiteRequest<'_>
     }
 }
 
-/// What INFO asks for.
+/// What a line INFO asks for: the budget of the session's customer, where a tenant is there.
 fn info_request<'a>(seated: bool) -> SiteRequest<'a>
     ensures { asked_seen result ≡ info_request seated }
 {

@@ -1,4 +1,5 @@
-//! The definitions, tried on worked lines: each contract is computed from the definitions alone.
+//! The definitions of a site's sessions, tried on worked lines: each contract is computed from the definitions alone.
+//! HELLO and RESERVE have segments and nodes; `true` says that the session's tenant is there.
 ghost use Rattle.std.specs.Prelude.{◌≡◌, [], ◌∷◌, ◌++◌, codes, true, false, Some, None};
 ghost use Rattle.line_io.specs.Lines.{Whole, TooLong};
 ghost use Rattle.protocol.specs.declared.faults.ProtocolFault.TheVariants.{NoCommand, LongLine, NoNumber, NoHello, HelloAgain};
@@ -9,7 +10,7 @@ ghost use Rattle.session.specs.Turns.{turns};
 ghost use Rattle.site_office.specs.Sessions.{AreMixed};
 ghost use Rattle.site_office.specs.Turns.{info_text};
 
-/// Lines before HELLO.
+/// What lines ask for before HELLO, where no tenant is there.
 pub fn lines_before_hello()
     ensures hello { site_request false (Whole (codes "HELLO 4 8")) ≡ Greets None (record { segments = 4; nodes = 8 }) }
     ensures token { site_request false (Whole (codes "HELLO 4 8 abc")) ≡ Greets (Some (codes "abc")) (record { segments = 4; nodes = 8 }) }
@@ -30,7 +31,7 @@ pub fn lines_before_hello()
     ensures long { site_request false TooLong ≡ Plain (Fault LongLine) }
 {}
 
-/// Lines where a tenant is there.
+/// What lines ask for where the session's tenant is there.
 pub fn lines_of_a_tenant()
     ensures reserve { site_request true (Whole (codes "RESERVE 8 16")) ≡ Raises (record { segments = 8; nodes = 16 }) }
     ensures too_much { site_request true (Whole (codes "RESERVE 4097 16")) ≡ Plain (Fault NoNumber) }
@@ -45,7 +46,7 @@ pub fn lines_of_a_tenant()
     ensures get { site_request true (Whole (codes "GET 7")) ≡ Plain (Makes (Get 7)) }
 {}
 
-/// What INFO says.
+/// The answer to INFO, byte by byte, for one budget.
 pub fn what_info_says()
     ensures { info_text (record { grain = 4; may_segments = 16384; may_nodes = 1048576; has_segments = 4; has_nodes = 8 }) ≡ codes "INFO 4 16384 1048576 4 8 1.0.0" }
 {}

@@ -1,4 +1,4 @@
-//! A connection from its first byte to its last, as bytes in and bytes out.
+//! The sessions of a site's connection: bytes in and bytes out.
 ghost use Rattle.std.specs.Prelude.{◌≡◌, None};
 ghost use Rattle.site_office.specs.Sessions.{SeenSiteSession};
 

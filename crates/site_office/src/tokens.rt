@@ -1,4 +1,4 @@
-//! The token in a line HELLO.
+//! The token in a line HELLO of a site's session, which says whose the session is.
 ghost use Rattle.std.specs.Prelude.{◌≡◌};
 ghost use Rattle.std.specs.Option.{option_copied};
 ghost use Rattle.site_office.specs.Tokens.{is_token_byte, is_token, token_after, token_of, without_token};

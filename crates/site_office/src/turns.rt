@@ -26,7 +26,7 @@ const TOO_MANY: u8 = 31;
 /// What stands last in INFO: the program's version.
 const VERSION: &[u8] = b" 1.0.0";
 
-/// Writes ERR and this number over the last answer.
+/// Writes the answer `ERR` with this number in the place of the last answer.
 fn refuse(text: &mut SessionText, number: u8)
     ensures text { text.new.items ≡ error_text number }
     ensures short { length text.new.items ≤ 1114 }
@@ -35,7 +35,7 @@ fn refuse(text: &mut SessionText, number: u8)
     push_error(text, number);
 }
 
-/// Appends a space and a number.
+/// Appends a space and a number to an answer.
 fn push_after(text: &mut SessionText, number: u64)
     requires { length text.old.items + 21 ≤ 1114 }
     ensures text { text.new.items ≡ text.old.items ++ spaced_number number }
@@ -69,7 +69,7 @@ fn write_pong(text: &mut SessionText)
     text.try_extend_from_slice(b"PONG").unwrap();
 }
 
-/// Answers a HELLO whose rate was paid, by what is known of who says it.
+/// Answers the line HELLO of a site's session, whose rate was paid, by what is known of who says it.
 fn welcome<O: Office>(
     office: &mut O,
     seated: &mut bool,
@@ -88,7 +88,8 @@ fn welcome<O: Office>(
     }
 }
 
-/// Answers HELLO: it is said first who says it, and whoever that is pays for it.
+/// Answers the line HELLO of a site's session: first it is found out who says it, and then that customer's rate is
+/// charged.
 fn take_greeting<O: Office + AccessControl>(
     office: &mut O,
     seated: &mut bool,
@@ -108,7 +109,7 @@ fn take_greeting<O: Office + AccessControl>(
     }
 }
 
-/// Answers RESERVE, which is paid for.
+/// Answers the line RESERVE of a site's session, which is charged to the customer's rate.
 fn take_raise<O: Office + AccessControl>(
     office: &mut O,
     seated: &mut bool,

@@ -1,4 +1,4 @@
--- One field more.
+-- The fields of a proxy's header: what is found of a type in them, by the first field and those after it.
 use Rattle.std.proofs.Common.{◌≡◌, ◌≢◌, ℕ, suc, List, cond, sym, ap, ◌∙◌, Option, Some}
 use Rattle.std.proofs.lemmas.Bool.{ne_eqb, eq-eqb}
 use Rattle.site_rules.specs.Fields.{first_field, value_or, field_within}

@@ -1,4 +1,4 @@
--- The header of TCP over IPv6.
+-- A proxy's header of TCP over IPv6: what is read of a body of at least 36 bytes (addresses, ports, fields).
 use Rattle.std.proofs.Common.{◌≡◌, ℕ, ◌+◌, ◌-◌, ◌≤◌, List, length, take, drop, cond, false, sym, ap, ◌∙◌, arith, nat_lt, Result, Ok, Err}
 use Rattle.std.proofs.lemmas.Bool.Decides.{nat_tests}
 use Rattle.std.proofs.lemmas.List.{take_all, length-drop}

@@ -1,4 +1,4 @@
--- What both of two plans allow, compared with what each allows.
+-- What both of two plans of a site allow, compared with what each allows.
 use Rattle.std.proofs.Common.{◌≡◌, ℕ, zero, suc, ◌+◌, ◌-◌, ◌<◌, ◌++◌, ◌&&◌, List, [], ◌∷◌, Bool, true, false, not, append_assoc, arith, get_or, subst, sym, ap, ◌∙◌, refl, zero-add}
 use Rattle.std.proofs.lemmas.Bool.{and_from, and_parts}
 use Rattle.std.proofs.lemmas.Bool.Decides.{nat_tests}

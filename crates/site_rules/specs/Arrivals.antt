@@ -1,10 +1,11 @@
--- Meaning: whether a connection is taken.
+-- Meaning: whether a site takes a connection.
 use Rattle.std.specs.Prelude.{◌/◌, nat_le, nat_lt, if◌then◌else◌}
 use Rattle.site_rules.specs.declared.arrivals.Crowd.{Crowd}
 use Rattle.site_rules.specs.declared.arrivals.Arrival.{Arrival}
 use Rattle.site_rules.specs.declared.arrivals.Arrival.TheVariants.{Counted, Heard, Closed}
 
--- closed where all are as many as may be; its customer's where that may have one more; else heard, unless a quarter of all are so already
+-- what becomes of a connection that comes to a site: it is closed where all are as many as may be; it counts as its
+-- customer's where that may have one more; else it is heard, unless a quarter of all are so already
 abbrev pub arrival : Crowd → Arrival
 arrival crowd =
     if nat_le crowd.most_all crowd.all then Closed

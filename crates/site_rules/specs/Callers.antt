@@ -1,4 +1,4 @@
--- Meaning: whose a connection is by its first bytes.
+-- Meaning: whose a connection to a site is, by its first bytes.
 use Rattle.std.specs.Prelude.{◌≡◌, ℕ, List, Option, Some, None, Result, Ok, Err, take, drop}
 use Rattle.std.specs.Int.{w32, w64, from_be_bytes}
 use Rattle.site_rules.specs.declared.faults.HeaderFault.{HeaderFault}
@@ -27,19 +27,20 @@ pub data CallerOf : Type 0 where
   Waiting : CallerOf
   Closed : CallerOf
 
--- from the address that its header tells; from its own where none is told
+-- the address from which a connection comes: the one that its header tells; its own where none is told
 abbrev pub address_of : Origin → Address → Address
 address_of Local peer = peer
 address_of (told_v4 octets port) peer = V4 (from_be_bytes w32 octets)
 address_of (told_v6 octets port) peer = v6_of (from_be_bytes w64 (take 8 octets)) (from_be_bytes w64 (drop 8 octets))
 
--- by what was read of its header
+-- whose a connection is, by what was read of its proxy's header
 abbrev pub caller_by : Result (Option HeaderOf) HeaderFault → Address → CallerOf
 caller_by (Err fault) peer = Closed
 caller_by (Ok None) peer = Waiting
 caller_by (Ok (Some header)) peer = Comes (address_of header.origin peer) (field_of 5 header.fields) header.used
 
--- at the proxy's port by its header, which must be one; at the other by its own address
+-- whose a connection is: at the proxy's port by its header, which must be there; at the other port by the connection's
+-- own address
 abbrev pub IsIdentified : Port → List ℕ → Address → CallerOf → Type 0
 IsIdentified Plain bytes peer caller = caller ≡ Comes peer None 0
 IsIdentified Proxied bytes peer caller = (read : Result (Option HeaderOf) HeaderFault) × IsReading bytes read × (caller ≡ caller_by read peer)

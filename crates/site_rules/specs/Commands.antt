@@ -1,4 +1,4 @@
--- Meaning: what a line of the operator asks.
+-- Meaning: what a line of a site's operator asks.
 use Rattle.std.specs.Prelude.{ℕ, ◌*◌, List, Option, Some, None, Bool, ◌&&◌, true, false, if◌then◌else◌, codes}
 use Rattle.std.specs.Str.{bytes_eq}
 use Rattle.protocol.specs.Words.{split_at_space, word_number}
@@ -10,7 +10,7 @@ pub data WhoseOf : Type 0 where
   Address : (text : List ℕ) → WhoseOf
   Session : (hall number : ℕ) → WhoseOf
 
--- what the operator asks
+-- what a line of the site's operator asks
 pub data CommandOf : Type 0 where
   Stats : CommandOf
   End : WhoseOf → CommandOf
@@ -18,7 +18,7 @@ pub data CommandOf : Type 0 where
   Reload : (ends : Bool) → CommandOf
   Unknown : CommandOf
 
--- what a line of one word asks
+-- what an operator's line of one word asks
 abbrev pub bare_command : List ℕ → CommandOf
 bare_command word =
     if bytes_eq word (codes "STATS") then Stats
@@ -31,7 +31,7 @@ end_of_session (Some hall) (Some number) = End (Session hall number)
 end_of_session (Some hall) None = Unknown
 end_of_session None number = Unknown
 
--- the same by the words behind SESSION
+-- whose session a line END of the operator names, by the words behind SESSION
 abbrev pub session_by : Option (List ℕ × List ℕ) → CommandOf
 session_by None = Unknown
 session_by (Some words) = end_of_session (word_number words.0) (word_number words.1)
@@ -45,12 +45,13 @@ end_by (Some words) =
     else (if bytes_eq words.0 (codes "SESSION") then session_by (split_at_space words.1)
     else Unknown))
 
--- a drain within so many seconds
+-- the command that the site take nobody more, and that its sessions end within so many seconds (1,000 milliseconds
+-- each); unknown without a number
 abbrev pub drain_within : Option ℕ → CommandOf
 drain_within None = Unknown
 drain_within (Some seconds) = Drain (seconds * 1000)
 
--- what a line of more words asks
+-- what an operator's line of more words asks
 abbrev pub command_with : List ℕ → List ℕ → CommandOf
 command_with word rest =
     if bytes_eq word (codes "RELOAD") && bytes_eq rest (codes "END") then Reload true
@@ -63,6 +64,6 @@ abbrev pub command_by : List ℕ → Option (List ℕ × List ℕ) → CommandOf
 command_by line None = bare_command line
 command_by line (Some words) = command_with words.0 words.1
 
--- what a line asks
+-- what a line of the operator asks
 abbrev pub command_of : List ℕ → CommandOf
 command_of line = command_by line (split_at_space line)

@@ -1,7 +1,8 @@
--- Meaning: the fields of a header, one after another: a byte of type, two bytes of length, the high one first, and so many bytes of value.
+-- Meaning: the fields of a proxy's header, one after another: a byte of type, two bytes of length, the high one first,
+-- and so many bytes of value.
 use Rattle.std.specs.Prelude.{ℕ, zero, suc, ◌+◌, ◌*◌, ◌==◌, List, length, take, drop, nat_lt, slice_index, if◌then◌else◌, Option, Some, None}
 
--- how long the value of the first field is
+-- how many bytes the value of a header's first field has
 abbrev pub value_size : List ℕ → ℕ
 value_size bytes = slice_index bytes 1 * 256 + slice_index bytes 2
 
@@ -11,6 +12,7 @@ field_by bytes tail =
     if nat_lt (length tail) (value_size bytes) then None
     else Some (slice_index bytes 0, take (value_size bytes) tail, drop (value_size bytes) tail)
 
+-- the first field of a header: its type, its value, and the bytes after it; None where it is cut short
 abbrev pub first_field : List ℕ → Option (ℕ × List ℕ × List ℕ)
 first_field bytes = if nat_lt (length bytes) 3 then None else field_by bytes (drop 3 bytes)
 

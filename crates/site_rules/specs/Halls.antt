@@ -1,4 +1,4 @@
--- Meaning: in which hall a guest's next session is.
+-- Meaning: in which hall of a site a guest's next session is.
 use Rattle.std.specs.Prelude.{ℕ, suc, ◌+◌, ◌-◌, ◌^◌, ◌==◌, ◌||◌, nat_lt, min, List, [], ◌∷◌, Option, Some, None, if◌then◌else◌}
 use Rattle.site_rules.specs.declared.halls.HallRoom.{HallRoom}
 
@@ -12,7 +12,7 @@ emptiest best most place [] = best
 emptiest best most place (room ∷ rooms) =
     if nat_lt most (left room) then emptiest place (left room) (suc place) rooms else emptiest best most (suc place) rooms
 
--- where it has sessions already, else where most is left
+-- the hall of a guest's next session: the one where it has sessions already, else the one where most is left
 abbrev pub hall_of_guest : List HallRoom → Option ℕ → ℕ
 hall_of_guest rooms None = emptiest 0 0 0 rooms
 hall_of_guest rooms (Some hall) = hall

@@ -1,4 +1,4 @@
--- Representation: the types of the code as data, and the numbers of faults.
+-- Representation: the types of the code that reads a proxy's header as data, and the numbers of faults.
 use Rattle.std.specs.Prelude.{ℕ, Option, Result, Ok, Err}
 use Rattle.std.specs.Option.{option_map}
 use Rattle.site_rules.specs.declared.faults.HeaderFault.{HeaderFault}
@@ -13,17 +13,17 @@ use Rattle.site_rules.specs.Texts.{TextOf, Waiting, Foreign, Wrong, Unknown, Tol
 abbrev pub header_seen : Header → HeaderOf
 header_seen header = record { origin = header.origin; fields = header.fields.now; used = header.used }
 
--- the same of a result
+-- what is read of a whole header, or its fault, as data
 abbrev pub result_seen : Result Header HeaderFault → Result HeaderOf HeaderFault
 result_seen (Ok header) = Ok (header_seen header)
 result_seen (Err fault) = Err fault
 
--- the same of what was read
+-- what is read of bytes that may be a header: one, none yet, or a fault, as data
 abbrev pub read_seen : Result (Option Header) HeaderFault → Result (Option HeaderOf) HeaderFault
 read_seen (Ok header) = Ok (option_map header_seen header)
 read_seen (Err fault) = Err fault
 
--- the number of a fault
+-- the number of each fault of a header
 abbrev pub header_fault_number : HeaderFault → ℕ
 header_fault_number NoHeader = 1
 header_fault_number Version = 2

@@ -13,7 +13,7 @@ pub record HeaderOf : Type 0 where
   pub fields : List ℕ
   pub used : ℕ
 
--- CR LF CR LF 0 CR LF Q U I T LF
+-- the 12 bytes that a header of version 2 begins with: CR LF CR LF 0 CR LF Q U I T LF
 abbrev pub signature : List ℕ
 signature = 13 ∷ 10 ∷ 13 ∷ 10 ∷ 0 ∷ 13 ∷ 10 ∷ 81 ∷ 85 ∷ 73 ∷ 84 ∷ 10 ∷ []
 
@@ -32,7 +32,7 @@ v4_reading body =
     if nat_lt (length body) 12 then Err ShortAddress
     else Ok (record { origin = V4 (take 4 body) (number_at body 8); fields = drop 12 body; used = 16 + length body })
 
--- the same over IPv6, with addresses of 16 bytes
+-- the header of TCP over IPv6 whose body is this, with two addresses of 16 bytes
 abbrev pub v6_reading : List ℕ → Result HeaderOf HeaderFault
 v6_reading body =
     if nat_lt (length body) 36 then Err ShortAddress
@@ -46,7 +46,7 @@ family_reading family body =
     else (if family == 33 then v6_reading body
     else Err Family))
 
--- a header that is whole
+-- a whole header, or its fault, as what is read of bytes that may be a header
 abbrev pub whole : Result HeaderOf HeaderFault → Result (Option HeaderOf) HeaderFault
 whole (Ok header) = Ok (Some header)
 whole (Err fault) = Err fault

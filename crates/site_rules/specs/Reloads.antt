@@ -1,10 +1,10 @@
--- Meaning: the plan by which a hall goes while its site changes from one file to another.
+-- Meaning: the plan by which a hall of a site goes while the site changes from one file to another.
 use Rattle.std.specs.Prelude.{ℕ, zero, suc, min, List, [], ◌∷◌}
 use Rattle.site_book.specs.declared.amount.Amount.{Amount}
 use Rattle.site_book.specs.declared.who.Who.TheVariants.{Named}
 use Rattle.site_book.specs.Plans.{PlanOf, budget_of}
 
--- the lesser of both in sessions, segments and nodes
+-- the lesser of two amounts in each of sessions, segments and nodes
 abbrev pub least_of_both : Amount → Amount → Amount
 least_of_both a b = record { sessions = min a.sessions b.sessions; segments = min a.segments b.segments; nodes = min a.nodes b.nodes }
 

@@ -1,4 +1,4 @@
--- Representation: the types of the code as data.
+-- Representation: the types of the code of a site's rules as data.
 use Rattle.std.specs.Option.{option_copied}
 use Rattle.site_rules.specs.declared.callers.Caller.{Caller}
 use Rattle.site_rules.specs.declared.callers.Caller.TheVariants.{From, Unfinished, Foreign}
@@ -21,7 +21,7 @@ whose_seen (of_customer name) = Customer name.now
 whose_seen (of_address text) = Address text.now
 whose_seen (of_session hall number) = Session hall number
 
--- the same of a command
+-- a command of the site's operator as data
 abbrev pub command_seen : Command → CommandOf
 command_seen stats = Stats
 command_seen (end whose) = End (whose_seen whose)

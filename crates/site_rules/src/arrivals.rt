@@ -1,4 +1,4 @@
-//! Whether a connection is taken.
+//! Whether a site takes a connection.
 ghost use Rattle.std.specs.Prelude.{◌≡◌};
 ghost use Rattle.site_rules.specs.Arrivals.{arrival};
 

@@ -1,4 +1,4 @@
-//! What a line of the operator asks.
+//! What a line of a site's operator asks.
 ghost use Rattle.std.specs.Prelude.{◌≡◌};
 ghost use Rattle.protocol.specs.Words.{split_at_space};
 ghost use Rattle.site_rules.specs.Commands.{bare_command, command_of, command_with, end_by, session_by};
@@ -42,7 +42,7 @@ pub fn read_command(line: &[u8]) -> Command<'_>
     }
 }
 
-/// What a line of one word asks.
+/// What a line of one word asks of the site for its operator.
 fn bare_command<'a>(word: &[u8]) -> Command<'a>
     ensures { command_seen result ≡ bare_command word.now }
 {
@@ -55,7 +55,7 @@ fn bare_command<'a>(word: &[u8]) -> Command<'a>
     }
 }
 
-/// What a line of more words asks.
+/// What a line of a word and more words asks of the site for its operator.
 fn command_with<'a>(word: &[u8], rest: &'a [u8]) -> Command<'a>
     ensures { command_seen result ≡ command_with word.now rest.now }
 {
@@ -73,7 +73,7 @@ fn command_with<'a>(word: &[u8], rest: &'a [u8]) -> Command<'a>
     }
 }
 
-/// Whose sessions are to end.
+/// Whose sessions the operator's line END names, by the words after it.
 fn end_of(rest: &[u8]) -> Command<'_>
     ensures { command_seen result ≡ end_by (split_at_space rest.now) }
 {

@@ -1,4 +1,4 @@
-//! How many connections a process has descriptors for.
+//! How many connections a site's process has descriptors for.
 ghost use Rattle.std.specs.Prelude.{◌≡◌};
 ghost use Rattle.site_rules.specs.Descriptors.{connections_within};
 

@@ -1,4 +1,4 @@
-//! Why bytes are no header.
+//! Why a connection's first bytes are no proxy's header.
 ghost use Rattle.std.specs.Prelude.{◌≡◌};
 ghost use Rattle.site_rules.specs.HeaderViews.{header_fault_number};
 
@@ -22,7 +22,7 @@ pub enum HeaderFault {
 }
 
 impl HeaderFault {
-    /// The number of the fault, 1 to 7.
+    /// The number of the header's fault, 1 to 7.
     pub fn number(self) -> u8
         ensures { result ≡ header_fault_number self }
     {

@@ -1,4 +1,4 @@
-//! The fields after the addresses.
+//! The fields after the addresses of a proxy's header.
 ghost use Rattle.std.specs.Prelude.{◌≡◌, option_map};
 ghost use Rattle.std.specs.Option.{option_copied};
 ghost use Rattle.site_rules.specs.Fields.{first_field, field_of};

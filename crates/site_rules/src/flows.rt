@@ -1,4 +1,4 @@
-//! How fast a session's lines are answered that come without end.
+//! How fast the lines of a site's session are answered that come without end.
 ghost use Rattle.std.specs.Prelude.{◌≡◌};
 ghost use Rattle.site_rules.specs.Flows.{paid_with, pause};
 

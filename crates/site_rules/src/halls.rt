@@ -1,4 +1,4 @@
-//! In which hall a guest's next session is.
+//! In which hall of a site a guest's next session is.
 ghost use Rattle.std.specs.Prelude.{◌≡◌};
 ghost use Rattle.site_rules.specs.Halls.{left, emptiest, hall_of_guest};
 

@@ -96,7 +96,7 @@ fn v4_reading(body: &[u8]) -> Result<Header<'_>, HeaderFault>
     }
 }
 
-/// The first 16 bytes.
+/// The first 16 bytes of a header's body, which are its IPv6 source address.
 fn v6_address(body: &[u8]) -> [u8; 16]
     requires { 16 ≤ length body.now }
     ensures { result ≡ take 16 body.now }
@@ -121,7 +121,7 @@ fn v6_reading(body: &[u8]) -> Result<Header<'_>, HeaderFault>
     })
 }
 
-/// The header of this family, whose bytes after its front are these.
+/// The header of version 2 with this family, by the bytes after its first 16.
 fn family_reading(family: u8, body: &[u8]) -> Result<Header<'_>, HeaderFault>
     requires { length body.now ≤ 4080 }
     ensures { result_seen result ≡ family_reading family body.now }

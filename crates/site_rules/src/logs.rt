@@ -1,4 +1,4 @@
-//! Whether a line of the log is said that anybody can cause.
+//! Whether a line of a site's log is said that anybody can cause.
 ghost use Rattle.std.specs.Prelude.{◌≡◌, ◌&&◌, nat_lt};
 
 /// How many lines of one reason are said in a second.

@@ -1,4 +1,4 @@
-//! Until when a connection may be silent.
+//! Until when a connection to a site may be silent.
 ghost use Rattle.std.specs.Prelude.{◌≡◌, false};
 ghost use Rattle.site_rules.specs.Paces.{time_left, until};
 
@@ -23,7 +23,7 @@ pub struct Pace {
 }
 
 impl Pace {
-    /// That of a connection that comes now.
+    /// The pace of a connection that comes now and has said nothing.
     pub fn new(now: u64) -> Pace
         ensures { result ≡ record { came = now; last = now; welcomed = false } }
     {
@@ -34,7 +34,7 @@ impl Pace {
         }
     }
 
-    /// Until when it may be silent.
+    /// Until when the connection may be silent, in milliseconds of the site's clock.
     pub fn until(&self, times: &Times) -> u64
         ensures { result ≡ until times.now self.now }
     {

@@ -1,4 +1,5 @@
-//! The definitions, tried on instances: each contract is computed from the definitions alone.
+//! The definitions of a site's rules, tried on instances: each contract is computed from the definitions alone. Times
+//! are milliseconds (of lines: microseconds).
 ghost use Rattle.std.specs.Prelude.{◌≡◌, true, false, Some, None, [], ◌∷◌, ◌++◌, replicate, take, codes, Ok, Err};
 ghost use Rattle.site_rules.specs.Arrivals.{arrival};
 ghost use Rattle.site_rules.specs.Callers.{speaker};
@@ -18,7 +19,7 @@ ghost use Rattle.site_rules.specs.Texts.{Told, Unknown, text_reading, IsReading}
 ghost use Rattle.site_rules.specs.declared.faults.HeaderFault.TheVariants.{NoHeader, Version, Command, LongHeader, Family, ShortAddress, WrongText};
 ghost use Rattle.site_rules.specs.declared.headers.Origin.TheVariants.{Local, V4, V6};
 
-/// Connections at the edges.
+/// Whether a connection is taken, at each limit and one beyond it.
 pub fn connections_are_taken()
     ensures counted { arrival (record { own = 3; most_own = 4; extra = 9; all = 99; most_all = 100 }) ≡ Counted }
     ensures heard { arrival (record { own = 4; most_own = 4; extra = 24; all = 99; most_all = 100 }) ≡ Heard }
@@ -55,7 +56,8 @@ pub fn descriptors_are_kept()
     ensures none { connections_within 64 8192 ≡ None }
 {}
 
-/// A thousand lines at once, and then one in two milliseconds.
+/// A session's thousand lines at once, and then one each 2 milliseconds (2,000 microseconds), are answered without a
+/// pause; one more waits.
 pub fn lines_are_paid_for()
     ensures at_once { pause (paid_with 0 1000 5) 5 ≡ 0 }
     ensures one_more { pause (paid_with 0 1001 5) 5 ≡ 2000 }
@@ -70,7 +72,7 @@ pub fn guests_have_halls()
     ensures home { hall_of_guest (record { sessions = 3; segments = 9; nodes = 5 } ∷ record { sessions = 0; segments = 9; nodes = 7 } ∷ []) (Some 1) ≡ 1 }
 {}
 
-/// Ten seconds to a welcome, an hour between lines.
+/// A connection has 10 seconds (10,000 ms) to a welcome, and an hour (3,600,000 ms) between lines.
 pub fn silences()
     ensures welcome { time_left (record { welcome = 10000; idle = 3600000 }) (record { came = 5; last = 9000; welcomed = false }) 10004 ≡ Some 1 }
     ensures late { time_left (record { welcome = 10000; idle = 3600000 }) (record { came = 5; last = 9000; welcomed = false }) 10005 ≡ None }
@@ -78,7 +80,8 @@ pub fn silences()
     ensures long { time_left (record { welcome = 10000; idle = 3600000 }) (record { came = 5; last = 9000; welcomed = true }) 3609000 ≡ None }
 {}
 
-/// A client that ended its input is gone after a minute, one that is lost at once, and one that speaks again isn't.
+/// A client whose input ended at 7 ms is gone a minute later (60,007 ms), one that is lost at once, and one that speaks
+/// again isn't.
 pub fn clients_are_gone()
     ensures first { watch_after (record { since = None }) Ended 7 ≡ record { since = Some 7 } }
     ensures later { watch_after (record { since = Some 7 }) Ended 9 ≡ record { since = Some 7 } }
@@ -89,7 +92,9 @@ pub fn clients_are_gone()
     ensures silent { is_gone (record { since = Some 7 }) Silent 99999 60000 ≡ false }
 {}
 
-/// Headers that are whole, and how many bytes they have: the `H` of a HELLO behind the first isn't one of them.
+/// Proxies' headers that are whole (after the signature 33 is version 2 with PROXY, 32 with LOCAL; 17 TCP over IPv4, 33
+/// over IPv6; then two bytes of length), and how many bytes they have: the `H` (72) of a HELLO behind the first isn't
+/// one of them.
 pub fn headers_are_read()
     ensures over_ipv4 { reading (signature ++ 33 ∷ 17 ∷ 0 ∷ 12 ∷ 10 ∷ 0 ∷ 0 ∷ 1 ∷ 127 ∷ 0 ∷ 0 ∷ 2 ∷ 195 ∷ 80 ∷ 18 ∷ 92 ∷ 72 ∷ [])
         ≡ Ok (Some (record { origin = V4 (10 ∷ 0 ∷ 0 ∷ 1 ∷ []) 50000; fields = []; used = 28 })) }
@@ -100,7 +105,8 @@ pub fn headers_are_read()
     ensures unknown { reading (signature ++ 33 ∷ 0 ∷ 0 ∷ 2 ∷ 1 ∷ 1 ∷ []) ≡ Ok (Some (local_header 2)) }
 {}
 
-/// Beginnings of headers.
+/// Bytes that are a beginning of a proxy's header, as 5 of the 12 of the signature, or a body with a byte too few: no
+/// fault, but nothing read yet.
 pub fn headers_may_come()
     ensures none { reading [] ≡ Ok None }
     ensures some { reading (take 5 signature) ≡ Ok None }
@@ -108,7 +114,7 @@ pub fn headers_may_come()
     ensures unfinished { reading (signature ++ 33 ∷ 17 ∷ 0 ∷ 12 ∷ replicate 11 0) ≡ Ok None }
 {}
 
-/// Bytes that are no header.
+/// Bytes that are no proxy's header, and the fault of each.
 pub fn faults_are_found()
     ensures hello { reading (codes "HELLO 64 4096") ≡ Err NoHeader }
     ensures one_letter { reading (codes "B") ≡ Err NoHeader }
@@ -121,7 +127,7 @@ pub fn faults_are_found()
     ensures short_of_ipv6 { reading (signature ++ 33 ∷ 33 ∷ 0 ∷ 35 ∷ replicate 35 0) ≡ Err ShortAddress }
 {}
 
-/// A field is found behind others, and not where its value is cut short.
+/// A field of a proxy's header is found behind others, and not where its value is cut short.
 pub fn fields_are_found()
     ensures second { field_of 5 (4 ∷ 0 ∷ 0 ∷ 5 ∷ 0 ∷ 2 ∷ 97 ∷ 98 ∷ []) ≡ Some (97 ∷ 98 ∷ []) }
     ensures empty { field_of 4 (4 ∷ 0 ∷ 0 ∷ 5 ∷ 0 ∷ 2 ∷ 97 ∷ 98 ∷ []) ≡ Some [] }
@@ -130,7 +136,7 @@ pub fn fields_are_found()
     ensures no_size { field_of 5 (5 ∷ 0 ∷ []) ≡ None }
 {}
 
-/// Headers of version 1.
+/// What is read of proxies' headers of version 1, which are lines of text.
 pub fn texts_are_read()
     ensures over_ipv4 { text_reading (codes "PROXY TCP4 10.0.0.1 127.0.0.2 50000 4700" ++ 13 ∷ 10 ∷ 72 ∷ []) ≡ Told true (codes "10.0.0.1") (codes "127.0.0.2") 50000 42 }
     ensures over_ipv6 { text_reading (codes "PROXY TCP6 ::1 ::1 1 2" ++ 13 ∷ 10 ∷ []) ≡ Told false (codes "::1") (codes "::1") 1 24 }
@@ -146,7 +152,7 @@ pub fn texts_are_read()
     ensures version_2 { IsReading (take 5 signature) (Ok None) }
 {}
 
-/// Commands of the operator.
+/// What each line of the operator asks: STATS, END, DRAIN and RELOAD, and lines that ask nothing.
 pub fn commands_are_read()
     ensures stats { command_of (codes "STATS") ≡ Stats }
     ensures customer { command_of (codes "END CUSTOMER school") ≡ End (Customer (codes "school")) }

@@ -1,4 +1,4 @@
-//! Reading a header of version 1: a line of text.
+//! Reading a proxy's header of version 1: a line of text.
 ghost use Rattle.std.specs.Prelude.{◌≡◌, ◌<◌, length, IfSome};
 ghost use Rattle.site_rules.specs.Headers.{whole};
 ghost use Rattle.site_rules.specs.Texts.{IsSaid, IsTold4, IsTold6, port_of, line_end, line_by, text_reading, words_reading, addresses_reading, told_reading};
@@ -33,7 +33,7 @@ pub(crate) enum Text<'a> {
     Told(bool, &'a [u8], &'a [u8], u16, usize),
 }
 
-/// The port that a word writes.
+/// The port (0 to 65535) that a word of a header writes; None for any other word.
 fn port_of(word: &[u8]) -> Option<u16>
     ensures { result ≡ port_of word.now }
 {
@@ -43,7 +43,7 @@ fn port_of(word: &[u8]) -> Option<u16>
     }
 }
 
-/// What is told by two addresses and two ports.
+/// What a proxy's header of version 1 tells by its two addresses and its two ports.
 fn told_reading<'a>(
     four: bool,
     source: &'a [u8],
@@ -62,7 +62,7 @@ fn told_reading<'a>(
     }
 }
 
-/// What the words after the family tell.
+/// What a proxy's header of version 1 tells by the words after the family (TCP4 or TCP6): two addresses and two ports.
 fn addresses_reading(four: bool, words: &[u8], used: usize) -> Text<'_>
     ensures { text_seen result ≡ addresses_reading four words.now used }
 {
@@ -75,7 +75,7 @@ fn addresses_reading(four: bool, words: &[u8], used: usize) -> Text<'_>
     }
 }
 
-/// What the words after PROXY tell.
+/// What a header of version 1 tells by its words after PROXY.
 fn words_reading(words: &[u8], used: usize) -> Text<'_>
     ensures { text_seen result ≡ words_reading words.now used }
 {
@@ -106,7 +106,7 @@ fn line_end(bytes: &[u8]) -> Option<usize>
     first.iter().position(|byte| *byte == b'\n')
 }
 
-/// What these bytes tell, which begin as a header of version 1.
+/// What a proxy's header of version 1 tells by its line, which these bytes begin with.
 fn line_reading(bytes: &[u8]) -> Text<'_>
     ensures { text_seen result ≡ line_by bytes.now (line_end bytes.now) }
 {
@@ -126,7 +126,7 @@ fn line_reading(bytes: &[u8]) -> Text<'_>
     words_reading(&bytes[6..end - 1], end + 1)
 }
 
-/// What these bytes tell.
+/// What bytes tell as a header of version 1; `Foreign` where they don't begin as one.
 pub(crate) fn text_reading(bytes: &[u8]) -> Text<'_>
     ensures { text_seen result ≡ text_reading bytes.now }
 {
@@ -137,7 +137,7 @@ pub(crate) fn text_reading(bytes: &[u8]) -> Text<'_>
     line_reading(bytes)
 }
 
-/// The header of these addresses over IPv4.
+/// The header that tells these texts of two IPv4 addresses and this port; a fault where one of them is no address.
 fn v4_header<'a>(
     source: &[u8],
     target: &[u8],
@@ -160,7 +160,7 @@ fn v4_header<'a>(
     }
 }
 
-/// The header of these addresses over IPv6.
+/// The header that tells these texts of two IPv6 addresses and this port; a fault where one of them is no address.
 fn v6_header<'a>(
     source: &[u8],
     target: &[u8],
@@ -183,7 +183,7 @@ fn v6_header<'a>(
     }
 }
 
-/// A header that was read, or why there is none.
+/// A whole header that was read, or the fault for which there is none.
 fn whole(header: Result<Header<'_>, HeaderFault>) -> Result<Option<Header<'_>>, HeaderFault>
     ensures { read_seen result ≡ whole (result_seen header.entry) }
 {

@@ -1,4 +1,4 @@
-//! When the client of a session that waits for a job is gone.
+//! When the client of a site's session that waits for a job is gone.
 ghost use Rattle.std.specs.Prelude.{◌≡◌};
 ghost use Rattle.site_rules.specs.Watches.{watch_after, is_gone};
 
@@ -24,7 +24,7 @@ impl Watch {
     /// Of a client whose input hasn't ended.
     pub const NOTHING: Watch = Watch { since: None };
 
-    /// After a look.
+    /// What is known of a waiting session's client after one more look at its connection.
     pub fn after(self, seen: ClientState, now: u64) -> Watch
         ensures { result ≡ watch_after self seen now }
     {

@@ -1,4 +1,4 @@
--- What was asked stays asked, and what has become of the job answers it.
+-- The search of a line of `solve`: what was asked of its core stays asked, and what has become of the job answers it.
 use Rattle.solve_engine.proofs.Common.{◌≡◌, ℕ, Bool, true, false, ◌&&◌, eqb, List, [], ◌∷◌, ◌++◌, Option, Some, None, Result, Ok, refl, ap, ap₂, sym, ◌∙◌, subst, append-nil, rules, is_ok, if◌then◌else◌, IsSome, Quota, cells, cells_of, Refusal, StepOf, Submit, DidOf, tenant_of, Tenant, CoreState, shared_by_nobody, tenant_in, submits, origins_after, LeafAnswer, root_words, Reply, board_of, IsSearch, TenantSearches, ServesSearches, CoreSearches, origin_at, Done, IsReplyOn, AnswersTo, nobody-searches, core-tenant, core-serves, HasAsked, HasReserved}
 use Rattle.jamboree_core.specs.declared.outcomes.Outcome.{Outcome}
 

@@ -1,4 +1,4 @@
--- The names that the proofs take of the library, of the crates below and of this crate's definitions, from one place.
+-- The names that the proofs of `solve` use, imported in one place.
 pub use Rattle.std.proofs.Common.{Bool, Err, IfSome, List, None, Ok, Option, Result, Some, [], ap, append-nil, append_assoc, ap₂, arith, eqb, false, inl, inr}
 pub use Rattle.std.proofs.Common.{length, length-append, ltb, refl, rules, subst, suc, sym, true, w32, ℕ, ◌&&◌, ◌++◌, ◌==◌, ◌∙◌, ◌∷◌, ◌≡◌, ◌≢◌}
 pub use Rattle.std.proofs.lemmas.Bool.{cases_Bool, eqb-false, eqb-true}

@@ -1,8 +1,8 @@
--- Where each line is answered by a text that `solve` may answer to it, what is written is the answers to the lines for some list of
--- refused growths.
+-- Where each line is answered by a text that `solve` may answer to it, what `solve` writes is the answers to the lines
+-- for some list of lines that were refused memory.
 use Rattle.solve_engine.proofs.Common.{◌≡◌, ℕ, suc, Bool, List, [], ◌∷◌, ◌++◌, length, refl, sym, ap, ◌∙◌, append_assoc, append-nil, arith, length-append, Result, Ok, Err, concat, LineFault, WriteFailed, LineText, lines_of, Answers, ReadAnswer, WriteAnswer, IsAnswered, written_texts, with_newline, Run, IsOutput, answers_to, bytes_due, write_result, Run-written, solve_line, solve_line_unless, IsSolvedLine, answers_unless, OrderedRun, SolvedRun, subst}
 
--- which of these lines met a refused growth: a flag for each, and the answers are those texts
+-- which of these lines were refused memory: a flag for each, and the answers are those texts
 pub record AreRefusals (lines : List LineText) (texts : List (List ℕ)) : Type 0 where
   pub refused : List Bool
   pub places : length refused ≡ length lines
@@ -22,7 +22,7 @@ refusals-of a (l ∷ ls) (t ∷ ts) b p =
     }
 refusals-of a ls ts b p = absurd p
 
--- lines behind the flags met no refused growth
+-- lines behind the flags were refused no memory
 answers-append : (refused : List Bool) (ls ms : List LineText) → length refused ≡ length ls →
     answers_unless refused (ls ++ ms) ≡ answers_unless refused ls ++ answers_unless [] ms
 answers-append [] [] ms e = refl
@@ -56,12 +56,12 @@ solved-run {A = A} gives takes {s} {k} {a} {s'} {k'} {a'} {r} x =
     let all = written y.pieces y.rest y.texts y.answered lines refusals y.taken (write_result r) y.ends in
     (refusals.refused, Run-written gives takes (solving A) (answers_unless refusals.refused) s k a s' k' a' r x all)
 
--- where no growth was refused, it is what `solve` writes
+-- where no memory was refused, it is what `solve` writes
 pub none_refused : (lines : List LineText) → answers_unless [] lines ≡ answers_to solve_line lines
 none_refused [] = refl
 none_refused (line ∷ lines) = ap (λ rest. with_newline (solve_line line) ++ rest) (none_refused lines)
 
--- a run that writes what `solve` writes where no growth was refused
+-- a run that writes what `solve` writes where no memory was refused
 pub none-refused-run : {S K : Type 0} (gives : S → ReadAnswer → S → Type 0) (takes : K → WriteAnswer → K → Type 0) {s : S} {k : K} {s' : S} {k' : K}
     {r : Result (Unit {0}) LineFault} → OrderedRun gives takes s k s' k' r → SolvedRun gives takes s k s' k' r
 none-refused-run gives takes {s} {k} {s'} {k'} {r} x =

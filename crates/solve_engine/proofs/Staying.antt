@@ -1,4 +1,5 @@
--- What a worker offers is a worker's step or Spend, and where that is taken its tenant stays, with what it reserved.
+-- What the one worker of `solve` offers is a worker's step or Spend, and where that is taken the core's tenant stays,
+-- with what it reserved.
 use Rattle.solve_engine.proofs.Common.{◌≡◌, ℕ, IfSome, Option, Some, None, Ok, refl, subst, arith, StepOf, Functions, Tenant, Outcome, lone_step, by-kinds, Action, Get, Bring, TakeIn, Finish as FinishRoot, Holding, Nothing, Next, Computing, GivingUp, step_of, offered, IsWork}
 use Rattle.jamboree_rules.specs.declared.pool_rules.turn.Action.TheVariants.{Run}
 

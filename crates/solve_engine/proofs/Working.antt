@@ -1,4 +1,4 @@
--- What a search keeps: it begins by an admission and a Submit, and goes on by a worker's steps.
+-- What the search of a line of `solve` keeps: it begins by an admission and a Submit, and goes on by a worker's steps.
 use Rattle.solve_engine.proofs.Common.{◌≡◌, ◌≢◌, ℕ, inl, inr, false, eqb, ltb, [], ◌∷◌, ◌++◌, Option, Some, None, Result, Ok, Err, refl, ap, sym, ◌∙◌, arith, cases_Bool, eqb-true, eqb-false, nat_tests, Quota, IsWithinLimits, Refusal, StepOf, Admit, Submit, DidOf, Admitted, Tenant, admitted_with, left, Outcome, lone, lone_step, lone_refusal, refusal_in, submitted, tenant_of, answer_of, CoreState, CoreOf, shared_by_nobody, shared_with, tenant_in, IsOneStep, AreNumbersGiven, tenant_in-with_outcome, tenant_in-other-with_outcome, IsTaken, step-taken, shared-after-taken, IsRunning, runs-on, submits, Leaf, LeafAnswer, jamboree, root_words, IsSearch, Jamboree, HasRun, HasReserved, Task, WorksOn, IsWork, Keeps, IsNewCore}
 use Rattle.solve_engine.proofs.Staying.{Stays, step-stays}
 use Rattle.solve_engine.proofs.Asking.{StepSearches, step-asks, submit-asks, nothing-asked}

@@ -1,4 +1,4 @@
--- Meaning: what a core of one tenant keeps while its job is worked on.
+-- Meaning: what the core of one line of `solve`, with its one tenant, keeps while its job is worked on.
 use Rattle.std.specs.Prelude.{◌≡◌, ℕ, List, [], Some, Result}
 use Rattle.tenant_quota.specs.Quota.{Quota}
 use Rattle.sched_rules.specs.declared.refusal.Refusal.{Refusal}
@@ -28,7 +28,7 @@ pub record HasRun (grain : ℕ) (totals : Quota) (shared : CoreState) : Type 0 w
   pub right : AreAnswersTo (jamboree grain) (shared_by_nobody totals) steps answers
   pub comes : shared ≡ after_answers (jamboree grain) (shared_by_nobody totals) steps answers
 
--- tenant 1 is there and reserves this
+-- tenant 1 of the core is there, and its reservation is this
 pub record HasReserved (quota : Quota) (shared : CoreState) : Type 0 where
   pub tenant : Tenant
   pub there : tenant_in shared.tenants 1 ≡ Some tenant
@@ -49,11 +49,11 @@ pub record WorksOn (task : Task) (core : CoreOf Jamboree) : Type 0 where
   pub reserved : HasReserved task.quota core.shared
   pub asked : HasAsked task.asked core.shared
 
--- a core works on the same after as before
+-- the core of a line of `solve` works on the same search after as before
 abbrev pub Keeps : CoreOf Jamboree → CoreOf Jamboree → Type 0
 Keeps before after = (task : Task) → WorksOn task before → WorksOn task after
 
--- a step is a worker's or a Spend
+-- the step is one that works on a job: a worker's, or a Spend
 abbrev pub IsWork : {A : Type 0} → StepOf A → Type 0
 IsWork (Take worker name) = Unit {0}
 IsWork (Steal worker from name) = Unit {0}

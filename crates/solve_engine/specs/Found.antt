@@ -1,4 +1,4 @@
--- Meaning: what a search by a core came to.
+-- Meaning: what the search of a line of `solve` by a core came to.
 use Rattle.std.specs.Prelude.{◌≡◌, ℕ, List, [], ◌∷◌, Option, Some, None}
 use Rattle.tenant_quota.specs.Quota.{Quota}
 use Rattle.sched_rules.specs.declared.job.Job.{Job}

@@ -43,16 +43,16 @@ solved depth board = value_text (minimax depth board) (best_choice depth board)
 abbrev pub solved_with_count : ℕ → ℕ → List Cell → List ℕ
 solved_with_count count depth board = visited_text (minimax depth board) (best_choice depth board) count
 
--- the text of value and best choice, or ERR 19 where a growth was refused (true)
+-- the text of value and best choice, or ERR 19 where memory was refused (true)
 abbrev pub solved_unless : Bool → ℕ → List Cell → List ℕ
 solved_unless true depth board = error_text 19
 solved_unless false depth board = solved depth board
 
--- what `solve` answers to a line, where no growth is refused
+-- what `solve` answers to a line, where no memory is refused
 abbrev pub solve_line : LineText → List ℕ
 solve_line line = answer_to solved line
 
--- what `solve` answers to a line, where it is known whether a growth was refused (true). A line with a fault
+-- what `solve` answers to a line, where it is known whether it was refused memory (true). A line with a fault
 -- takes no memory, so its answer is the fault's in any case
 abbrev pub solve_line_unless : Bool → LineText → List ℕ
 solve_line_unless refused line = answer_to (solved_unless refused) line
@@ -65,24 +65,24 @@ IsSolvedLine line text = (refused : Bool) × (text ≡ solve_line_unless refused
 abbrev pub solve_out : List ℕ → List ℕ
 solve_out bytes = answers_to solve_line (lines_of bytes)
 
--- the answers, each with LF, to lines of which some met a refused growth: true stands for each line that did, in
--- order, and a line after the end of that list met none
+-- the answers, each with LF, to lines of which some were refused memory: true stands for each line that was, in
+-- order, and a line after the end of that list was refused none
 abbrev pub answers_unless : List Bool → List LineText → List ℕ
 answers_unless refused [] = []
 answers_unless [] (line ∷ lines) = with_newline (solve_line line) ++ answers_unless [] lines
 answers_unless (flag ∷ refused) (line ∷ lines) = with_newline (solve_line_unless flag line) ++ answers_unless refused lines
 
--- what `solve` writes for an input, some of whose lines met a refused growth, as in `answers_unless`
+-- what `solve` writes for an input, some of whose lines were refused memory, as in `answers_unless`
 abbrev pub solve_out_unless : List Bool → List ℕ → List ℕ
 solve_out_unless refused bytes = answers_unless refused (lines_of bytes)
 
 -- what `solve` does with an input: what is written is the answers to the lines that are due, ERR 19 for those
--- that met a refused growth
+-- that were refused memory
 abbrev pub SolvedRun : {S K : Type 0} → (S → ReadAnswer → S → Type 0) → (K → WriteAnswer → K → Type 0) → S → K → S → K → Result (Unit {0}) LineFault → Type 0
 SolvedRun gives takes source sink source' sink' r = (refused : List Bool) × FunctionRun gives takes (solve_out_unless refused) source sink source' sink' r
 
 -- what `solve --ordered` does with an input: what is written is the answers to the lines that are due. No search takes
--- memory, so no line meets a refused growth
+-- memory, so no line is refused memory
 abbrev pub OrderedRun : {S K : Type 0} → (S → ReadAnswer → S → Type 0) → (K → WriteAnswer → K → Type 0) → S → K → S → K → Result (Unit {0}) LineFault → Type 0
 OrderedRun gives takes source sink source' sink' r = FunctionRun gives takes solve_out source sink source' sink' r
 

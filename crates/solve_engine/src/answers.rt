@@ -1,4 +1,4 @@
-//! The texts of answers, each without LF.
+//! The texts of the answers of `solve`, each without LF.
 ghost use Rattle.std.specs.Prelude.{◌≡◌, ◌≤◌, length};
 ghost use Rattle.protocol.specs.Texts.{value_text, visited_text, error_text};
 
@@ -35,7 +35,7 @@ pub(crate) fn visited_text(value: i32, choice: Option<Choice>, visited: u64) -> 
     text
 }
 
-/// The text `ERR` and this number.
+/// The answer `ERR` and this number, for a line that has a fault or was refused memory.
 pub(crate) fn error_text(number: u8) -> SolveText
     ensures text { result.items ≡ error_text number }
     ensures short { length result.items ≤ 7 }

@@ -1,4 +1,4 @@
-//! What a search finds, and how.
+//! What the search of a line of `solve` finds, and how.
 
 use othello_eval::Valued;
 use tenant_quota::Left;

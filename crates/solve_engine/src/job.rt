@@ -1,4 +1,4 @@
-//! The one job of a core: how it is asked, and what it came to.
+//! The one job of the core of a line of `solve`: how it is asked, and what it came to.
 ghost use Rattle.std.specs.Prelude.{◌≡◌, ◌≤◌, [], ◌∷◌, ℕ, IfOk};
 ghost use Rattle.tenant_quota.specs.Quota.{Quota, IsWithinLimits};
 ghost use Rattle.othello_board.specs.Words.{cells};

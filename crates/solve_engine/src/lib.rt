@@ -4,8 +4,8 @@
 //! What is written is a function of what is read, `solve_out` of `specs/Solving.antt`: for each line its first fault,
 //! or the minimax value and the best choice of the board that the line spells. Each search is one job of a scheduling
 //! core that is made for its line and dropped after it, and only such a core takes memory: a line for
-//! which a growth was refused is answered `ERR 19`, and the next is tried. So the contract of [`solve`], over any
-//! source of bytes and any sink, is `solve_out` of what was read for some list of lines that met a refused growth
+//! which memory was refused is answered `ERR 19`, and the next is tried. So the contract of [`solve`], over any
+//! source of bytes and any sink, is `solve_out` of what was read for some list of lines that were refused memory
 //! (`SolvedRun`). Lines with a fault, [`solve_ordered`] and [`solve_visited`] ask for no memory: a line is held in an
 //! array of 128 bytes, and an answer in one of 40; the invariant is that no answer is longer.
 //!
@@ -15,7 +15,7 @@
 //! of the greatest serial; what is computed near the leaves it computes between two steps. When the job is done its
 //! reply is read; a job that is spent, or that anything unforeseen keeps from its end, is answered by one serial
 //! search. So the value is always the minimax value and the move the best choice, whatever the grain, and the only
-//! error is a growth that was refused. [`Searched`] tells how it was found ([`Way`]) and what the tenant had left.
+//! error is memory that was refused. [`Searched`] tells how it was found ([`Way`]) and what the tenant had left.
 //!
 //! The invariant (`WorksOn` of `specs/Asked.antt`) is that the core came, by steps rightly answered, of one with this
 //! grain and just what is reserved; that the tenant is there; and that its jobs are searches, asked with just the words

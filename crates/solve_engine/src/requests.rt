@@ -1,4 +1,4 @@
-//! What a line asks for.
+//! What a line of `solve` asks for.
 ghost use Rattle.std.specs.Prelude.{◌≡◌};
 ghost use Rattle.line_io.specs.Views.{text_of};
 ghost use Rattle.protocol.specs.Views.{read_as};

@@ -1,4 +1,4 @@
-//! The search of a position by a core of its own.
+//! The search of a position of `solve` by a core of its own.
 ghost use Rattle.std.specs.Prelude.{◌≡◌, ◌≤◌, IfOk};
 ghost use Rattle.othello_board.specs.Words.{cells};
 ghost use Rattle.othello_eval.specs.Minimax.{minimax, best_choice};
@@ -27,7 +27,7 @@ const MOST_TURNS: u32 = 16 * NODES + 16;
 /// Searches the position to the depth, 0 to 12 plies, as one job of a core that is made for it and dropped after it.
 /// Frames of a remaining depth of at most `grain`, 0 to 6, are searched serially; value and choice don't depend on it.
 ///
-/// It fails only where a growth was refused: the core's own or that of its tenant's admission.
+/// It fails only where memory was refused: the core's own or that of its tenant's admission.
 pub fn solve_by_core<A: Allocator + Clone>(
     alloc: A,
     position: &Position,
@@ -47,7 +47,7 @@ pub fn solve_by_core<A: Allocator + Clone>(
 
 /// Searches the position to the depth as [`solve_by_core`] does, in a core of the segments and nodes of
 /// `reserve`, all of them its tenant's. Where they don't suffice the job is spent, and the answer is that of one
-/// serial search: value and choice are the same. It fails only where a growth was refused.
+/// serial search: value and choice are the same. It fails only where memory was refused.
 pub fn search_within<A: Allocator + Clone>(
     alloc: A,
     position: &Position,

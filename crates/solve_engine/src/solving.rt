@@ -1,4 +1,4 @@
-//! Answering the lines of an input, each by the minimax value of its position.
+//! Answering the lines of an input of `solve`, each by the minimax value of its position.
 ghost use Rattle.std.specs.Prelude.{◌≡◌, ◌≤◌, ◌++◌, ℕ, Bool, List, length, Some, OnOk};
 ghost use Rattle.line_io.specs.Views.{text_of};
 ghost use Rattle.line_io.specs.Runs.{FunctionRun};
@@ -17,7 +17,7 @@ use std::alloc::{AllocError, Allocator};
 use std::io::{Read, Write};
 
 /// The answer to a line: value and move, or its first fault. Each search is one job of a core that is made for
-/// it; where a growth of that was refused, the answer is `ERR 19`.
+/// it; where memory for that was refused, the answer is `ERR 19`.
 fn solve_line<A: Allocator + Copy>(alloc: A, grain: u8, line: Line<'_>) -> SolveText
     requires { grain ≤ 6 }
     ensures text { IsSolvedLine (text_of line.entry) result.items }
@@ -75,11 +75,13 @@ impl<A: Allocator + Copy> LineAnswerer for Solver<A> {
 
     ghost kept = { λ solver. solver.text.items };
 
+    /// Answers a line by the search of a core of its own.
     fn answer(&mut self, line: Line<'_>) {
         self.text = solve_line(self.alloc, self.grain, line);
         self.text.push(LF);
     }
 
+    /// The text of the last answer, with LF.
     fn text(&self) -> &[u8] {
         self.text.as_slice()
     }
@@ -97,11 +99,13 @@ impl LineAnswerer for VisitedSolver {
 
     ghost kept = { λ solver. solver.text.items };
 
+    /// Answers a line by value, move and the number of positions that the serial search entered.
     fn answer(&mut self, line: Line<'_>) {
         self.text = visited_line(line);
         self.text.push(LF);
     }
 
+    /// The text of the last answer, with LF.
     fn text(&self) -> &[u8] {
         self.text.as_slice()
     }
@@ -118,11 +122,13 @@ impl LineAnswerer for OrderedSolver {
 
     ghost kept = { λ solver. solver.text.items };
 
+    /// Answers a line by one ordered search.
     fn answer(&mut self, line: Line<'_>) {
         self.text = ordered_line(line);
         self.text.push(LF);
     }
 
+    /// The text of the last answer, with LF.
     fn text(&self) -> &[u8] {
         self.text.as_slice()
     }
@@ -135,7 +141,7 @@ impl LineAnswerer for OrderedSolver {
 /// on the grain.
 ///
 /// At Ok the source has given its end, and what is written is `solve_out` of what was read, save that a line for
-/// which a growth was refused is answered `ERR 19`. Fault 1 comes only where the source failed, and fault 3 only
+/// which memory was refused is answered `ERR 19`. Fault 1 comes only where the source failed, and fault 3 only
 /// where 2^62 bytes were read: what is written then is the answers to the lines up to the last LF. Fault 2 comes
 /// only where the sink failed or took no byte, and what is written then is a beginning of the answers.
 pub fn solve<A: Allocator + Copy, S: Source, K: Sink>(

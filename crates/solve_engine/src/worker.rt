@@ -1,4 +1,4 @@
-//! The worker's turns, each one step of the core, or two where a leaf is computed between them.
+//! The turns of the one worker of `solve`, each one step of the core, or two where a leaf is computed between them.
 //!
 //! What a worker does next is decided by `pool_rules` ([`Holding`]); this one, a [`Searcher`], has the core to itself.
 //! Without a frame it takes the tenant's ready frame of the greatest serial: one that its own steps made ready, or the
@@ -126,9 +126,9 @@ impl<A: Allocator + Clone> Searcher<A> {
         self.offer_and_run(Holding::Next(Action::Finish(root)))
     }
 
-    /// Offers a step after which the worker either runs its frame, which is returned as its next step, or has no
-    /// frame, and then None is. Where the step is refused for want of quota, the job is spent, and None is
-    /// returned.
+    /// Offers a step after which the worker either runs its frame, which is returned as its next step, or has no frame,
+    /// for which None is returned. Where the step is refused for want of quota, the job is spent, and None is returned
+    /// too.
     #[inline(always)]
     fn offer_and_run(&mut self, held: Holding) -> Option<Ahead>
         ensures { Keeps self.old.core self.new.core }

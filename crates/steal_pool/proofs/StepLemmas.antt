@@ -1,4 +1,4 @@
--- What a worker offers is a worker's step.
+-- What a worker of the pool offers is a worker's step.
 use Rattle.std.proofs.Common.{◌≡◌, ℕ, true, false, ◌==◌, if◌then◌else◌, Some, IfSome, sym, subst, refl}
 use Rattle.sched_rules.specs.declared.step.StepOf.{StepOf}
 use Rattle.sched_rules.specs.declared.step.StepOf.TheVariants.{Take, Steal}

@@ -1,3 +1,4 @@
+-- The proofs' lemmas on the pool's task deques.
 pub mod Common
 pub mod TallyLemmas
 pub mod RuleLemmas

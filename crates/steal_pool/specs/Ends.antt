@@ -1,4 +1,4 @@
--- Meaning: what a pool ends with.
+-- Meaning: what a pool of workers ends with.
 use Rattle.std.specs.Prelude.{◌≡◌, ℕ, map, length, sum_by, All}
 use Rattle.std.specs.declared.alloc.Global.{Global}
 use Rattle.steal_pool.specs.declared.task_deques.returned.Returned.{Returned}

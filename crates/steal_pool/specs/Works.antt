@@ -17,8 +17,8 @@ use Rattle.desk.specs.Counts.{share_after}
 use Rattle.steal_pool.specs.declared.order.Order.{Order}
 use Rattle.steal_pool.specs.Orders.{is_due, since_after}
 
--- a worker's seats after a turn: the turn's task, if it made one, is the newest of its own deque or was handed back, and else nothing has
--- changed
+-- what a turn has done to a worker's seats at the deques: the turn's task, if it made one, is the newest of the
+-- worker's own deque, or was handed back, as by a full deque; nothing else has changed
 abbrev pub IsPushedOf : Option Task → WorkerSeats → WorkerSeats → Type 0
 IsPushedOf None before after = after ≡ before
 IsPushedOf (Some task) before after = (after ≡ record before { own = with_pushed task before.own }) ⊎ (after ≡ before)

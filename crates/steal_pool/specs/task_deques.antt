@@ -1,3 +1,4 @@
+-- The definitions of the pool's task deques: what their seats know, and how they are dealt.
 pub mod Tallies
 pub mod Seats
 pub mod Deals

@@ -1,4 +1,4 @@
-//! What is said once a pool has begun.
+//! What is said once a pool of workers has begun.
 ghost use Rattle.std.specs.Prelude.{◌≡◌, Bool, true};
 
 /// Tells somebody that a pool has begun. A pool calls it at most once: after all its workers were started, in the
@@ -20,6 +20,7 @@ pub struct Quiet;
 impl Announce for Quiet {
     ghost says = { λ _ is_said _. is_said ≡ true };
 
+    /// Says nothing, and the pool goes on.
     fn announce(&mut self) -> bool {
         true
     }

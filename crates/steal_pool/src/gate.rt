@@ -1,4 +1,5 @@
-//! Who looks on while workers work.
+//! The gate of a pool, which looks on while the pool's workers work: a worker calls it before each task, and at the start
+//! and the end of each computation.
 use jamboree_rules::pool_rules::Task;
 use sched_rules::Worker;
 
@@ -28,11 +29,14 @@ pub trait Gate {
 pub struct OpenGate;
 
 impl Gate for OpenGate {
+    /// Does nothing before a task.
     fn before(&self, _worker: Worker, _task: &Task) {}
 
+    /// Says that `before` returns at once, so that a worker may call it while it has the desk locked.
     fn is_brief(&self) -> bool {
         true
     }
 
+    /// Does nothing at a computation.
     fn inside(&self, _worker: Worker, _number: u64) {}
 }

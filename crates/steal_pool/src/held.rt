@@ -1,4 +1,4 @@
-//! What a worker does while it has the hall locked.
+//! What a pool's worker does while it has the hall locked.
 ghost use Rattle.std.specs.Prelude.{◌≡◌, ◌+◌, ◌≤◌, true, Some};
 ghost use Rattle.desk.specs.hall.Journals.{is_worker_step};
 ghost use Rattle.jamboree_rules.specs.pool_rules.Turns.{offered};
@@ -33,7 +33,7 @@ struct Owed {
 }
 
 impl Owed {
-    /// Nothing.
+    /// Nobody owes anything yet for what the worker does under this lock.
     fn nothing() -> Owed {
         Owed {
             tenant: 0,
@@ -41,7 +41,8 @@ impl Owed {
         }
     }
 
-    /// This tenant was served so much more; another one is charged for what it was served before.
+    /// Notes that a tenant owes so much more for a worker's work. Where another tenant owed something, that one is
+    /// charged first.
     fn add<T: UnderLock>(&mut self, held: &mut DeskGuard<'_, T>, tenant: u64, amount: u64) {
         if self.tenant != tenant {
             self.settle(held);
@@ -50,7 +51,7 @@ impl Owed {
         self.amount = self.amount.saturating_add(amount);
     }
 
-    /// The tenant is charged.
+    /// Charges the tenant for what it owes.
     fn settle<T: UnderLock>(&mut self, held: &mut DeskGuard<'_, T>) {
         if self.amount > 0 {
             held.charge(self.tenant, self.amount);
@@ -137,8 +138,9 @@ fn turned<T: UnderLock, R: Wait>(
     turn.holding
 }
 
-/// What a worker that has the hall locked holds next: where it is without a frame, and the gate is brief, a pick where one is due, else the
-/// newest task of its own deque, if there is one. So the lock isn't let go and taken again between a frame and the next.
+/// What a pool's worker holds next, while it still has the hall locked. One without a frame begins its next task at
+/// once, if the gate's call before a task is short (`is_brief`): a pick where one is due, else the newest task of its
+/// own deque. So the lock isn't let go and taken again between two frames. Any other worker holds what it held.
 fn gone_on<T: UnderLock, G: Gate>(
     held: &mut DeskGuard<'_, T>,
     worker: Worker,

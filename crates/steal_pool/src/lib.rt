@@ -29,7 +29,7 @@
 //!
 //! Why it is so:
 //!
-//! - `run_pool` returns OutOfMemory before any thread starts. `PoolSizes` lets tests make each growth fail, and
+//! - `run_pool` returns OutOfMemory before any thread starts. `PoolSizes` lets tests refuse each request for memory, and
 //!   each thread by a stack that can't be had (`spawn_scoped_with`). `worker::computed` gets no lock, tasks or
 //!   means to wait: a body that locks around the search alone fails `a_short_search_is_over_before_a_long_one`.
 //!   A pick that is due and finds nothing stays due, and the worker takes a task of the deques.

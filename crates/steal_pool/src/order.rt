@@ -1,4 +1,4 @@
-//! In which order a worker looks for its next task.
+//! In which order a pool's worker looks for its next task.
 ghost use Rattle.std.specs.Prelude.{◌≡◌};
 ghost use Rattle.steal_pool.specs.Orders.{is_due, since_after};
 
@@ -24,7 +24,7 @@ pub struct Rhythm {
 const PICK_EACH: u8 = 128;
 
 impl Rhythm {
-    /// That of a worker that begins.
+    /// The rhythm of a worker that begins: it has begun no task since a pick (a task that the workplace chooses).
     pub fn new(order: Order) -> Rhythm
         ensures order { result.order ≡ order }
         ensures since { result.since ≡ 0 }
@@ -32,7 +32,7 @@ impl Rhythm {
         Rhythm { order, since: 0 }
     }
 
-    /// Whether the next task is to be a pick.
+    /// Whether the worker's next task is to be a pick (a task that the workplace chooses), if there is one.
     pub fn is_due(self) -> bool
         ensures { result ≡ is_due self.order self.since }
     {
@@ -42,7 +42,7 @@ impl Rhythm {
         }
     }
 
-    /// After the worker has begun a task that was picked.
+    /// Notes that the worker has begun a task that was picked.
     pub fn picked(&mut self)
         ensures order { self.new.order ≡ self.old.order }
         ensures since { self.new.since ≡ 0 }
@@ -50,7 +50,7 @@ impl Rhythm {
         self.since = 0;
     }
 
-    /// After the worker has begun another task.
+    /// Notes that the worker has begun a task that wasn't picked.
     pub fn begun(&mut self)
         ensures order { self.new.order ≡ self.old.order }
         ensures since { self.new.since ≡ since_after self.old.order self.old.since }

@@ -1,4 +1,4 @@
-//! Running a pool: what it is given, and what it ends with.
+//! Running a pool of workers: what it is given, and what it ends with.
 ghost use Rattle.std.specs.Prelude.{◌≡◌, ◌+◌, true, IfErr, IfOk, None};
 ghost use Rattle.steal_pool.specs.Announced.{IsUnsaid};
 ghost use Rattle.steal_pool.specs.Ends.{AreTasksOf};
@@ -32,7 +32,7 @@ pub enum PoolFault {
 }
 
 impl PoolFault {
-    /// The number of the fault, 1 or 2.
+    /// The fault's number: 1 for want of memory, 2 for want of a thread.
     pub fn number(&self) -> u8
         ensures { result ≡ pool_fault_number self.now }
     {

@@ -1,4 +1,5 @@
-//! Worked examples of when a pick is due, computed from the definitions alone.
+//! Worked examples of when a pool's worker takes a pick, computed from the definitions alone. `is_due` has how many
+//! tasks were begun since the last pick.
 ghost use Rattle.std.specs.Prelude.{◌≡◌, true, false};
 ghost use Rattle.steal_pool.specs.Orders.{is_due, since_after};
 ghost use Rattle.steal_pool.specs.declared.order.Order.TheVariants.{Specified, WithPicks};

@@ -24,7 +24,7 @@
 //! - A deque has room for 1,024 tasks, reserved at the start. `crossbeam_deque` may still allocate at a push:
 //!   if a thief stopped between claiming a slot and emptying it and the owner comes round to that slot, it adds
 //!   a ring. A worker has an unused thief's end of its own deque, so that the ends are a square. Ends are
-//!   generic in their allocator (`DequeIn` and its like), so that a test can make each growth fail.
+//!   generic in their allocator (`DequeIn` and its like), so that a test can refuse each request for memory.
 //!
 //! ```text
 //! // three workers, and room for 8 tasks in each deque

@@ -1,4 +1,4 @@
-//! The tasks of a worker, and what all workers of a pool share.
+//! The tasks of a pool's worker, and what all workers share.
 ghost use Rattle.std.specs.Prelude.{◌≡◌, IfNone, IfSome, Some};
 ghost use Rattle.steal_pool.specs.task_deques.Deals.{posts, worker_seats, IsTaken};
 ghost use Rattle.steal_pool.specs.Orders.{since_after};

@@ -1,4 +1,4 @@
-//! Workers in threads: the ends of the deques are dealt to them, and come back.
+//! The workers of a pool in threads: the ends of the deques are dealt to them, and come back.
 //!
 //! What comes from another thread is known by its type alone. So each thread is started with a promise,
 //! [`SameEnds`]: the ends that it brings back are at the same deques as those that it was given. Once all

@@ -1,4 +1,4 @@
-//! One worker.
+//! One worker of a pool.
 //!
 //! A worker without a frame looks for a task: a pick where one is due, else the newest of its own deque, else the oldest of another's,
 //! which it tries in the order of their numbers after its own, else any frame that is ready in the

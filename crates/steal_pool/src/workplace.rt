@@ -1,4 +1,4 @@
-//! Where workers work: a hall under a lock.
+//! Where a pool's workers work: a hall under a lock.
 use crate::gate::Gate;
 use crate::held::{Round, steps};
 use crate::tasks::Tasks;
@@ -47,14 +47,17 @@ pub trait Workplace {
 impl<L: DeskLedger> Workplace for Desk<L> {
     type Badge = Badge<L>;
 
+    /// A new worker's badge of the desk; None where none is left.
     fn badge<R: Wait>(&self, rt: &R) -> Option<Badge<L>> {
         self.badge(rt)
     }
 
+    /// Closes the desk for good: who waits there goes on, and nobody waits from then on.
     fn close<R: Wait>(&self, rt: &R) {
         self.close(rt);
     }
 
+    /// Locks the desk, takes the worker's steps there, lets go of the lock, and returns what the worker holds then.
     fn work<G: Gate, R: Wait>(
         &self,
         rt: &R,
@@ -66,10 +69,12 @@ impl<L: DeskLedger> Workplace for Desk<L> {
         steps(rt, self.hold(rt, badge), badge, tasks, gate, round)
     }
 
+    /// None: nobody shares the hall of this desk, so it has no picks.
     fn pick<R: Wait>(&self, _rt: &R) -> Option<Task> {
         None
     }
 
+    /// Waits until some tenant has a ready frame, and returns it as a task; None only where the desk is closed.
     fn next_task<R: Wait>(&self, rt: &R) -> Option<Task> {
         let (frame, home) = self.next_ready(rt)?;
         Some(Task { frame, home })

@@ -1,1 +1,2 @@
+-- The definitions of where a TCP server takes connections.
 pub mod Accepts

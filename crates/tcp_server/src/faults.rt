@@ -1,4 +1,4 @@
-//! Why a server failed.
+//! Why a TCP server failed.
 use std::io;
 use steal_pool::{BeginFault, PoolFault};
 use thiserror::Error;
@@ -21,6 +21,7 @@ pub enum ServeFault {
 }
 
 impl From<PoolFault> for ServeFault {
+    /// A pool that couldn't begin, for want of memory or threads, ends the server.
     fn from(fault: PoolFault) -> ServeFault {
         match fault {
             PoolFault::OutOfMemory => ServeFault::OutOfMemory,
@@ -30,6 +31,7 @@ impl From<PoolFault> for ServeFault {
 }
 
 impl From<BeginFault> for ServeFault {
+    /// A pool's fault, or an announcement that couldn't be written, ends the server.
     fn from(fault: BeginFault) -> ServeFault {
         match fault {
             BeginFault::Pool(fault) => ServeFault::from(fault),

@@ -1,4 +1,4 @@
-//! The threads of a server: the pool in one, and one for each connection.
+//! The threads of a TCP server: the pool in one, and one for each connection.
 ghost use Rattle.std.specs.Prelude.{◌≡◌, true, IfOk, None, Ok};
 ghost use Rattle.std.specs.Net.Tcp.{stream_raw_fd};
 ghost use Rattle.desk_office.specs.Answers.{SeenSession};

@@ -1,4 +1,4 @@
-//! Where connections are taken, one after another.
+//! Where a TCP server takes connections, one after another.
 //!
 //! A process has so many file descriptors and no more. A door keeps a spare one, a second name of its listener: where
 //! no descriptor is left, the spare is given up and the next connection is taken with it. If a descriptor has become

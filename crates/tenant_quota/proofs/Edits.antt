@@ -1,4 +1,4 @@
--- What an entered account leaves, and what the account of a tenant has.
+-- The book of tenants' reservations: what an entered account leaves, and what the account of a tenant has.
 use Rattle.tenant_quota.proofs.Common.{◌≡◌, ℕ, ◌+◌, ◌-◌, ◌≤◌, List, Some, sum_by, Account, owner_of_account, account_of, AllEntries}
 use Rattle.numbered_list.proofs.Edits as edits
 use Rattle.tenant_quota.proofs.Places.{entry-of}

@@ -1,4 +1,4 @@
--- Where a tenant's account stands in a list that rises.
+-- Where a tenant's account stands in the book of reservations, a list that rises.
 use Rattle.tenant_quota.proofs.Common.{◌≡◌, ℕ, true, false, cond, eqb, List, [], ◌∷◌, Option, Some, None, refl, ap, sym, ◌∙◌, option_map, find_by_number}
 use Rattle.tenant_quota.proofs.Common.{thing-own, Account, owner_of_account, account_of}
 

@@ -1,4 +1,4 @@
--- What entering, changing and releasing one tenant's account does to a sound book.
+-- What entering, changing and releasing one tenant's account does to a sound book of reservations.
 use Rattle.std.proofs.Common.{◌≡◌, ◌≢◌, ℕ, ◌-◌, false, List, Some, None, refl, ap, sym, subst, arith, ◌+◌, ◌*◌, true, ◌<◌, ◌≤◌, ◌⊎◌, inl, inr, Option, IsSome}
 use Rattle.std.proofs.Common.{IsSomeAnd, IfSome}
 use Rattle.tenant_quota.proofs.Common.{Account, option_map, sum_by, Quota, IsWithinLimits, IsAbove, has_by_number, find_by_number, change_by_number}

@@ -6,32 +6,32 @@ use Rattle.tenant_quota.specs.Quota.{Quota}
 use Rattle.tenant_quota.specs.declared.account.Account.{Account}
 use Rattle.tenant_quota.specs.declared.account.Left.{Left}
 
--- the account of a tenant that has reserved this much and used nothing of it
+-- the account of a tenant that has reserved this and used nothing of it
 abbrev pub fresh : Quota → Account
 fresh quota = record { reserve = quota; charged = 0; opened = 0; ticks = 0 }
 
--- the account after it was charged `segments` segments more, and opened `nodes` nodes more
+-- a tenant's account after it was charged `segments` segments more, and opened `nodes` nodes more
 abbrev pub charged_by : ℕ → ℕ → Account → Account
 charged_by segments nodes a = record a { charged = a.charged + segments; opened = a.opened + nodes }
 
--- the account after `segments` of the charged segments were given back; the nodes stay opened
+-- a tenant's account after `segments` of the charged segments were given back; the nodes stay opened
 abbrev pub credited_by : ℕ → Account → Account
 credited_by segments a = record a { charged = a.charged - segments }
 
--- the account after one step
+-- a tenant's account after one more step
 abbrev pub ticked : Account → Account
 ticked a = record a { ticks = a.ticks + 1 }
 
--- the account with another reservation; what is used stays
+-- a tenant's account once it reserves this; what is used stays
 abbrev pub raised_to : Quota → Account → Account
 raised_to quota a = record a { reserve = quota }
 
--- what is left: the segments reserved less those charged, the nodes reserved less those ever opened,
--- and 16 times the nodes reserved less the steps taken
+-- what a tenant's account has left: the segments reserved less those charged, the nodes reserved less those ever
+-- opened, and 16 times the nodes reserved less the steps taken
 abbrev pub left_in : Account → Left
 left_in a = record { segments = a.reserve.segments - a.charged; nodes = a.reserve.nodes - a.opened; steps = 16 * a.reserve.nodes - a.ticks }
 
--- nothing is used beyond what is reserved
+-- of a tenant's account: what is reserved is within the limits, and nothing is used beyond it
 pub record IsWithinReserve (a : Account) : Type 0 where
   pub some_segments : 1 ≤ a.reserve.segments
   pub segments_within : a.reserve.segments ≤ 4096
@@ -57,11 +57,11 @@ with_new tenant a es = inserted owner_of_account (tenant, a) es
 abbrev pub with_changed : ℕ → (Account → Account) → List (ℕ × Account) → List (ℕ × Account)
 with_changed tenant f es = change_by_number owner_of_account tenant (λ e. (e.0, f e.1)) es
 
--- the accounts without that of the tenant
+-- the accounts of the book without the one of this tenant
 abbrev pub without : ℕ → List (ℕ × Account) → List (ℕ × Account)
 without tenant es = remove_by_number owner_of_account tenant es
 
--- P holds of each entry
+-- the property P holds of each tenant's account
 abbrev pub AllEntries : (ℕ × Account → Type 0) → List (ℕ × Account) → Type 0
 AllEntries P es = AllByRecursion P es
 

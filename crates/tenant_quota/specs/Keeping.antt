@@ -1,4 +1,4 @@
--- Representation: what a book's fields stand for, and what they keep.
+-- Representation: what the fields of the book of reservations stand for, and what they keep.
 use Rattle.std.specs.Prelude.{◌≡◌}
 use Rattle.tenant_quota.specs.Accounts.{reserved_segments, reserved_nodes}
 use Rattle.tenant_quota.specs.Reservations.{Reservations, IsSoundBook}

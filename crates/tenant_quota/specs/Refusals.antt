@@ -1,4 +1,4 @@
--- Meaning: the numbers of the book's refusals; a client is told those of `sched_rules`.
+-- Meaning: the numbers of the refusals of the book of reservations; a client is told those of `sched_rules`.
 use Rattle.std.specs.Prelude.{ℕ}
 use Rattle.tenant_quota.specs.declared.refusal.QuotaRefusal.{QuotaRefusal}
 use Rattle.tenant_quota.specs.declared.refusal.QuotaRefusal.TheVariants.{Full, Short, Lower}

@@ -1,4 +1,4 @@
--- Meaning: what a book holds: the totals, and the account of each tenant that is there.
+-- Meaning: what the book of reservations holds: the totals, and the account of each tenant that is there.
 use Rattle.std.specs.Prelude.{◌≡◌, ◌≢◌, ℕ, ◌+◌, ◌-◌, ◌<◌, ◌≤◌, ◌⊎◌, List, [], length, Option, Some, None, IsSomeAnd, option_map}
 use Rattle.tenant_quota.specs.Quota.{Quota, IsAbove, IsNotAbove}
 use Rattle.tenant_quota.specs.declared.account.Account.{Account}
@@ -12,7 +12,7 @@ pub record Reservations : Type 0 where
   pub nodes : ℕ
   pub accounts : List (ℕ × Account)
 
--- a book of these totals with no tenant
+-- a book of reservations with these totals and no tenant
 abbrev pub empty_of : ℕ → ℕ → Reservations
 empty_of segments nodes = record { segments = segments; nodes = nodes; accounts = [] }
 
@@ -24,7 +24,7 @@ admitted b tenant quota = record b { accounts = with_new tenant (fresh quota) b.
 abbrev pub changed : Reservations → ℕ → (Account → Account) → Reservations
 changed b tenant f = record b { accounts = with_changed tenant f b.accounts }
 
--- the book without that tenant
+-- the book of reservations once this tenant has left
 abbrev pub released : Reservations → ℕ → Reservations
 released b tenant = record b { accounts = without tenant b.accounts }
 
@@ -54,25 +54,27 @@ pub record HasRoom (b : Reservations) (quota : Quota) : Type 0 where
 abbrev pub IsFull : Reservations → Quota → Type 0
 IsFull b quota = (64 ≤ length b.accounts) ⊎ ((b.segments < reserved_segments b.accounts + quota.segments) ⊎ (b.nodes < reserved_nodes b.accounts + quota.nodes))
 
--- the tenant is there, and the quota isn't above what it has reserved
+-- the tenant is in the book, and asks for what isn't above its reservation: less of one amount, or the same of both
 abbrev pub IsLower : Reservations → ℕ → Quota → Type 0
 IsLower b tenant quota = IsSomeAnd (reserve_of tenant b) (λ now. IsNotAbove now quota)
 
--- both totals allow the quota in the place of `now`, which a tenant of the book has reserved
+-- both totals of the book allow this amount in the place of `now`, which one of its tenants has reserved
 pub record HasRoomFor (b : Reservations) (now quota : Quota) : Type 0 where
   pub segments : reserved_segments b.accounts + quota.segments ≤ b.segments + now.segments
   pub nodes : reserved_nodes b.accounts + quota.nodes ≤ b.nodes + now.nodes
 
--- a total doesn't allow the quota in the place of `now`, which a tenant of the book has reserved
+-- a total of the book doesn't allow this amount in the place of `now`, which one of its tenants has reserved
 abbrev pub IsBeyond : Reservations → Quota → Quota → Type 0
 IsBeyond b now quota =
     (b.segments + now.segments < reserved_segments b.accounts + quota.segments) ⊎ (b.nodes + now.nodes < reserved_nodes b.accounts + quota.nodes)
 
--- the tenant is there, the quota is above what it has reserved, and both totals allow it in the place of that
+-- the tenant is in the book and asks for more than it has reserved (of one amount or both, of none less), and both totals
+-- allow the new reservation in the place of the old one
 abbrev pub CanRaise : Reservations → ℕ → Quota → Type 0
 CanRaise b tenant quota = IsSomeAnd (reserve_of tenant b) (λ now. IsAbove now quota × HasRoomFor b now quota)
 
--- the tenant is there, the quota is above what it has reserved, and a total doesn't allow it in the place of that
+-- the tenant is in the book and asks for more than it has reserved (of one amount or both, of none less), and a total
+-- doesn't allow the new reservation in the place of the old one
 abbrev pub IsTooMuch : Reservations → ℕ → Quota → Type 0
 IsTooMuch b tenant quota = IsSomeAnd (reserve_of tenant b) (λ now. IsAbove now quota × IsBeyond b now quota)
 

@@ -1,4 +1,4 @@
--- Representation: the states of a worked example: a book of 8 segments and 32 nodes.
+-- Representation: the states of a worked example: a book of reservations of 8 segments and 32 nodes.
 use Rattle.std.specs.Prelude.{ℕ}
 use Rattle.tenant_quota.specs.Quota.{Quota}
 use Rattle.tenant_quota.specs.declared.account.Left.{Left}
@@ -10,11 +10,11 @@ use Rattle.tenant_quota.specs.Reservations.{Reservations, empty_of, admitted, ch
 abbrev pub quota : ℕ → ℕ → Quota
 quota segments nodes = record { segments = segments; nodes = nodes }
 
--- what a tenant has left, in these amounts
+-- what a tenant has left, in these amounts: segments, nodes, steps
 abbrev pub left : ℕ → ℕ → ℕ → Left
 left segments nodes steps = record { segments = segments; nodes = nodes; steps = steps }
 
--- what isn't reserved, in these amounts
+-- what isn't reserved of a book, in these amounts: places for tenants, segments, nodes
 abbrev pub rest : ℕ → ℕ → ℕ → Rest
 rest tenants segments nodes = record { tenants = tenants; segments = segments; nodes = nodes }
 
@@ -26,15 +26,15 @@ two_tenants = admitted (admitted (empty_of 8 32) 2 (quota 3 8)) 1 (quota 5 8)
 abbrev pub after_charge : Reservations
 after_charge = changed two_tenants 1 (charged_by 5 1)
 
--- tenant 1 then takes a step
+-- the example's book once tenant 1 has taken a step
 abbrev pub after_tick : Reservations
 after_tick = changed after_charge 1 ticked
 
--- tenant 1 then gives the 5 segments back
+-- the example's book once tenant 1 has given its 5 segments back
 abbrev pub after_credit : Reservations
 after_credit = changed after_tick 1 (credited_by 5)
 
--- tenant 2 is then released
+-- the example's book once tenant 2 has left
 abbrev pub after_release : Reservations
 after_release = released after_credit 2
 

@@ -1,3 +1,4 @@
+//! A tenant's account in the book of reservations: what it reserved, and what it has used.
 use crate::reserve::Reserve;
 
 /// What a tenant has left of its reservation.

@@ -1,3 +1,4 @@
+//! The book of reservations: which of a core's segments and nodes each tenant reserved and has used.
 ghost use Rattle.std.specs.Prelude.{◌≡◌, ℕ, ◌+◌, ◌<◌, ◌≤◌, ◌↔◌, IfOk, OnOk, OnErr, IsOk, IsSome, IfSome, option_copied, option_map, length, nat_lt};
 ghost use Rattle.tenant_quota.specs.Accounts.{account_of};
 
@@ -234,7 +235,7 @@ impl<A: Allocator> Book<A> {
         Some(account.reserve)
     }
 
-    /// What isn't reserved yet.
+    /// What is left of the book's places, segments and nodes for further reservations.
     pub fn rest(&self) -> Rest
         ensures rest { result ≡ unreserved_of self.now }
         ensures sound { IsSoundBook self.now }

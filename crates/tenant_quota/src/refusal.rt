@@ -1,3 +1,4 @@
+//! Why the book of reservations refuses a call.
 use thiserror::Error;
 
 /// Why the book refuses a call. A refused call changes nothing.

@@ -1,3 +1,4 @@
+//! A tenant's reservation: so many segments and nodes.
 ghost use Rattle.std.specs.Prelude.{◌≡◌, ◌≤◌, ◌↔◌, IsTrue, IsSome, IfSome};
 
 use std::marker::Model;

@@ -1,4 +1,6 @@
-//! The definitions of the book, tried on one small book: each contract is computed from the definitions alone.
+//! The definitions of the book of reservations, tried on one small book: each contract is computed from the definitions
+//! alone. A `quota` is of segments and nodes, a `left` of segments, nodes and steps, a `rest` of tenants, segments and
+//! nodes.
 ghost use Rattle.std.specs.Prelude.{◌≡◌, ◌+◌, ◌≤◌, Some, None, [], ◌∷◌, true, false};
 ghost use Rattle.tenant_quota.specs.Accounts.{account_of, fresh, charged_by, charged_segments, reserved_segments, reserved_nodes};
 ghost use Rattle.tenant_quota.specs.Reservations.{empty_of, admitted, left_in_book, opened_of, reserve_of, unreserved_of, HasRoom, IsFull, CanRaise, IsTooMuch, IsLower, HasLeft, IsShort, IsOutOfSteps};

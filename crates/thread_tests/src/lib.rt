@@ -5,7 +5,7 @@
 //! a closed desk lets everyone go, that an ask succeeds where there is room, or that searches run at the same time.
 //!
 //! Here threads wait, are woken and are let go, in one thread and in four; pools of 1 to 32 workers run beside those who
-//! ask; and each growth of a deal and of a pool is refused in turn. The tests stand in a crate of their own, so that the crates
+//! ask; and each request for memory of a deal and of a pool is refused in turn. The tests stand in a crate of their own, so that the crates
 //! below are not proved once more with them; those of servers stand in `server_tests`, so that both are proved at once.
 //!
 //! ```text

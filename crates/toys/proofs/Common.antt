@@ -1,4 +1,4 @@
--- The names that the proofs take of the library, of the crates below and of this crate's definitions, from one place.
+-- The names that the proofs of the tests' toy procedures use, imported in one place.
 pub use Rattle.std.proofs.Common.{Bor, Err, IfSome, List, None, Ok, Option, Some, [], ap, false, refl, subst, sym, true, w64, ℕ, ◌++◌, ◌+◌, ◌<◌, ◌^◌, ◌∙◌, ◌∷◌}
 pub use Rattle.std.proofs.Common.{◌≡◌}
 pub use Rattle.std.proofs.alloc.Calls.{Al, Answer, Answer-Ok, Answer-err, Answer-typed, Answered, Gives, Gives-Gives, Gives-goes, Takes, Takes-gives}

@@ -1,4 +1,4 @@
--- Representation: worked examples of Chain, as lists of steps.
+-- Representation: worked examples of the toy procedure Chain, as lists of a core's steps.
 use Rattle.std.specs.Prelude.{ℕ, List, [], ◌∷◌}
 use Rattle.sched_rules.specs.declared.job.Job.TheVariants.{Spent as SpentJob}
 use Rattle.sched_rules.specs.declared.step.StepOf.{StepOf}

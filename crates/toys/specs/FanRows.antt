@@ -1,4 +1,4 @@
--- Representation: worked examples of Fan, as lists of steps.
+-- Representation: worked examples of the toy procedure Fan, as lists of a core's steps.
 use Rattle.std.specs.Prelude.{ℕ, List, [], ◌∷◌, ◌++◌, Result, Ok, Err}
 use Rattle.tenant_quota.specs.Quota.{Quota}
 use Rattle.tenant_quota.specs.declared.account.Left.{Left}
@@ -17,27 +17,28 @@ use Rattle.toys.specs.Toys.{fan}
 use Rattle.sched_rules.specs.Trees.{Tenant, Tree}
 use Rattle.sched_rules.specs.Cores.{CoreState, shared_by_nobody, shared_run}
 
--- the frame of this serial of tenant 1
+-- the name of tenant 1's frame with this serial
 abbrev pub one : ℕ → FrameId
 one serial = record { tenant = 1; serial = serial }
 
--- the frame of this serial of tenant 2
+-- the name of tenant 2's frame with this serial
 abbrev pub two : ℕ → FrameId
 two serial = record { tenant = 2; serial = serial }
 
--- so many segments and nodes reserved
+-- a reservation of so many segments and nodes
 abbrev pub toy_quota : ℕ → ℕ → Quota
 toy_quota segments nodes = record { segments = segments; nodes = nodes }
 
--- so many segments, nodes and steps left
+-- what a tenant has left: so many segments, nodes and steps
 abbrev pub some_left : ℕ → ℕ → ℕ → Left
 some_left segments nodes steps = record { segments = segments; nodes = nodes; steps = steps }
 
--- a frame with its path, its state and its words
+-- a frame of a worked example, with this serial, path, state and words
 abbrev pub frame : ℕ → List ℕ → State → List ℕ → Frame (List ℕ)
 frame serial path state words = record { serial = serial; path = path; state = state; value = words }
 
--- a tenant with one job, which lives: its reservation, its last serial, its steps and its frames
+-- a tenant with one job, which lives under frame 1: what it reserves, the last serial that it was given, its steps and
+-- its frames
 abbrev pub one_job : Quota → ℕ → ℕ → Tree → Tenant
 one_job reserve serials steps frames = record { reserve = reserve; serials = serials; steps = steps; jobs = Live 1 ∷ []; frames = frames }
 
@@ -113,6 +114,6 @@ used_up_with segments nodes = shared_run fan used_up (AdmitMore 1 (toy_quota seg
 abbrev pub some_steps : List (StepOf FanAnswer)
 some_steps = Admit 1 (toy_quota 1 1) ∷ Admit 2 (toy_quota 1 1) ∷ Take 1 (one 9) ∷ Leave 2 ∷ []
 
--- the answers to some_steps on a new core
+-- the answers of a new core to the list `some_steps`
 abbrev pub some_answers : List (Result (DidOf ℕ) Refusal)
 some_answers = Ok Admitted ∷ Ok Admitted ∷ Err NoFrame ∷ Ok IsGone ∷ []

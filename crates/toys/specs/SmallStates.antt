@@ -1,4 +1,5 @@
--- Representation: small states and procedures for the refusals, one by one and in their order.
+-- Representation: small states of a core and procedures, on which the refusals are tried, one by one and in their
+-- order.
 use Rattle.std.specs.Prelude.{ℕ, ◌==◌, Bool, false, List, [], ◌∷◌, Option, Some, Result, replicate}
 use Rattle.frame_table.specs.declared.names.State.{State}
 use Rattle.frame_table.specs.declared.names.State.TheVariants.{Ready, Running, Waiting, Returned}
@@ -47,11 +48,11 @@ storing_outside = always (act [] Go) (inlet ((4, 1) ∷ []) false false) ((4, 1)
 abbrev pub tenant_with : ℕ → Tree → Tenant
 tenant_with steps frames = one_job (toy_quota 4 4) 3 steps frames
 
--- a tenant that has taken no step of 64
+-- a tenant with these frames that has taken none of its 64 steps
 abbrev pub fresh_tenant : Tree → Tenant
 fresh_tenant frames = tenant_with 0 frames
 
--- a tenant that has taken all its 64 steps
+-- a tenant with these frames that has taken all its 64 steps
 abbrev pub tired : Tree → Tenant
 tired frames = tenant_with 64 frames
 
@@ -59,7 +60,7 @@ tired frames = tenant_with 64 frames
 abbrev pub nodeless : Tree → Tenant
 nodeless frames = one_job (toy_quota 4 4) 4 0 frames
 
--- a tenant that reserved so many segments, and 4 nodes
+-- a tenant that reserved so many segments and 4 nodes, with one job and the frames that are given
 abbrev pub wide : ℕ → Tree → Tenant
 wide segments frames = one_job (toy_quota segments 4) 3 0 frames
 
@@ -83,7 +84,7 @@ refusal functions tenant step = lone_refusal functions (Some tenant) step
 abbrev pub core_of : List (ℕ × Tenant) → CoreState
 core_of tenants = record { totals = toy_quota 8 32; newest = 7; tenants = tenants }
 
--- why a step among these tenants is refused; none where it is taken
+-- why a step on a core with these tenants is refused; none where it is taken
 abbrev pub among : List (ℕ × Tenant) → StepOf ℕ → Option Refusal
 among tenants step = shared_refusal idle (core_of tenants) step
 
@@ -91,7 +92,7 @@ among tenants step = shared_refusal idle (core_of tenants) step
 abbrev pub beside : Tree → List (ℕ × Tenant)
 beside frames = (1, fresh_tenant frames) ∷ (2, fresh_tenant (root_frame (Running 5) ∷ [])) ∷ []
 
--- so many tenants, all under number 7, each with 1 segment and 1 node
+-- a list of so many tenants, all under number 7, each with 1 segment and 1 node
 abbrev pub crowd : ℕ → List (ℕ × Tenant)
 crowd count = replicate count (7, admitted_with (toy_quota 1 1))
 
@@ -107,7 +108,7 @@ taking_in stores abort wake = always (act [] Go) (inlet stores abort wake) []
 abbrev pub outcome : Functions ℕ ℕ → Tenant → StepOf ℕ → Result (Outcome ℕ) Refusal
 outcome functions tenant step = lone functions (Some tenant) step
 
--- a frame without words
+-- a frame without words, of this serial, path and state
 abbrev pub bare : ℕ → List ℕ → State → Frame (List ℕ)
 bare serial path state = frame serial path state []
 
@@ -129,7 +130,7 @@ family state =
 abbrev pub housed : ℕ → List Job → Tree → Tenant
 housed steps jobs frames = record { reserve = toy_quota 16 16; serials = 9; steps = steps; jobs = jobs; frames = frames }
 
--- two jobs that live, under roots 1 and 3
+-- a tenant's two live jobs, under roots 1 and 3
 abbrev pub two_jobs : List Job
 two_jobs = Live 1 ∷ Live 3 ∷ []
 

@@ -1,4 +1,4 @@
--- Representation: the laws of a procedure whose frames always fit.
+-- Representation: the laws of a toy procedure whose frames always fit.
 use Rattle.std.specs.Prelude.{◌≡◌, ℕ, true, ◌==◌, List, [], ◌∷◌}
 use Rattle.std.proofs.lemmas.Bool.{eqb-true}
 use Rattle.sched_rules.specs.declared.act.Continuation.{Continuation}
@@ -6,11 +6,11 @@ use Rattle.sched_rules.specs.declared.act.Continuation.TheVariants.{Grow, Spawn,
 use Rattle.sched_rules.specs.Functions.{Functions}
 use Rattle.sched_rules.specs.Laws.{Fitting, Rooting, ParentFits, NewChildFits, NextKeeps, InletKeeps, AcceptKeeps}
 
--- every frame fits
+-- an invariant by which every frame is right
 abbrev pub AlwaysFits : Fitting
 AlwaysFits own children mark = Unit {0}
 
--- every root belongs to what was submitted
+-- an invariant by which every root belongs to what was submitted
 abbrev pub AlwaysRooted : Rooting
 AlwaysRooted origin own = Unit {0}
 

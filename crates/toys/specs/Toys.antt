@@ -1,4 +1,4 @@
--- Representation: toy procedures, whose every step can be followed by hand.
+-- Representation: toy procedures for tests of a core, whose every step can be followed by hand.
 use Rattle.std.specs.Prelude.{ℕ, ◌+◌, ◌-◌, ◌%◌, ◌^◌, true, false, ◌&&◌, ◌==◌, List, [], ◌∷◌, if◌then◌else◌, slice_get, unwrap_or}
 use Rattle.sched_rules.specs.declared.act.Act.{Act}
 use Rattle.sched_rules.specs.declared.act.InletAct.{InletAct}
@@ -11,7 +11,7 @@ use Rattle.sched_rules.specs.Functions.{Functions}
 abbrev pub nearest : List (List ℕ) → List ℕ
 nearest sight = unwrap_or (slice_get sight 0) []
 
--- the word at a place, and 0 where there is none
+-- the word at a place of a frame, and 0 where the frame has no such place
 abbrev pub word_at : List ℕ → ℕ → ℕ
 word_at words place = unwrap_or (slice_get words place) 0
 
@@ -39,7 +39,8 @@ pub record Line : Type 0 where
 abbrev pub toy_spawns : ℕ → Continuation
 toy_spawns kind = Spawn (kind ∷ 0 ∷ []) 4
 
--- Fan's table; at any other kind and count it returns without a store
+-- the table of the toy procedure Fan: what a frame does next, by its kind and its count; at any other kind and count
+-- it returns without a store
 abbrev pub fan_table : List Line
 fan_table =
     record { kind = 0; count = 0; next_count = 1; after = toy_spawns 1 }
@@ -72,7 +73,7 @@ fan_inlet own child =
 abbrev pub fan_stored : FanAnswer → List (ℕ × ℕ)
 fan_stored answer = (1, 2) ∷ (2, answer.value) ∷ []
 
--- the procedure Fan
+-- the toy procedure Fan, as the five functions of a procedure
 abbrev pub fan : Functions ℕ FanAnswer
 fan = toy (fan_act fan_table) fan_inlet (λ answer. answer.asked) fan_stored
 
@@ -88,6 +89,7 @@ chain_act count stage =
 abbrev pub chain_inlet : List ℕ → List ℕ → InletAct
 chain_inlet own child = record { stores = (2, word_at child 0) ∷ []; abort = false; wake = false }
 
--- the procedure Chain; an answer is itself the input that it was computed from, and nothing is stored of it
+-- the toy procedure Chain, as the five functions of a procedure; an answer is itself the input that it was computed
+-- from, and nothing is stored of it
 abbrev pub chain_procedure : Functions ℕ ℕ
 chain_procedure = toy chain_act chain_inlet (λ answer. answer) (λ answer. [])

@@ -1,9 +1,9 @@
-//! Acts of the toy procedures.
+//! What the frames of the toy procedures do next, for tests of a core.
 ghost use Rattle.std.specs.Prelude.{◌≡◌, [], ◌∷◌, false};
 
 use sched_rules::{Act, Continuation, InletAct, Stores};
 
-/// An act without a store.
+/// A frame's act that stores nothing, and then does what `after` says.
 pub(crate) fn plain(after: Continuation) -> Act
     ensures { result ≡ record { stores = []; after = after } }
 {

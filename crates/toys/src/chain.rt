@@ -1,4 +1,4 @@
-//! The toy procedure Chain: each frame opens one child with a count of one less, and waits for it.
+//! For tests of a core, the toy procedure Chain: each frame opens one child with a count of one less, and waits for it.
 use crate::acts::{counted, plain};
 use crate::toy::{Play, Toy};
 use crate::view::word;

@@ -1,4 +1,6 @@
-//! What taken steps do, in small states.
+//! The definition of a core's step: what taken steps do, in small states; each contract is computed. A step stands with
+//! its worker or tenant first, then its frame; a `frame` with its serial, path, state and words; `tenant_with` has how
+//! many of 64 steps were taken.
 ghost use Rattle.std.specs.Prelude.{◌≡◌, ◌+◌, [], ◌∷◌, ◌++◌, Some, None, Ok, Err, true, false, replicate};
 ghost use Rattle.frame_table.specs.declared.names.State.TheVariants.{Ready, Running, Computing, Waiting, Returned};
 ghost use Rattle.sched_rules.specs.declared.act.Continuation.TheVariants.{Grow, Spawn, Go, Wait, Compute, Return};
@@ -9,20 +11,23 @@ ghost use Rattle.sched_rules.specs.Trees.{left, sight};
 ghost use Rattle.toys.specs.FanRows.{one, toy_quota, some_left, frame, one_job};
 ghost use Rattle.toys.specs.SmallStates.{idle, acting, always, act, inlet, taking_in, fresh_tenant, tenant_with, root_frame, child_frame, outcome, bare, family, housed, two_jobs, resting};
 
-/// A frame sees its own words, its parent's and so on to the root's, and no sibling's.
+/// A frame sees its own words, its parent's and so on to the root's, and no sibling's. Frame 1 is a root, frames 2 and 3
+/// are its children, and frame 5 is a child of 3. The root sees its own word (11); frame 5 sees its own word, its
+/// parent's and the root's (15, 13, 11), and not that of frame 2.
 pub fn what_a_frame_sees()
     ensures root { sight (frame 1 (1 ∷ []) Waiting (11 ∷ []) ∷ frame 2 (1 ∷ 2 ∷ []) Waiting (12 ∷ []) ∷ []) (1 ∷ []) ≡ (11 ∷ []) ∷ [] }
     ensures grandchild { sight (frame 1 (1 ∷ []) Waiting (11 ∷ []) ∷ frame 2 (1 ∷ 2 ∷ []) Waiting (12 ∷ []) ∷ frame 3 (1 ∷ 3 ∷ []) Waiting (13 ∷ []) ∷ frame 5 (1 ∷ 3 ∷ 5 ∷ []) (Running 1) (15 ∷ []) ∷ []) (1 ∷ 3 ∷ 5 ∷ [])
         ≡ (15 ∷ []) ∷ (13 ∷ []) ∷ (11 ∷ []) ∷ [] }
 {}
 
-/// A new root holds the words given first, then zeros; it is ready in the hall.
+/// A new root of 5 words holds the two words given first, then zeros; it is ready in the hall, as frame 10 and job 2.
 pub fn submitting()
     ensures job { outcome idle (housed 5 (SpentJob ∷ []) []) (Submit 1 (3 ∷ 4 ∷ []) 5) ≡
         Ok (Some (record { reserve = toy_quota 16 16; serials = 10; steps = 5; jobs = SpentJob ∷ Live 10 ∷ []; frames = frame 10 (10 ∷ []) (Ready 0) (3 ∷ 4 ∷ 0 ∷ 0 ∷ 0 ∷ []) ∷ [] }), Submitted 2 (one 10)) }
 {}
 
-/// What an act does after its stores, which are done in order.
+/// What an Advance does after its act's stores, which are done in order: go on, grow, open a child, wait, compute or
+/// return.
 pub fn acting_in_turn()
     ensures stores { outcome (acting ((1, 5) ∷ (2, 7) ∷ (1, 6) ∷ []) Go) (fresh_tenant (root_frame (Running 1) ∷ [])) (Advance 1 (one 1))
         ≡ Ok (Some (tenant_with 1 (frame 1 (1 ∷ []) (Running 1) (0 ∷ 6 ∷ 7 ∷ 0 ∷ []) ∷ [])), Went) }
@@ -42,7 +47,7 @@ pub fn acting_in_turn()
     ensures return_with_child { outcome (acting [] Return) (fresh_tenant (root_frame (Running 1) ∷ child_frame 2 Returned ∷ [])) (Advance 1 (one 1)) ≡ Ok (Some (tenant_with 1 (root_frame Waiting ∷ child_frame 2 Returned ∷ [])), Waited) }
 {}
 
-/// An accepted answer's stores are done, and its worker runs the frame again.
+/// An Answer by worker 2 stores 3 in word 1, and the worker runs the frame again.
 pub fn accepting()
     ensures stores { outcome (always (act [] Go) (inlet [] false false) ((1, 3) ∷ [])) (fresh_tenant (root_frame (Computing 2) ∷ [])) (Answer 2 (one 1) 0)
         ≡ Ok (Some (tenant_with 1 (frame 1 (1 ∷ []) (Running 2) (0 ∷ 3 ∷ 0 ∷ 0 ∷ []) ∷ [])), Answered) }

@@ -1,4 +1,5 @@
-//! The toy procedure Fan: a root opens children of two kinds, takes the first result and aborts the others.
+//! For tests of a core, the toy procedure Fan: a root opens children of two kinds, takes the first result and aborts
+//! the others.
 ghost use Rattle.std.specs.Prelude.{◌≡◌};
 ghost use Rattle.toys.specs.Toys.{toy_spawns};
 
@@ -24,11 +25,12 @@ impl ToyAnswer for FanAnswer {
 
     ghost stored = { fan_stored };
 
+    /// The input from which this answer was computed.
     fn asked(&self) -> u64 {
         self.asked
     }
 
-    /// Count 2, and the value in word 2.
+    /// What a frame stores of an answer: count 2 in word 1, and the value in word 2.
     fn stores(&self) -> Stores {
         Stores::new().then(1, 2).then(2, self.value)
     }

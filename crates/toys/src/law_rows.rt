@@ -1,4 +1,5 @@
-//! What the laws say a tenant's jobs were submitted with, on worked examples.
+//! What the laws say a tenant's jobs were submitted with, on worked examples of a core's steps. `Submit 1 (3 ∷ []) 4`
+//! is tenant 1's, of one word, 3, and a frame of 4 words.
 ghost use Rattle.std.specs.Prelude.{◌≡◌, ℕ, [], ◌∷◌, Ok, Err};
 ghost use Rattle.sched_rules.specs.declared.refusal.Refusal.TheVariants.{NoNodes};
 ghost use Rattle.sched_rules.specs.declared.step.StepOf.TheVariants.{Submit};

@@ -21,7 +21,7 @@
 //!
 //! That no memory is taken can't be said by a clause: an allocation that is given back at once leaves nothing to be seen.
 //! A [`CountedAlloc`] stands for the allocator that it was made of, passes each call on, and counts it, for tests that something
-//! takes no memory; it refuses a growth where it is told to, for tests of what is left then.
+//! takes no memory; it refuses a request for memory where it is told to, for tests of what is left then.
 //!
 //! ```text
 //! let counted = CountedAlloc::new(alloc);

@@ -1,4 +1,6 @@
-//! Each refusal in at least one small state, and of two neighbours in a step's list the first where both apply.
+//! The refusals of a core's steps: each in at least one small state, and of two neighbours in a step's list the first
+//! where both apply. A step stands with its worker or tenant first, then its frame; `root_frame` is frame 1, and
+//! `toy_quota` has segments and nodes.
 ghost use Rattle.std.specs.Prelude.{◌≡◌, ◌+◌, ◌^◌, [], ◌∷◌, ◌++◌, Some, None, Ok, Err, true, false, replicate};
 ghost use Rattle.frame_table.specs.declared.names.State.TheVariants.{Ready, Running, Computing, Waiting, Returned};
 ghost use Rattle.sched_rules.specs.declared.act.Continuation.TheVariants.{Grow, Spawn, Go, Wait, Compute, Return};

@@ -1,4 +1,6 @@
-//! The definitions, tried on worked examples: each contract is computed from the definitions alone.
+//! The definitions of a core's steps, tried on worked examples: each contract is computed from the definitions alone. A
+//! step stands with its worker or tenant first, then its frame; `one_job` has the reservation, the last serial and the
+//! steps taken; `some_left` segments, nodes and steps.
 ghost use Rattle.std.specs.Prelude.{◌≡◌, [], ◌∷◌, ◌++◌, Some, None, Ok, Err, true, false, option_map, replicate};
 ghost use Rattle.frame_table.specs.declared.names.State.TheVariants.{Ready, Running, Computing, Waiting, Returned};
 ghost use Rattle.sched_rules.specs.declared.job.Job.TheVariants.{Live, Done};
@@ -32,7 +34,7 @@ pub fn fan_takes_in_and_aborts()
     ensures left_before { option_map left (alone fan fan_steps_before_inlet) ≡ Some (some_left 3 3 115) }
 {}
 
-/// After that, an answer to frame 4, which is gone, is refused; the next serial is 6.
+/// After Fan's abort, an answer to frame 4, which is gone, is refused; the next serial is 6.
 pub fn fan_goes_on()
     ensures late { lone_refusal fan (alone fan fan_steps) (Answer 1 (one 4) (answer 1 7)) ≡ Some NoFrame }
     ensures late_changes_nothing { alone fan (fan_steps ++ Answer 1 (one 4) (answer 1 7) ∷ []) ≡ alone fan fan_steps }
@@ -78,7 +80,8 @@ pub fn fan_reserves_more()
     ensures the_same { tenant_in (used_up_with 7 10).tenants 1 ≡ alone fan (one_with 5 8 ++ fan_opens ++ fan_opens_five ++ AdmitMore 1 (toy_quota 7 10) ∷ []) }
 {}
 
-/// With three segments the third child is refused; after an inlet has aborted frame 3 the root can open one.
+/// With three segments Fan's third child is refused: NoSegments; after an inlet has aborted frame 3 the root can open
+/// one.
 pub fn fan_with_three_segments()
     ensures refused { lone_refusal fan (alone fan narrow_opens) (Advance 1 (one 1)) ≡ Some NoSegments }
     ensures tree { alone fan narrow_returns ≡ Some (one_job (toy_quota 3 8) 3 8 (frame 1 (1 ∷ []) (Running 1) (0 ∷ 2 ∷ 1 ∷ 0 ∷ []) ∷ [])) }
@@ -99,21 +102,21 @@ pub fn chain_with_enough()
     ensures left { option_map left (alone chain_procedure (chain_begins 6 3 ++ chain_ends)) ≡ Some (some_left 6 0 33) }
 {}
 
-/// With five segments frame 2 can't open its child; the job is spent, and its segments are back.
+/// With five segments frame 2 of Chain can't open its child: NoSegments; the job is spent, and its segments are back.
 pub fn chain_with_too_few_segments()
     ensures refused { lone_refusal chain_procedure (alone chain_procedure (chain_begins 5 3)) (Advance 1 (one 2)) ≡ Some NoSegments }
     ensures spent { alone chain_procedure (chain_begins 5 3 ++ Spend (one 2) ∷ []) ≡ Some (chain_spent 5 3) }
     ensures left { option_map left (alone chain_procedure (chain_begins 5 3 ++ Spend (one 2) ∷ [])) ≡ Some (some_left 5 1 44) }
 {}
 
-/// With two nodes frame 2 can't open its child either.
+/// With two nodes frame 2 of Chain can't open its child either: NoNodes; the job is spent.
 pub fn chain_with_too_few_nodes()
     ensures refused { lone_refusal chain_procedure (alone chain_procedure (chain_begins 6 2)) (Advance 1 (one 2)) ≡ Some NoNodes }
     ensures spent { alone chain_procedure (chain_begins 6 2 ++ Spend (one 2) ∷ []) ≡ Some (chain_spent 6 2) }
     ensures left { option_map left (alone chain_procedure (chain_begins 6 2 ++ Spend (one 2) ∷ [])) ≡ Some (some_left 6 0 28) }
 {}
 
-/// What is read of a core before and after the last inlet of Fan's row.
+/// What is read of a core before and after the last inlet of Fan's example: what is left, the job, and the frames.
 pub fn what_is_read()
     ensures left { left_in_core before_inlet 1 ≡ Some (some_left 3 3 115) }
     ensures left_of_nobody { left_in_core before_inlet 2 ≡ None }
@@ -132,7 +135,7 @@ pub fn what_is_read()
     ensures free { free_in before_inlet ≡ 27 }
 {}
 
-/// Of a list of steps, those that were taken, and what each tenant was told.
+/// Of a list of two tenants' steps, of which one is refused: those that were taken, and what each tenant was told.
 pub fn what_was_taken()
     ensures taken { taken_steps some_steps some_answers ≡ Admit 1 (toy_quota 1 1) ∷ Admit 2 (toy_quota 1 1) ∷ Leave 2 ∷ [] }
     ensures one { own_answers 1 some_steps some_answers ≡ Ok Admitted ∷ [] }

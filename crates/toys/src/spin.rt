@@ -1,4 +1,4 @@
-//! The toy procedure Spin: a frame that goes on for ever.
+//! For tests of a core, the toy procedure Spin: a frame that goes on for ever.
 use crate::acts::{idle_inlet, plain};
 use crate::toy::{Play, Toy};
 use cactus_stack::Words;

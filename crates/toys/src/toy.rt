@@ -1,4 +1,4 @@
-//! What the toy procedures have in common.
+//! What the toy procedures for tests of a core have in common.
 ghost use Rattle.std.specs.Prelude.{◌≡◌, ℕ, List, []};
 
 use crate::view::{own_word, word};
@@ -12,11 +12,11 @@ pub trait ToyAnswer {
 
     ghost stored: { Self → List (ℕ × ℕ) };
 
-    /// The input that it was computed from.
+    /// The input from which this answer was computed.
     fn asked(&self) -> u64
         ensures { result ≡ asks_for self.now };
 
-    /// What the frame stores of it.
+    /// What a frame stores of an answer.
     fn stores(&self) -> Stores
         ensures { result ≡ stored self.now };
 }
@@ -27,10 +27,12 @@ impl ToyAnswer for u64 {
 
     ghost stored = { λ answer. [] };
 
+    /// The input from which this answer was computed: the answer is that number.
     fn asked(&self) -> u64 {
         *self
     }
 
+    /// What a frame stores of an answer that is only a number: nothing.
     fn stores(&self) -> Stores {
         Stores::new()
     }
@@ -85,22 +87,27 @@ impl<T: Play> Procedure for Toy<T> {
 
     ghost rooted = { λ procedure. AlwaysRooted };
 
+    /// The act of a frame, by its first two words.
     fn next(&self, sight: &Sight) -> Act {
         T::act(own_word(sight, 0), own_word(sight, 1))
     }
 
+    /// What a frame does about a returned child.
     fn inlet(&self, own: &Words, child: &Words) -> InletAct {
         T::inlet(own, child)
     }
 
+    /// What is to be computed for a frame: its first word.
     fn input(&self, own: &Words) -> u64 {
         word(own, 0)
     }
 
+    /// The input from which an answer was computed.
     fn asked(&self, answer: &T::Answer) -> u64 {
         answer.asked()
     }
 
+    /// What a frame stores of an answer.
     fn accept(&self, _own: &Words, answer: &T::Answer) -> Stores {
         answer.stores()
     }

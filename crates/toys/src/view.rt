@@ -4,7 +4,7 @@ ghost use Rattle.toys.specs.Toys.{nearest, word_at};
 
 use cactus_stack::{Sight, Words};
 
-/// The word at a place, and 0 where there is none.
+/// The word at a place in a frame's words, counted from 0; 0 where there is none.
 pub fn word(words: &Words, place: usize) -> u64
     ensures { result ≡ word_at words.now place }
 {

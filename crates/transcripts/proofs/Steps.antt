@@ -1,4 +1,4 @@
--- What a worker offers is a worker's step.
+-- For the player of texts: what the worker of its desk offers is a worker's step.
 use Rattle.std.proofs.Common.{◌≡◌, ℕ, true, false, ◌==◌, if◌then◌else◌, IfSome, refl}
 use Rattle.sched_rules.specs.declared.step.StepOf.TheVariants.{Take, Steal}
 use Rattle.jamboree_rules.specs.declared.leaf.LeafAnswer.{LeafAnswer}

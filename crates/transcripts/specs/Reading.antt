@@ -1,4 +1,4 @@
--- Representation: a procedure whose frames do what their words say.
+-- Representation: a procedure for played texts of steps, whose frames do what their words say.
 use Rattle.std.specs.Prelude.{ℕ, ◌/◌, ◌%◌, ◌==◌, List, [], ◌∷◌, if◌then◌else◌}
 use Rattle.sched_rules.specs.declared.act.Act.{Act}
 use Rattle.sched_rules.specs.declared.act.InletAct.{InletAct}
@@ -7,7 +7,7 @@ use Rattle.sched_rules.specs.declared.act.Continuation.TheVariants.{Grow, Spawn,
 use Rattle.transcripts.specs.declared.reader.ReaderAnswer.{ReaderAnswer}
 use Rattle.toys.specs.Toys.{word_at}
 
--- the act that stores this and then does that
+-- the act of a frame that makes these stores, and after them goes on so
 abbrev pub act_with_stores : List (ℕ × ℕ) → Continuation → Act
 act_with_stores stores after = record { stores = stores; after = after }
 

@@ -1,4 +1,4 @@
-//! Counting rows.
+//! The player of texts counts the rows that agree and that differ.
 ghost use Rattle.std.specs.Prelude.{◌≡◌, ◌≢◌, ◌<◌, ◌≤◌};
 
 use crate::scenes::Row;
@@ -22,7 +22,7 @@ pub struct Agreement {
 }
 
 impl Agreement {
-    /// No row was played.
+    /// The counts before any row was played.
     pub fn new(alloc: Global) -> Agreement
         ensures agreed { result.agreed ≡ 0 }
         ensures missed { result.missed ≡ 0 }
@@ -34,8 +34,8 @@ impl Agreement {
         }
     }
 
-    /// Counts a row where this was due and this came. One that doesn't agree is always counted, also where there is no
-    /// memory to tell of it.
+    /// Compares what a row of a text says must come with what came, and counts the row as one that agrees or differs.
+    /// One that differs is always counted, also where there is no memory to tell of it.
     pub fn compare(&mut self, row: Row<'_>, due: &str, came: &str) -> Done
         ensures agrees { due.now ≡ came.now → self.new.missed ≡ self.old.missed }
         ensures differs { due.now ≢ came.now → 0 < self.new.missed }
@@ -48,7 +48,7 @@ impl Agreement {
         self.miss(row, due, came)
     }
 
-    /// Counts a row that doesn't agree.
+    /// Counts a row that doesn't agree, and keeps what was due and what came.
     pub fn miss(&mut self, row: Row<'_>, due: &str, came: &str) -> Done
         ensures counted { 0 < self.new.missed }
         ensures kept { self.old.missed ≤ self.new.missed }

@@ -1,4 +1,4 @@
-//! What a step was answered, as a text.
+//! The player of texts: what a step of the core was answered, as a text.
 use crate::agreement::Done;
 use crate::values::DrawnInput;
 use crate::words::push_number;
@@ -16,7 +16,7 @@ pub fn draw_answer<I: DrawnInput>(text: &mut String, answer: &Result<DidOf<I>, R
     }
 }
 
-/// Appends what a step did.
+/// Writes what a taken step did.
 fn draw_did<I: DrawnInput>(text: &mut String, did: &DidOf<I>) -> Done {
     match did {
         DidOf::Submitted(job, root) => {
@@ -50,7 +50,7 @@ fn draw_taken_in(text: &mut String, woken: Option<FrameId>, aborted: u64) -> Don
     push_number(text, aborted)
 }
 
-/// Appends a frame's name.
+/// Writes a frame's name.
 pub fn draw_frame(text: &mut String, name: FrameId) -> Done {
     let tenant = name.tenant;
     let serial = name.serial;

@@ -1,4 +1,4 @@
-//! Lines that are due beside lines that came.
+//! The player of texts: lines that are due beside lines that came.
 use crate::agreement::{Agreement, Done};
 use crate::scenes::Row;
 use std::alloc::AllocError;
@@ -18,7 +18,7 @@ pub fn compare_lines(
     }
 }
 
-/// The same of a text.
+/// Compares the lines of a text that came with the rows that are due.
 pub fn compare_text(agreement: &mut Agreement, end: Row<'_>, dues: &[Row<'_>], came: &str) -> Done {
     let mut rest = came;
     for due in dues {

@@ -1,4 +1,4 @@
-//! Scenes of a file of `othello_site`.
+//! The player of texts: scenes of a file of `othello_site`.
 //!
 //! Rows `| LINE` are the lines of a file, and `file` begins another one. Rows `N LINE` are a file that differs in its line N alone:
 //! these lines stand in its place. After such rows, or `read`, the file is read; where one of them is `again`, as one that is read
@@ -40,7 +40,7 @@ struct ConfigFile {
 }
 
 impl ConfigFile {
-    /// An empty file; nothing was read.
+    /// An empty file of a site, of which nothing was read.
     fn new(alloc: Global) -> ConfigFile {
         ConfigFile {
             alloc,
@@ -69,7 +69,7 @@ impl ConfigFile {
         }
     }
 
-    /// Tells what a row asks for.
+    /// Writes what a row asks for of the file.
     fn tell(&self, row: &str, came: &mut String) -> Done {
         let Some(config) = &self.config else {
             return came.push_str("nothing was read\n");
@@ -115,7 +115,7 @@ fn who_in(config: &SiteConfig, asked: &str) -> Option<Who> {
     }
 }
 
-/// The bytes of a word, but for `-`.
+/// The bytes of a word; None where the word is `-`.
 fn bytes_of(word: Option<&str>) -> Option<&[u8]> {
     match word {
         Some(word) if word != "-" => Some(word.as_bytes()),
@@ -154,6 +154,7 @@ fn push_config(config: &SiteConfig, came: &mut String) -> Done {
     Ok(())
 }
 
+/// Appends a word and a place's port; nothing where there is no place.
 fn push_place(came: &mut String, word: &str, place: Option<SocketAddr>) -> Done {
     match place {
         Some(place) => tell(came, word, &[u64::from(place.port())]),
@@ -161,6 +162,7 @@ fn push_place(came: &mut String, word: &str, place: Option<SocketAddr>) -> Done 
     }
 }
 
+/// Appends the limits of a site's file, number by number.
 fn push_limits(limits: Limits, came: &mut String) -> Done {
     tell(
         came,
@@ -190,7 +192,7 @@ fn push_terms(terms: &Terms, came: &mut String) -> Done {
     )
 }
 
-/// Appends the plan of each hall.
+/// Appends the plan of each hall of the file.
 fn push_halls(config: &SiteConfig, came: &mut String) -> Done {
     for plan in &config.halls {
         push_plan(plan, config.directory.customers.len(), came)?;
@@ -198,6 +200,7 @@ fn push_halls(config: &SiteConfig, came: &mut String) -> Done {
     Ok(())
 }
 
+/// Appends what a plan allows the hall, guests, and each customer.
 fn push_plan(plan: &Plan, customers: usize, came: &mut String) -> Done {
     push_amount(came, "hall", plan.totals())?;
     push_amount(came, "each guest", plan.budget(Who::V4(0)))?;
@@ -209,6 +212,7 @@ fn push_plan(plan: &Plan, customers: usize, came: &mut String) -> Done {
     Ok(())
 }
 
+/// Appends a word and an amount's sessions, segments and nodes.
 fn push_amount(came: &mut String, word: &str, amount: Amount) -> Done {
     let sessions = u64::from(amount.sessions);
     tell(came, word, &[sessions, amount.segments, amount.nodes])

@@ -1,4 +1,4 @@
-//! The worker of a desk.
+//! The player of texts: the worker of its desk.
 //!
 //! It runs the jobs of all tenants in the thread of the sessions, by the rules of a pool's worker (`pool_rules`), and only
 //! where it is told to. Its tasks are the roots of the jobs that were asked for, and the frames that its own steps made
@@ -28,6 +28,7 @@ pub struct DeskWorker<'a, L: DeskLedger, R: Wait, A: Allocator> {
 }
 
 impl<L: DeskLedger, R: Wait, A: Allocator> Drop for DeskWorker<'_, L, R, A> {
+    /// Drops the worker with its badge and its tasks.
     fn drop(self) {
         let DeskWorker {
             rt: _rt,
@@ -77,19 +78,19 @@ impl<'a, L: DeskLedger, R: Wait, A: Allocator + Clone> DeskWorker<'a, L, R, A> {
         let _ = self.tasks.push(Task { frame, home: 0 });
     }
 
-    /// Closes the desk.
+    /// Closes the desk, and notes that it is closed.
     pub fn close(&mut self) {
         self.desk.close(self.rt);
         self.is_closed = true;
     }
 
-    /// The last serial of a tenant.
+    /// The last serial that the worker has seen of a tenant.
     fn last_serial(&self, tenant: u64) -> u64 {
         let at = tenant.saturating_sub(1) as usize;
         self.serials.get(at).copied().unwrap_or(0)
     }
 
-    /// A frame was opened.
+    /// Notes the serial of a frame that was opened, where it is its tenant's greatest.
     fn opened(&mut self, frame: FrameId) {
         let at = frame.tenant.saturating_sub(1) as usize;
         if let Some(serial) = self.serials.get_mut(at) {
@@ -136,7 +137,7 @@ impl<'a, L: DeskLedger, R: Wait, A: Allocator + Clone> DeskWorker<'a, L, R, A> {
         true
     }
 
-    /// Offers a step to the desk.
+    /// Offers the worker's step to the desk.
     fn take(&mut self, step: &Step<Jamboree>) -> StepAnswer
         requires { is_worker_step step.now ≡ true }
     {

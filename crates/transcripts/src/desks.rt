@@ -1,7 +1,7 @@
-//! Scenes of sessions.
+//! The player of texts: scenes of sessions.
 //!
 //! The head is `desk segments S nodes N`, with `grain G` (0 where it isn't named), `worker W` (1) and `pieces P`, the most bytes that
-//! a session's reader gives at once (4,096). Where it has `refuses K`, the K-th growth after the desk was made is refused.
+//! a session's reader gives at once (4,096). Where it has `refuses K`, the K-th request for memory after the desk was made is refused.
 ghost use Rattle.std.specs.Prelude.{◌≡◌, ◌≤◌};
 
 use crate::agreement::{Agreement, Done};
@@ -91,7 +91,7 @@ fn play_at<L: DeskLedger, R: Wait, A: Allocator + Clone>(
     play_rows(rt, alloc, &desk, setting, scene, agreement)
 }
 
-/// Plays a scene at a desk.
+/// Plays the rows of a scene at this desk.
 fn play_rows<L: DeskLedger, R: Wait, A: Allocator + Clone>(
     rt: &R,
     alloc: Global,

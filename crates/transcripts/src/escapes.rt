@@ -1,4 +1,4 @@
-//! The bytes that a line of a talk stands for.
+//! The player of texts: the bytes that a line of a talk stands for.
 use line_io::LF;
 use std::alloc::AllocError;
 
@@ -51,7 +51,7 @@ fn take(escape: Escape, byte: u8, bytes: &mut Vec<u8>) -> Result<Option<Escape>,
     }
 }
 
-/// Takes the byte after a `\`.
+/// Takes the byte after a `\`, which begins an escape.
 fn begin(byte: u8, bytes: &mut Vec<u8>) -> Result<Option<Escape>, AllocError> {
     let stands_for = match byte {
         b'x' => return Ok(Some(Escape::High)),
@@ -65,7 +65,7 @@ fn begin(byte: u8, bytes: &mut Vec<u8>) -> Result<Option<Escape>, AllocError> {
     Ok(Some(Escape::Plain))
 }
 
-/// Takes the second digit of a byte.
+/// Takes the second hexadecimal digit of an escape `\xHH`, which ends it.
 fn finish(high: u8, byte: u8, bytes: &mut Vec<u8>) -> Result<Option<Escape>, AllocError> {
     let Some(low) = hex_value(byte) else {
         return Ok(None);
@@ -74,7 +74,7 @@ fn finish(high: u8, byte: u8, bytes: &mut Vec<u8>) -> Result<Option<Escape>, All
     Ok(Some(Escape::Plain))
 }
 
-/// The value of a hexadecimal digit.
+/// The value of a hexadecimal digit; None for any other byte.
 fn hex_value(byte: u8) -> Option<u8> {
     let digit = char::from(byte).to_digit(16)?;
     Some(digit as u8)

@@ -1,4 +1,4 @@
-//! The lines of a file in a scene, and what rows change in it.
+//! The player of texts: the lines of a site's file in a scene, and what rows change in it.
 use crate::agreement::Done;
 use crate::scenes::Row;
 use crate::words::{first_word, number, rest_of};
@@ -11,13 +11,14 @@ pub struct FileLines {
     lines: Vec<String>,
 }
 
-/// Appends a line.
+/// Appends a line of a site's file.
 pub fn push_line(text: &mut String, line: &str) -> Done {
     text.push_str(line)?;
     text.push_str("\n")
 }
 
-/// Appends the lines that stand in the place of the line of this number, or that line where none does.
+/// Appends to a file's text the lines that rows put in the place of the line of this number, or that line itself where
+/// no row changes it.
 fn push_changed(text: &mut String, rows: &[Row<'_>], place: u64, line: &str) -> Done {
     let mut is_changed = false;
     for row in rows {
@@ -32,7 +33,7 @@ fn push_changed(text: &mut String, rows: &[Row<'_>], place: u64, line: &str) -> 
     push_line(text, line)
 }
 
-/// Whether a row of these has this first word.
+/// Whether one of these rows of a text has this first word.
 pub fn has_row(rows: &[Row<'_>], word: &str) -> bool {
     for row in rows {
         if first_word(row.text) == word {
@@ -43,7 +44,7 @@ pub fn has_row(rows: &[Row<'_>], word: &str) -> bool {
 }
 
 impl FileLines {
-    /// No lines.
+    /// The lines of a site's file: none yet.
     pub fn new(alloc: Global) -> FileLines {
         FileLines {
             alloc,
@@ -51,7 +52,7 @@ impl FileLines {
         }
     }
 
-    /// Takes the lines of a file.
+    /// Takes the lines that rows say as those of a site's file.
     pub fn take(&mut self, rows: &[Row<'_>]) -> Done {
         for row in rows {
             match first_word(row.text) {
@@ -65,7 +66,7 @@ impl FileLines {
         Ok(())
     }
 
-    /// The file with what rows change in it.
+    /// The text of a site's file, with what these rows change in it.
     pub fn text(&self, rows: &[Row<'_>]) -> Result<String, AllocError> {
         let mut text = String::new(self.alloc);
         let mut place = 0u64;

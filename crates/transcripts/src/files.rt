@@ -1,4 +1,4 @@
-//! The files of the folder that the program runs in.
+//! The player of texts: the files of the folder that the program runs in.
 use crate::agreement::{Agreement, Done};
 use crate::configs::play_config;
 use crate::desks::play_sessions;
@@ -76,7 +76,7 @@ fn kind_of(file: &str) -> Option<Kind> {
     }
 }
 
-/// Plays the scenes of a text.
+/// Plays all scenes of one text.
 fn play_text<R: Wait>(
     rt: &R,
     alloc: Global,
@@ -92,7 +92,7 @@ fn play_text<R: Wait>(
     Ok(())
 }
 
-/// Plays a scene.
+/// Plays one scene of a text.
 fn play_scene<R: Wait>(
     rt: &R,
     alloc: Global,

@@ -1,4 +1,4 @@
-//! Rows as groups: what is put in, and the lines that are due then.
+//! The player of texts: rows as groups: what is put in, and the lines that are due then.
 use crate::agreement::Done;
 use crate::scenes::Row;
 use crate::talks::{TalkLine, read_talk_line};
@@ -14,7 +14,7 @@ pub struct RowGroup<'t> {
 }
 
 impl<'t> RowGroup<'t> {
-    /// No rows behind this head.
+    /// A group with this head, and no rows behind it.
     pub fn new(alloc: Global, head: Row<'t>) -> RowGroup<'t> {
         RowGroup {
             end: head,
@@ -42,7 +42,7 @@ impl<'t> RowGroup<'t> {
         Ok(())
     }
 
-    /// Forgets the rows.
+    /// Forgets the group's rows.
     pub fn clear(&mut self) {
         self.given.clear();
         self.dues.clear();

@@ -1,4 +1,4 @@
-//! What is read of a core, as texts.
+//! The player of texts: what is read of a core, as texts.
 use crate::agreement::Done;
 use crate::answered::draw_frame;
 use crate::plain_core::Counting;
@@ -47,7 +47,7 @@ pub fn read_look(asked: &str) -> Option<Look> {
     if words.is_empty() { Some(look) } else { None }
 }
 
-/// Appends what a look sees.
+/// Writes what a look at the core sees.
 pub fn draw_look<P: Procedure>(text: &mut String, core: &Counting<'_, P>, look: Look) -> Done {
     match look {
         Look::Free => draw_free(text, core),
@@ -60,6 +60,7 @@ pub fn draw_look<P: Procedure>(text: &mut String, core: &Counting<'_, P>, look: 
     }
 }
 
+/// Writes how many segments are free.
 fn draw_free<P: Procedure>(text: &mut String, core: &Counting<'_, P>) -> Done {
     let free = core.free_segments();
     write!(text, "{free}")
@@ -83,6 +84,7 @@ fn is_ready<P: Procedure>(core: &Counting<'_, P>, name: FrameId, home: u8) -> bo
     }
 }
 
+/// Writes the segments, nodes and steps that a tenant has left.
 fn draw_left<P: Procedure>(text: &mut String, core: &Counting<'_, P>, tenant: u64) -> Done {
     let Some(left) = core.left(tenant) else {
         return text.push_str(NONE);
@@ -93,6 +95,7 @@ fn draw_left<P: Procedure>(text: &mut String, core: &Counting<'_, P>, tenant: u6
     write!(text, "{segments} {nodes} {steps}")
 }
 
+/// Writes how many frames and words a tenant has.
 fn draw_live<P: Procedure>(text: &mut String, core: &Counting<'_, P>, tenant: u64) -> Done {
     match core.live(tenant) {
         Some((frames, words)) => write!(text, "{frames} {words}"),
@@ -100,6 +103,7 @@ fn draw_live<P: Procedure>(text: &mut String, core: &Counting<'_, P>, tenant: u6
     }
 }
 
+/// Writes a tenant's newest ready frame, and its home.
 fn draw_newest<P: Procedure>(text: &mut String, core: &Counting<'_, P>, tenant: u64) -> Done {
     let Some((name, home)) = core.newest_ready(tenant) else {
         return text.push_str(NONE);
@@ -108,6 +112,7 @@ fn draw_newest<P: Procedure>(text: &mut String, core: &Counting<'_, P>, tenant: 
     write!(text, " at {home}")
 }
 
+/// Writes how a job stands, with its words where it is done.
 fn draw_job(text: &mut String, job: Option<&Job>) -> Done {
     match job {
         None => text.push_str(NONE),
@@ -121,6 +126,7 @@ fn draw_job(text: &mut String, job: Option<&Job>) -> Done {
     }
 }
 
+/// Writes a frame's parent, its state and its words.
 fn draw_entry<P: Procedure>(text: &mut String, core: &Counting<'_, P>, name: FrameId) -> Done {
     let Some((parent, state)) = core.frame(name) else {
         return text.push_str(NONE);
@@ -137,6 +143,7 @@ fn draw_entry<P: Procedure>(text: &mut String, core: &Counting<'_, P>, name: Fra
     }
 }
 
+/// Writes a frame's words, one after another.
 fn draw_words(text: &mut String, words: &FrameWords) -> Done {
     for at in 0..words.len() {
         if let Some(word) = words.get(at) {
@@ -162,6 +169,7 @@ pub fn draw_tenant<P: Procedure>(
     draw_frames(text, core, tenant, last)
 }
 
+/// Writes each job of a tenant up to this number, 257 at most.
 fn draw_jobs<P: Procedure>(
     text: &mut String,
     core: &Counting<'_, P>,
@@ -178,6 +186,7 @@ fn draw_jobs<P: Procedure>(
     Ok(())
 }
 
+/// Writes each frame of a tenant up to this serial.
 fn draw_frames<P: Procedure>(
     text: &mut String,
     core: &Counting<'_, P>,

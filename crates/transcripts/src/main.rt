@@ -52,6 +52,7 @@ use crate::agreement::Agreement;
 use std::io;
 use std::process::ExitCode;
 
+/// Plays all texts of the folder, and reports how many rows agree.
 fn main(rt: HostRuntime) -> io::Result<ExitCode> {
     let mut agreement = Agreement::new(rt.alloc());
     let mut lies = Agreement::new(rt.alloc());

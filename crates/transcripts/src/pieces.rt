@@ -1,4 +1,4 @@
-//! A reader that gives its bytes in pieces.
+//! The player of texts: a reader that gives its bytes in pieces.
 use line_io::{ReadFailed, Source};
 
 /// Gives these bytes, at most so many a call, and then ends.
@@ -13,6 +13,7 @@ pub struct Pieces<'b> {
 impl Source for Pieces<'_> {
     ghost gives = { λ _ _ _. Unit {0} };
 
+    /// Gives the next bytes, so many at a time at most.
     fn fill(&mut self, block: &mut [u8]) -> Result<usize, ReadFailed> {
         let bytes = self.bytes;
         let count = self.most.max(1).min(block.len()).min(bytes.len());

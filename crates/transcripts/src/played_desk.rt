@@ -1,4 +1,4 @@
-//! The sessions at a desk, and their office.
+//! The player of texts: the sessions at its desk, and their office.
 //!
 //! A session that others interrupt is served in parts: each part is a call of `serve_lines`. A part of a session whose tenant
 //! is there begins with a HELLO of the player's own, which the office takes without a call of the desk, and at its end the
@@ -35,6 +35,7 @@ pub struct PlayedSession<'t, 'a, L: DeskLedger, R: Wait, A: Allocator + Clone> {
 }
 
 impl<L: DeskLedger, R: Wait, A: Allocator + Clone> Drop for PlayedSession<'_, '_, L, R, A> {
+    /// Closes the session's office: its tenant leaves.
     fn drop(self) {
         let PlayedSession {
             name: _name,
@@ -46,7 +47,7 @@ impl<L: DeskLedger, R: Wait, A: Allocator + Clone> Drop for PlayedSession<'_, '_
 }
 
 impl<'t, 'a, L: DeskLedger, R: Wait, A: Allocator + Clone> PlayedSession<'t, 'a, L, R, A> {
-    /// A session without a tenant.
+    /// A session of this name at the desk, without a tenant yet.
     pub fn new(name: &'t str, rt: &'a R, desk: &'a Desk<L, A>) -> PlayedSession<'t, 'a, L, R, A> {
         PlayedSession {
             name,
@@ -55,7 +56,7 @@ impl<'t, 'a, L: DeskLedger, R: Wait, A: Allocator + Clone> PlayedSession<'t, 'a,
         }
     }
 
-    /// Whether its tenant is there.
+    /// Whether the session's tenant is there.
     pub fn is_seated(&self) -> bool {
         self.tenant.is_some()
     }
@@ -82,6 +83,7 @@ pub struct PlayedDesk<'t, 'a, L: DeskLedger, R: Wait, A: Allocator + Clone> {
 }
 
 impl<L: DeskLedger, R: Wait, A: Allocator + Clone> Drop for PlayedDesk<'_, '_, L, R, A> {
+    /// Drops the desk's worker and all sessions.
     fn drop(self) {
         let PlayedDesk {
             rt: _rt,
@@ -119,8 +121,8 @@ impl<'t, 'a, L: DeskLedger, R: Wait, A: Allocator + Clone> PlayedDesk<'t, 'a, L,
         }
     }
 
-    /// A part of the session at this place, and what it writes. The tenant stays at its end where `stays` says so, but not
-    /// after a line BYE.
+    /// Serves a part of the session at this place, whose lines are `sent`, and returns what it writes. The session's
+    /// tenant stays at the end of the part where `stays` says so, but not after a line BYE.
     pub fn serve(&mut self, at: usize, sent: &[u8], stays: bool) -> Vec<u8>
         requires { L.all ≡ L.parts }
     {
@@ -161,7 +163,7 @@ impl<'t, 'a, L: DeskLedger, R: Wait, A: Allocator + Clone> PlayedDesk<'t, 'a, L,
         None
     }
 
-    /// The session that is served.
+    /// The session whose lines are served now.
     fn served(&mut self) -> Option<&mut PlayedSession<'t, 'a, L, R, A>> {
         self.sessions.get_mut(self.at)
     }
@@ -179,6 +181,7 @@ impl<L: DeskLedger, R: Wait, A: Allocator + Clone> Office for PlayedDesk<'_, '_,
 
     ghost ready = { L.all == L.parts };
 
+    /// The served session's tenant comes; a session that is resumed has its tenant already.
     fn hello(&mut self, reserve: Reserve) -> Result<(), Refusal> {
         if self.resumes {
             self.resumes = false;
@@ -193,6 +196,7 @@ impl<L: DeskLedger, R: Wait, A: Allocator + Clone> Office for PlayedDesk<'_, '_,
         Ok(())
     }
 
+    /// Raises the served session's reservation; `NoTenant` where none is served.
     fn reserve(&mut self, reserve: Reserve) -> Result<(), Refusal> {
         match self.served() {
             Some(session) => session.office.reserve(reserve),
@@ -200,6 +204,7 @@ impl<L: DeskLedger, R: Wait, A: Allocator + Clone> Office for PlayedDesk<'_, '_,
         }
     }
 
+    /// Submits the question for the served session, and gives its task to the desk's worker.
     fn ask(&mut self, question: &Question) -> Result<u64, Refusal> {
         let (job, tenant) = match self.served() {
             Some(session) => (session.office.ask(question)?, session.tenant),
@@ -211,6 +216,7 @@ impl<L: DeskLedger, R: Wait, A: Allocator + Clone> Office for PlayedDesk<'_, '_,
         Ok(job)
     }
 
+    /// How the served session's job stands.
     fn get(&mut self, job: u64) -> Result<Standing, Refusal> {
         match self.served() {
             Some(session) => session.office.get(job),
@@ -230,6 +236,7 @@ impl<L: DeskLedger, R: Wait, A: Allocator + Clone> Office for PlayedDesk<'_, '_,
         }
     }
 
+    /// Cancels the served session's job.
     fn cancel(&mut self, job: u64) -> Result<(), Refusal> {
         match self.served() {
             Some(session) => session.office.cancel(job),
@@ -237,6 +244,7 @@ impl<L: DeskLedger, R: Wait, A: Allocator + Clone> Office for PlayedDesk<'_, '_,
         }
     }
 
+    /// What the served session has left.
     fn quota(&mut self) -> Result<Left, Refusal> {
         match self.served() {
             Some(session) => session.office.quota(),
@@ -244,6 +252,7 @@ impl<L: DeskLedger, R: Wait, A: Allocator + Clone> Office for PlayedDesk<'_, '_,
         }
     }
 
+    /// How many frames and words the served session has.
     fn live(&mut self) -> Result<Live, Refusal> {
         match self.served() {
             Some(session) => session.office.live(),
@@ -251,6 +260,7 @@ impl<L: DeskLedger, R: Wait, A: Allocator + Clone> Office for PlayedDesk<'_, '_,
         }
     }
 
+    /// The served session's tenant leaves, but not where its input only pauses.
     fn leave(&mut self) {
         if self.stays {
             return;

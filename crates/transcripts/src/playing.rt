@@ -1,9 +1,10 @@
-//! The player of texts of steps.
+//! The player of texts of a core's steps.
 //!
 //! A text of steps has the steps that a core takes, its answers, and looks at its state in between. A scene of it is played on a new core,
 //! by the procedure and of the totals that its head names. Its rows are steps with their answers, `Advance 2 1.3 -> Spawned 1.5`, and looks
 //! with what is seen, `left 1 = 7 3 119`. Each step is asked for by `refusal` before it is taken by `step`, and both must say the same; no
-//! step but an admission and a Leave may call the allocator. A head may name a growth that is refused. At the end the whole list is
+//! step but an admission and a Leave may call the allocator. A head may name a request for memory
+//! that is refused. At the end the whole list is
 //! played again by one `run` on a new core, and the steps of each tenant that were taken once more on a core of its own:
 //! each is answered as before, and each tenant reads the same (the headline, tried).
 //!
@@ -44,7 +45,7 @@ fn read_jamboree(head: &str) -> Option<Jamboree> {
 }
 
 /// Plays a scene. Its head is `core PROCEDURE segments S nodes N`, with `grain G` for Jamboree (0 where it isn't named). Where it
-/// has `refuses K`, the K-th growth after the core was made is refused.
+/// has `refuses K`, the K-th request for memory after the core was made is refused.
 pub fn play_steps(alloc: Global, scene: &Scene<'_>, agreement: &mut Agreement) -> Done {
     let head = scene.head;
     let mut words = LineWords::of(head.text);

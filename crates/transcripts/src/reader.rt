@@ -1,4 +1,4 @@
-//! The procedure Reader: a frame does what its words say.
+//! The procedure Reader for played texts of steps: a frame does what its words say.
 ghost use Rattle.std.specs.Prelude.{◌≡◌};
 ghost use Rattle.transcripts.specs.Reading.{act_with_stores};
 
@@ -26,17 +26,18 @@ impl ToyAnswer for ReaderAnswer {
 
     ghost stored = { reader_stored };
 
+    /// The input from which this answer was computed.
     fn asked(&self) -> u64 {
         self.0
     }
 
-    /// It goes into word 2.
+    /// What a frame stores of an answer: the answer's number, in word 2.
     fn stores(&self) -> Stores {
         Stores::new().then(2, self.0)
     }
 }
 
-/// The act that stores this and then does that.
+/// The act of a frame that makes these stores, and after them goes on so.
 fn then_do(stores: Stores, after: Continuation) -> Act
     ensures { result ≡ act_with_stores stores after }
 {

@@ -1,4 +1,6 @@
-//! Reader, tried on worked examples: each contract is computed from the definitions alone.
+//! The procedure Reader of played texts, tried on worked examples: each contract is computed from the definitions
+//! alone. `reader_act 35 5`: 35 is a frame's acts, the octal 43, and 5 those of its child; stores stand as place and
+//! word.
 ghost use Rattle.std.specs.Prelude.{◌≡◌, [], ◌∷◌, true, false};
 ghost use Rattle.sched_rules.specs.declared.act.Continuation.TheVariants.{Grow, Spawn, Go, Wait, Compute, Return};
 ghost use Rattle.transcripts.specs.Reading.{act_with_stores, reader_act, reader_inlet};
@@ -16,7 +18,8 @@ pub fn what_digits_do()
     ensures for_ever { reader_act 15 5 ≡ act_with_stores [] Go }
 {}
 
-/// What a child brought goes into word 2; word 3 says what else an inlet does.
+/// What Reader's child brought goes into word 2; word 3 of the parent says what else an inlet does: 1 aborts, 2 wakes,
+/// and by 3 the store goes to place 128, which no frame has.
 pub fn what_inlets_do()
     ensures stores { reader_inlet (4 ∷ 0 ∷ 9 ∷ 0 ∷ []) (0 ∷ 0 ∷ 7 ∷ []) ≡ record { stores = (2, 7) ∷ []; abort = false; wake = false } }
     ensures aborts { reader_inlet (4 ∷ 0 ∷ 9 ∷ 1 ∷ []) (0 ∷ 0 ∷ 7 ∷ []) ≡ record { stores = (2, 7) ∷ []; abort = true; wake = false } }

@@ -1,4 +1,4 @@
-//! Steps, read from texts.
+//! The player of texts: a core's steps, read from texts.
 use crate::values::FromWords;
 use crate::words::LineWords;
 use frame_table::FrameId;
@@ -17,7 +17,7 @@ pub fn read_step<A: FromWords>(text: &str) -> Option<StepOf<A>> {
     if words.is_empty() { Some(step) } else { None }
 }
 
-/// The rest of a step of this kind.
+/// Reads the rest of a step of this kind.
 fn read_step_of_kind<A: FromWords>(kind: &str, words: &mut LineWords<'_>) -> Option<StepOf<A>> {
     match kind {
         "Admit" => Some(StepOf::Admit(words.number()?, read_reserve(words)?)),
@@ -50,13 +50,14 @@ fn read_submit<A>(words: &mut LineWords<'_>) -> Option<StepOf<A>> {
     Some(StepOf::Submit(tenant, GivenWords::new(given)?, size))
 }
 
+/// A reservation, read from two words of a line; None where they are no numbers within the limits.
 fn read_reserve(words: &mut LineWords<'_>) -> Option<Reserve> {
     let segments = words.small()?;
     let nodes = words.small()?;
     Reserve::new(segments, nodes)
 }
 
-/// A step by this worker.
+/// Reads the rest of a step by this worker.
 fn read_work<A: FromWords>(
     kind: &str,
     worker: Worker,

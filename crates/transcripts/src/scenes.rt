@@ -1,5 +1,6 @@
-//! A text as its scenes. A scene begins with a head, a line `= ` and words: what is played, and its options, each a word and its numbers.
-//! The lines up to the next head are its rows. Empty lines and those that begin with `#` are remarks.
+//! The player of texts: a text as its scenes. A scene begins with a head, a line `= ` and words: what is played, and
+//! its options, each a word and its numbers. The lines up to the next head are its rows. Empty lines and those that
+//! begin with `#` are remarks.
 use crate::agreement::Done;
 use std::alloc::{AllocError, Global};
 use std::fmt;
@@ -17,6 +18,7 @@ pub struct Row<'t> {
 
 /// Where it stands.
 impl fmt::Display for Row<'_> {
+    /// The row as `FILE:LINE`.
     fn fmt<W: fmt::Write>(&self, f: &mut fmt::Formatter<W>) -> fmt::Result {
         let file = self.file;
         let line = self.line;
@@ -25,7 +27,7 @@ impl fmt::Display for Row<'_> {
 }
 
 impl<'t> Row<'t> {
-    /// The same line, of which this is taken.
+    /// A row of the same line of the text, with this part of it.
     pub fn with(self, text: &'t str) -> Row<'t> {
         Row {
             file: self.file,
@@ -59,7 +61,7 @@ pub fn read_scenes<'t>(
     Ok(scenes)
 }
 
-/// Takes the next line of a text.
+/// Takes the next line of a text into its scenes.
 fn take<'t>(alloc: Global, scenes: &mut Vec<Scene<'t>>, row: Row<'t>) -> Done {
     if row.text.is_empty() || row.text.starts_with('#') {
         return Ok(());
@@ -79,7 +81,7 @@ fn begin<'t>(alloc: Global, scenes: &mut Vec<Scene<'t>>, head: Row<'t>) -> Done 
     Ok(())
 }
 
-/// Appends a row to the last scene.
+/// Appends a row to the last scene of the text.
 fn go_on<'t>(alloc: Global, scenes: &mut Vec<Scene<'t>>, row: Row<'t>) -> Done {
     if scenes.is_empty() {
         begin(alloc, scenes, row.with(""))?;

@@ -1,4 +1,4 @@
-//! The rows of sessions at one desk.
+//! The player of texts: the rows of sessions at one desk.
 //!
 //! Rows `NAME> LINE` and `NAME< ANSWER` that follow each other are a part of that session; the name may be empty. `NAME! end`
 //! ends the session's input: a later row of that name begins another session. Where the rows are at an end, so is each
@@ -54,7 +54,7 @@ fn goes_on(rows: &[Row<'_>], name: &str) -> bool {
 }
 
 impl<'t, 'a, L: DeskLedger, R: Wait, A: Allocator + Clone> PlayedDesk<'t, 'a, L, R, A> {
-    /// Plays all rows.
+    /// Plays all rows of a scene of sessions.
     pub fn play(&mut self, rows: &[Row<'t>], agreement: &mut Agreement) -> Done
         requires { L.all ≡ L.parts }
     {
@@ -136,7 +136,7 @@ impl<'t, 'a, L: DeskLedger, R: Wait, A: Allocator + Clone> PlayedDesk<'t, 'a, L,
         Ok(at)
     }
 
-    /// What happens between two lines.
+    /// Does what a row says happens between two lines of a session.
     fn happen(&mut self, row: Row<'t>, name: &str, words: &str, agreement: &mut Agreement) -> Done {
         if let Some(steps) = option(words, "work") {
             self.worker.work(steps);

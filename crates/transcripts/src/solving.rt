@@ -1,4 +1,4 @@
-//! Scenes of `othello solve`.
+//! The player of texts: scenes of `othello solve`.
 //!
 //! The head is `solve grain 0 2 6`, any grains from 0 to 6, and `ordered` may stand behind them, as alone; or it is
 //! `solve visited`. The rows are `> LINE` and `< ANSWER`; all lines are one input.
@@ -35,7 +35,7 @@ pub fn play_solve(alloc: Global, scene: &Scene<'_>, agreement: &mut Agreement) -
     Ok(())
 }
 
-/// The number as a grain.
+/// The number as a grain, 0 to 6; None for any other.
 fn grain_of(number: u64) -> Option<u8>
     ensures { IfSome result (λ grain. grain ≤ 6) }
 {
@@ -45,7 +45,7 @@ fn grain_of(number: u64) -> Option<u8>
     Some(number as u8)
 }
 
-/// Plays lines at a grain.
+/// Plays the lines of a scene by `solve` at a grain.
 fn play_at(
     alloc: Global,
     head: Row<'_>,
@@ -60,7 +60,7 @@ fn play_at(
     compare_lines(agreement, head, part.dues.as_slice(), came.as_slice())
 }
 
-/// What `solve` writes.
+/// What `solve` writes for these bytes, at a grain.
 fn solved(alloc: Global, sent: &[u8], grain: u8) -> Vec<u8>
     requires { grain ≤ 6 }
 {
@@ -70,7 +70,7 @@ fn solved(alloc: Global, sent: &[u8], grain: u8) -> Vec<u8>
     sink.writer
 }
 
-/// What `solve --ordered` writes.
+/// What `solve --ordered` writes for these bytes.
 fn ordered(alloc: Global, sent: &[u8]) -> Vec<u8> {
     let mut source = FromReader { reader: sent };
     let mut sink = FromWriter::new(Vec::new(alloc));
@@ -78,7 +78,7 @@ fn ordered(alloc: Global, sent: &[u8]) -> Vec<u8> {
     sink.writer
 }
 
-/// What `solve --visited` writes.
+/// What `solve --visited` writes for these bytes.
 fn visited(alloc: Global, sent: &[u8]) -> Vec<u8> {
     let mut source = FromReader { reader: sent };
     let mut sink = FromWriter::new(Vec::new(alloc));

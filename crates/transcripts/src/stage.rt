@@ -1,4 +1,4 @@
-//! A list of steps on a core.
+//! The player of texts: a list of steps on a core.
 use crate::agreement::{Agreement, Done};
 use crate::answered::draw_answer;
 use crate::looks::{draw_look, read_look};
@@ -19,7 +19,7 @@ pub struct Played<'t, A: Drop> {
 }
 
 impl<'t, A: Drop> Played<'t, A> {
-    /// No step yet.
+    /// A list of played steps that has none yet.
     pub fn new(alloc: Global) -> Played<'t, A> {
         Played {
             steps: Vec::new(alloc),
@@ -28,7 +28,7 @@ impl<'t, A: Drop> Played<'t, A> {
         }
     }
 
-    /// Notes a step.
+    /// Notes a step, with its row and what it was answered.
     fn note(&mut self, row: Row<'t>, step: StepOf<A>, told: String) -> Done {
         self.steps.push(step)?;
         self.told.push(told)?;
@@ -92,7 +92,7 @@ pub fn play_row<'t, P: Procedure<Answer: FromWords, Input: DrawnInput>>(
     }
 }
 
-/// Plays a look.
+/// Plays a look at the core.
 fn play_look<P: Procedure>(
     alloc: Global,
     core: &Counting<'_, P>,

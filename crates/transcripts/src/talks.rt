@@ -1,4 +1,4 @@
-//! The lines of talks.
+//! The player of texts: the lines of talks.
 use crate::agreement::Agreement;
 use crate::escapes::push_line;
 use crate::scenes::Row;
@@ -19,7 +19,7 @@ pub enum TalkLine<'t> {
     Nothing,
 }
 
-/// What a row of a talk says.
+/// What a row of a talk says: a line that is sent or due, or what happens.
 pub fn read_talk_line(text: &str) -> TalkLine<'_> {
     let (first, rest) = (first_word(text), rest_of(text));
     if let Some(name) = first.strip_suffix('>') {

@@ -1,4 +1,4 @@
-//! Answers and inputs as words.
+//! The player of texts: a core's answers and inputs as words.
 ghost use Rattle.std.specs.Prelude.{◌≤◌};
 
 use crate::agreement::Done;
@@ -18,6 +18,7 @@ pub trait FromWords: Drop + Sized {
 
 /// What it was computed from, and its value.
 impl FromWords for FanAnswer {
+    /// An answer of the toy procedure Fan, read from two words: the question and the value.
     fn from_words(words: &mut LineWords<'_>) -> Option<FanAnswer> {
         let asked = words.number()?;
         let value = words.number()?;
@@ -27,6 +28,7 @@ impl FromWords for FanAnswer {
 
 /// A number that asks for itself.
 impl FromWords for u64 {
+    /// A number, read from one word.
     fn from_words(words: &mut LineWords<'_>) -> Option<u64> {
         words.number()
     }
@@ -34,6 +36,7 @@ impl FromWords for u64 {
 
 /// A number that asks for itself.
 impl FromWords for ReaderAnswer {
+    /// An answer of the procedure Reader, read from one word.
     fn from_words(words: &mut LineWords<'_>) -> Option<ReaderAnswer> {
         Some(ReaderAnswer(words.number()?))
     }
@@ -41,6 +44,7 @@ impl FromWords for ReaderAnswer {
 
 /// The leaf, whose answer is computed here.
 impl FromWords for LeafAnswer {
+    /// The answer to a search's leaf, which is computed from the words that say the leaf.
     fn from_words(words: &mut LineWords<'_>) -> Option<LeafAnswer> {
         Some(LeafAnswer::compute(read_leaf(words)?))
     }
@@ -67,11 +71,12 @@ fn read_leaf(words: &mut LineWords<'_>) -> Option<Leaf> {
 
 /// What a frame gives out to be computed, as a text.
 pub trait DrawnInput: Copy + Debug {
-    /// Appends it.
+    /// Writes the frame's input.
     fn draw(&self, text: &mut String) -> Done;
 }
 
 impl DrawnInput for u64 {
+    /// Writes a number that is a frame's input.
     fn draw(&self, text: &mut String) -> Done {
         write!(text, "{self}")
     }
@@ -79,6 +84,7 @@ impl DrawnInput for u64 {
 
 /// As it is read.
 impl DrawnInput for Leaf {
+    /// Writes a leaf: both words of the board, the depth, and the window.
     fn draw(&self, text: &mut String) -> Done {
         let own = self.board.own;
         let opp = self.board.opp;

@@ -1,4 +1,4 @@
-//! Words and numbers of a line, words of rows, and lines of words.
+//! The player of texts: words and numbers of a line, words of rows, and lines of words.
 use crate::agreement::Done;
 use std::fmt::Write;
 
@@ -10,7 +10,7 @@ pub fn number(word: &str) -> Option<u64> {
     }
 }
 
-/// Whether a word stands in a line.
+/// Whether this word stands in the line.
 pub fn has_word(line: &str, word: &str) -> bool {
     for one in line.split_whitespace() {
         if one == word {
@@ -20,7 +20,7 @@ pub fn has_word(line: &str, word: &str) -> bool {
     false
 }
 
-/// The words behind a word of a line.
+/// The words of a line behind this word.
 pub fn behind<'t>(line: &'t str, word: &str) -> LineWords<'t> {
     let mut words = LineWords::of(line);
     for _ in 0..line.len() {
@@ -37,7 +37,7 @@ pub fn option(line: &str, word: &str) -> Option<u64> {
     behind(line, word).number()
 }
 
-/// The same of a number of 32 bits.
+/// The number of 32 bits behind this word of a line; None where there is none.
 pub fn small_option(line: &str, word: &str) -> Option<u32> {
     behind(line, word).small()
 }
@@ -49,12 +49,12 @@ pub struct LineWords<'t> {
 }
 
 impl<'t> LineWords<'t> {
-    /// All words of a line.
+    /// All words of a line, to be read one by one.
     pub fn of(line: &'t str) -> LineWords<'t> {
         LineWords { rest: line }
     }
 
-    /// Whether all words were read.
+    /// Whether all words of the line were read.
     pub fn is_empty(&self) -> bool {
         self.rest.is_empty()
     }
@@ -82,12 +82,12 @@ impl<'t> LineWords<'t> {
         number(self.word()?)
     }
 
-    /// The same of a number of 32 bits.
+    /// The next word of the line as a number of 32 bits; None where it is none.
     pub fn small(&mut self) -> Option<u32> {
         u32::try_from(self.number()?).ok()
     }
 
-    /// The same of a number of 8 bits.
+    /// The next word of the line as a number of 8 bits; None where it is none.
     pub fn byte(&mut self) -> Option<u8> {
         u8::try_from(self.number()?).ok()
     }
@@ -109,7 +109,7 @@ pub fn first_word(row: &str) -> &str {
     LineWords::of(row).word().unwrap_or("")
 }
 
-/// A row without its first word.
+/// A row without its first word and the space behind it.
 pub fn rest_of(row: &str) -> &str {
     match row.split_once(' ') {
         Some((_word, rest)) => rest,
@@ -132,7 +132,7 @@ pub fn push_numbers(text: &mut String, numbers: &[u64]) -> Done {
     Ok(())
 }
 
-/// Appends a number behind a space.
+/// Appends a space and a number.
 pub fn push_number(text: &mut String, number: u64) -> Done {
     write!(text, " {number}")
 }

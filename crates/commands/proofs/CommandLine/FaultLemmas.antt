@@ -1,4 +1,4 @@
--- What a refusal comes to.
+-- What a refusal of a command line's words comes to: the fault and the exit status.
 use Rattle.std.proofs.Common.{◌≡◌, List, [], Option, None, inr}
 use Rattle.clap.specs.declared.error.kind.ErrorKind.{ErrorKind}
 use Rattle.commands.specs.declared.command_line.faults.WordsFault.{WordsFault}

@@ -1,4 +1,4 @@
--- Meaning: what the words of the command line ask for.
+-- Meaning: what the words of `othello`'s command line ask for.
 use Rattle.std.specs.Prelude.{◌≤◌, ℕ, Bool, true, false, ◌||◌, List, Option, Some, None, codes, if◌then◌else◌, is_some}
 use Rattle.std.specs.Str.{bytes_eq}
 use Rattle.std.specs.Option.{option_map_or}
@@ -62,7 +62,7 @@ bare_program = record (new_app (codes "othello")) {
 abbrev pub solve_program : App
 solve_program = with_subcommand bare_program solve_shape
 
--- the program with its commands
+-- the program `othello` with its commands solve and serve
 abbrev pub program : App
 program = with_subcommand solve_program serve_shape
 
@@ -85,7 +85,8 @@ serve_with (Some k) (Some p) (Some w) (Some s) None g = None
 serve_with (Some k) (Some p) (Some w) (Some s) (Some n) None = None
 serve_with (Some k) (Some p) (Some w) (Some s) (Some n) (Some g) = Some (Serve k p w s n g)
 
--- whether the words give `--grain` or `--visited`
+-- whether the words of `solve` give the option `--grain` or the flag `--visited`, beside which `--ordered` may not
+-- stand
 abbrev pub has_another : List Row → Bool
 has_another rows = is_some (first_of (codes "grain") rows) || is_set (codes "visited") rows
 
@@ -115,7 +116,7 @@ asked_of (Some named) = command_asked named
 abbrev pub options_asked : List Text → Option Options
 options_asked words = asked_of (subcommand_of program words)
 
--- each option is within its limits
+-- each of these options is within its limits
 abbrev pub AreWithinLimits : Options → Type 0
 AreWithinLimits (Solve grain visited) = grain ≤ 6
 AreWithinLimits SolveOrdered = Unit {0}

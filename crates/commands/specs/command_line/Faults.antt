@@ -1,4 +1,4 @@
--- Meaning: why words are refused, and the exit statuses.
+-- Meaning: why the words of `othello`'s command line are refused, and the exit statuses.
 use Rattle.std.specs.Prelude.{◌≡◌, ◌⊎◌, ℕ, List, [], Option, None}
 use Rattle.clap.specs.Words.{IsAmong, Text, fault_of, kind_of}
 use Rattle.clap.specs.declared.error.kind.ErrorKind.{ErrorKind}
@@ -18,7 +18,7 @@ abbrev pub IsRefusalOf : List ErrorKind → Option Options → WordsFault → Ty
 IsRefusalOf found asked OutOfMemory = Unit {0}
 IsRefusalOf found asked (Refused error) = IsFaultOf found asked (kind_of error)
 
--- these words of the program are refused for a fault that they have, or there was no memory
+-- these words of a command line are refused for a fault that they have, or there was no memory
 abbrev pub IsRefusal : List Text → WordsFault → Type 0
 IsRefusal words fault = IsRefusalOf (fault_of program words) (options_asked words) fault
 

@@ -1,11 +1,11 @@
--- Meaning: the options of the commands that have a number for their value.
+-- Meaning: the options of `othello`'s commands that have a number for their value.
 use Rattle.std.specs.Prelude.{ℕ, Bool, ◌&&◌, ◌++◌, Option, Some, None, List, if◌then◌else◌, codes, decimal, nat_le, option_and_then}
 use Rattle.std.specs.Option.{option_map_or}
 use Rattle.clap.specs.Words.{Row, Rule, Text, first_of, new_rule}
 use Rattle.protocol.specs.Words.{word_number}
 use Rattle.commands.specs.declared.command_line.settings.Setting.{Setting}
 
--- an option with a number: its word, its least and its greatest value, and its default, if it has one
+-- an option with a number: the option's word, the least and the greatest value, and the default, if there is one
 pub record NumberOption : Type 0 where
   pub name : Text
   pub least : ℕ

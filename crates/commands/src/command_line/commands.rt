@@ -1,4 +1,4 @@
-//! The commands as `clap` has them, with what help says of each.
+//! The commands of `othello` as the parser `clap` has them, with what help says of each.
 ghost use Rattle.std.specs.Prelude.{◌≡◌, IfOk, codes, false, is_none};
 ghost use Rattle.clap.specs.Words.{app_of, found_of, new_app, rows_of, rule_of, shape_of, with_rule};
 ghost use Rattle.clap.specs.declared.builder.command.Command.TheViews.{out-Command};
@@ -70,7 +70,7 @@ fn number_arg<'a>(alloc: Global, setting: Setting) -> Arg<'a>
         .help(setting.help)
 }
 
-/// The command `solve`.
+/// The command `solve` of `othello`, with its options, as `clap` parses it.
 fn solve_command<'a>(alloc: Global) -> Result<Command<'a>, AllocError>
     ensures shape { IfOk result (λ command. shape_of command ≡ solve_shape) }
     ensures local { IfOk result (λ command. (out-Command command).has_globals ≡ false) }
@@ -103,7 +103,7 @@ fn flag_arg<'a>(alloc: Global, name: &'static str, help: &'static str) -> Arg<'a
         .help(help)
 }
 
-/// The command `serve`.
+/// The command `serve` of `othello`, with its options, as `clap` parses it.
 fn serve_command<'a>(alloc: Global) -> Result<Command<'a>, AllocError>
     ensures shape { IfOk result (λ command. shape_of command ≡ serve_shape) }
     ensures local { IfOk result (λ command. (out-Command command).has_globals ≡ false) }

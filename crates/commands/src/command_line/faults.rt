@@ -1,4 +1,4 @@
-//! Why the words of the command line are not followed.
+//! Why the words of `othello`'s command line are not followed.
 ghost use Rattle.std.specs.Prelude.{◌≡◌};
 ghost use Rattle.commands.specs.command_line.Faults.{exit_status};
 

@@ -1,4 +1,4 @@
-//! What the words ask for.
+//! What the words of `othello`'s command line ask for.
 ghost use Rattle.std.specs.Prelude.{◌≡◌, [], false, map, true, IfErr, IfOk, None, OnErr, OnOk, Some};
 ghost use Rattle.clap.specs.Words.{fault_of, found_of, kind_of, rows_of, subcommand_rows_of};
 ghost use Rattle.clap.specs.declared.error.kind.ErrorKind.TheVariants.{ValueValidation};
@@ -99,7 +99,7 @@ fn options_given(name: &str, given: &ArgMatches<'_>) -> Result<Options, Missing>
     }
 }
 
-/// The options of `solve`.
+/// The options of `solve` that the words give, or their defaults.
 fn solve_of(given: &ArgMatches<'_>) -> Result<Options, Missing>
     ensures asked { IfOk result (λ options. solve_asked (rows_of (found_of given.now)) ≡ Some options) }
     ensures within { IfOk result AreWithinLimits }
@@ -126,7 +126,7 @@ fn ordered_of(has_another: bool) -> Result<Options, Missing>
     Ok(Options::SolveOrdered)
 }
 
-/// The options of `serve`.
+/// The options of `serve` that the words give, or their defaults.
 fn serve_of(given: &ArgMatches<'_>) -> Result<Options, Missing>
     ensures asked { IfOk result (λ options. serve_asked (rows_of (found_of given.now)) ≡ Some options) }
     ensures within { IfOk result AreWithinLimits }

@@ -1,4 +1,4 @@
-//! The options of the commands that have a number for their value, and their limits.
+//! The options of `othello`'s commands that have a number for their value, and their limits.
 ghost use Rattle.std.specs.Prelude.{◌≡◌, ◌≤◌, IfErr, IfOk, OnErr, is_some};
 ghost use Rattle.clap.specs.Words.{first_of, found_of, rows_of};
 
@@ -30,6 +30,7 @@ impl Display for Setting {
 
     ghost output = { λ setting. Some (limits_text (setting_of setting)) };
 
+    /// What is said where an option's number is outside its limits.
     fn fmt<W: fmt::Write>(&self, f: &mut fmt::Formatter<W>) -> fmt::Result {
         write!(
             f,

@@ -1,4 +1,4 @@
--- Where a job stands in a seat's list.
+-- Where a job stands in a seat's list of what it asked for at a desk.
 use Rattle.std.proofs.Common.{◌≡◌, ℕ, zero, suc, ◌-◌, ◌<◌, ◌≤◌, List, [], ◌∷◌, length, get_or, Some, None, refl, sym, ap, ◌∙◌, arith}
 use Rattle.std.proofs.lemmas.Bool.{ne_eqb}
 use Rattle.hall.specs.declared.desk_rules.asked.SeatAsked.{SeatAsked}

@@ -1,4 +1,4 @@
--- As what an ask can be refused.
+-- By which refusals a seat's ask can be refused at a desk.
 use Rattle.std.proofs.Common.{◌≡◌, ℕ, length, Bool, true, false, Option, Some, None, refl, sym, subst, lit<, Result, Ok, Err}
 use Rattle.std.specs.Prelude.{◌==◌, nat_le, nat_lt, not, Contains, IfErr, if◌then◌else◌}
 use Rattle.cactus_stack.specs.Nodes.{charge}

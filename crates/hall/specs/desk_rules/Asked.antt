@@ -1,4 +1,4 @@
--- Meaning: what was asked for a seat, how its asks and cancels are refused, and what is shown of its jobs.
+-- Meaning: what was asked for a seat at a desk, how its asks and cancels are refused, and what is shown of its jobs.
 use Rattle.std.specs.Prelude.{◌≡◌, ℕ, ◌-◌, ◌==◌, List, [], ◌∷◌, Option, Some, None, Result, Ok, Err, if◌then◌else◌}
 use Rattle.sched_rules.specs.declared.refusal.Refusal.{Refusal}
 use Rattle.sched_rules.specs.declared.refusal.Refusal.TheVariants.{NoTenant, NoSegments, NoNodes, NoJobsLeft, NoJob}

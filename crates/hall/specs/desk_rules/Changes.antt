@@ -1,4 +1,4 @@
--- Meaning: what a worker's step changed that somebody may wait for, and for what a seat waits.
+-- Meaning: what a worker's step changed at a desk that somebody may wait for, and what a seat waits for.
 use Rattle.std.specs.Prelude.{Bool, true, false, Option, Some, None, Result, Ok, Err}
 use Rattle.sched_rules.specs.declared.job.Job.{Job}
 use Rattle.sched_rules.specs.declared.job.Job.TheVariants.{Live, Done as DoneJob, Spent as SpentJob, Cancelled as CancelledJob}
@@ -9,7 +9,7 @@ use Rattle.hall.specs.jamboree_rules.declared.leaf.Leaf.{Leaf}
 use Rattle.hall.specs.declared.desk_rules.change.Change.{Change}
 use Rattle.hall.specs.declared.desk_rules.change.Change.TheVariants.{Nothing, InReady, Job as InJob}
 
--- whether there is a job that hasn't ended
+-- whether there is such a job, and it hasn't ended
 abbrev pub is_some_live : Option Job → Bool
 is_some_live None = false
 is_some_live (Some (Live root)) = true

@@ -1,11 +1,11 @@
--- Meaning: how long a worker that finds the lock taken waits before its next try, in pauses of the processor.
+-- Meaning: how long a worker that finds a desk's lock taken waits before its next try, in pauses of the processor.
 use Rattle.std.specs.Prelude.{ℕ, ◌-◌, ◌*◌, ◌/◌, nat_le, min, max, if◌then◌else◌}
 
--- the wait behind leaves of more than two plies
+-- the wait for the lock behind leaves of more than two plies, in pauses of the processor
 abbrev pub deep_wait : ℕ
 deep_wait = 64
 
--- the wait of a worker without a task
+-- how long a worker without a task waits before it tries the lock again, in pauses of the processor
 abbrev pub idle_wait : ℕ
 idle_wait = 512
 
@@ -18,7 +18,7 @@ nap_wait = 2048
 abbrev pub least_wait : ℕ → ℕ
 least_wait depth = if nat_le depth 2 then 256 else deep_wait
 
--- the longest wait, by the same
+-- the longest wait for the lock after a leaf of this depth, in pauses of the processor
 abbrev pub longest_wait : ℕ → ℕ
 longest_wait depth = if nat_le depth 2 then 32768 else deep_wait
 

@@ -1,4 +1,4 @@
-//! What was asked for a seat, and what is shown of its jobs.
+//! What was asked for a seat at a desk, and what is shown of its jobs.
 ghost use Rattle.std.specs.Prelude.{◌≡◌, option_copied};
 ghost use Rattle.hall.specs.desk_rules.Asked.{seat_asked_at, Shows, IsShownOf};
 
@@ -19,6 +19,7 @@ pub struct SeatAsked {
 
 // Only for the free places of an `ArrayVec`, which need some value.
 impl Default for SeatAsked {
+    /// An empty board to depth 0, as a filler of free places.
     fn default() -> SeatAsked {
         SeatAsked {
             board: Board { own: 0, opp: 0 },

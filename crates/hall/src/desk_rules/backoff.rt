@@ -1,4 +1,4 @@
-//! How long a worker that finds the lock taken waits before it looks again.
+//! How long a worker that finds a desk's lock taken waits before it looks again.
 //!
 //! What touches the hall from several processors in turn takes several times as long as from one. So a worker
 //! that mostly finds the lock taken looks ever more rarely, and meanwhile who has it takes it many times in a
@@ -88,7 +88,7 @@ impl Backoff {
         self.pauses
     }
 
-    /// Whether the wait is a nap.
+    /// Whether the wait is so long that the thread sleeps (naps) instead of counting pauses.
     pub fn is_nap(self) -> bool
         ensures { result ≡ nat_le nap_wait self.pauses }
     {

@@ -1,4 +1,4 @@
-//! What a step of a worker changes that somebody may wait for.
+//! What a worker's step changes at a desk that somebody may wait for.
 ghost use Rattle.std.specs.Prelude.{◌≡◌};
 ghost use Rattle.hall.specs.desk_rules.Changes.{ends_of};
 

@@ -1,10 +1,11 @@
-//! Worked examples of a seat's list and of a worker's waits, computed from the definitions alone.
+//! Worked examples of the list of what a desk's seat asked for and of a worker's waits, computed from the definitions
+//! alone. Waits are in pauses of the processor; jobs count from 1.
 ghost use Rattle.std.specs.Prelude.{◌≡◌, [], ◌∷◌, Some, None};
 ghost use Rattle.hall.specs.declared.desk_rules.asked.SeatAsked.{SeatAsked};
 ghost use Rattle.hall.specs.desk_rules.Asked.{seat_asked_at};
 ghost use Rattle.hall.specs.desk_rules.Waits.{least_wait, longest_wait, eased, doubled};
 
-/// The jobs of a list of two are 1 and 2.
+/// A seat that has asked twice has jobs 1 and 2, and no job 0 or 3.
 pub fn jobs_of_two_asks()
     ensures zero { (first second : SeatAsked) → seat_asked_at (first ∷ second ∷ []) 0 ≡ None }
     ensures one { (first second : SeatAsked) → seat_asked_at (first ∷ second ∷ []) 1 ≡ Some first }

@@ -1,4 +1,4 @@
--- The names that the proofs take of the library, of the crates below and of this crate's definitions, from one place.
+-- The names that the proofs of a worker's rules use, imported in one place.
 pub use Rattle.std.proofs.Common.{Bool, Err, IfOk, List, None, Option, Result, Some, [], arith, eqb, false, if◌then◌else◌, inl, inr, not, refl, replicate}
 pub use Rattle.std.proofs.Common.{subst, sym, true, ℕ, ◌&&◌, ◌++◌, ◌+◌, ◌==◌, ◌∷◌, ◌≡◌, ◌⊎◌}
 pub use Rattle.std.proofs.lemmas.Bool.{cases_Bool, eq-eqb, eqb-true}

@@ -1,4 +1,4 @@
--- Each frame that a worker's step makes ready is named by what the step did.
+-- Each frame that a pool's worker makes ready by a step is named by what the step did.
 use Rattle.jamboree_rules.proofs.PoolRules.Common.{◌≡◌, ℕ, ◌==◌, Bool, true, false, List, [], ◌∷◌, ◌++◌, not, Option, Some, None, Result, Err, IfOk, inl, inr, if◌then◌else◌, refl, sym, subst, replicate, arith, FrameId, Running, frame_at, root_of, IsTree, Act, InletAct, Continuation, Grow, Spawn, Go, Wait, Compute, Return, Refusal, NotSpent, StepOf, Take, Steal, Spend, Functions, Tree, Tenant, words_in, tenant_of, Outcome, unless, at_frame, lone_step, take_tests, steal_tests, taken_by, act_by_sight, advance_tests, advanced, then_done, answer_tests, answered, inlet_tests, inlet_under, taken_in, staying, finish_tests, finished, spent, is_spendable, Leaf, LeafAnswer, Action, Get, Run, Bring, TakeIn, Finish, Holding, Nothing, Next, Computing as IsComputed, GivingUp, readied, task_at, frame_of_action, step_of, offered, frames_of_tenant, IsNoneForgotten, PushesWhatItReadied}
 use Rattle.frame_table.specs.declared.names.State.TheVariants.{Computing}
 use Rattle.jamboree_rules.proofs.PoolRules.ReadyFrames.{TreeFrame, IsReadyIn, ready-with_state, ready-with-other, ready-with_frame_words, ready-without, ready-aborted, ready-without_job, ready-push}

@@ -1,4 +1,4 @@
--- Which frames are ready after a change of a tenant's frames.
+-- Which frames of a tenant are ready after a change of its frames, for the workers of a pool.
 use Rattle.jamboree_rules.proofs.PoolRules.Common.{true, ◌≡◌, ℕ, eqb, Bool, false, List, [], ◌∷◌, ◌++◌, Option, Some, None, ◌⊎◌, inl, inr, refl, arith, cases_Bool, eq-eqb, eqb-true, State, Ready, Frame, frame_at, IsReadyAt, IsTree, AllBelow, with_state, is_ready, aborted, frames_without, new_frame, if_kept, frame_at-left, frame_at-right, frame_at-push, frame_at-without, frame_at-other-without, frame_at-aborted, Tree, with_frame_words, without_job, does_wait}
 
 abbrev pub TreeFrame : Type 0

@@ -1,4 +1,4 @@
--- The task of a worker's turn is of a frame that is ready.
+-- The task of a worker's turn in a pool is of a frame that is ready.
 use Rattle.jamboree_rules.proofs.PoolRules.Common.{◌≡◌, ℕ, ◌+◌, ◌==◌, ◌&&◌, not, Bool, true, false, List, [], ◌∷◌, Option, Some, None, IfOk, if◌then◌else◌, refl, sym, subst, arith, FrameId, Ready, frame_at, AllBelow, Act, InletAct, Continuation, Grow, Spawn, Go, Wait, Compute, Return, NotSpent, StepOf, Take, Steal, Spend, TakenIn, Functions, Tenant, words_in, stored, tenant_of, Outcome, lone_step, take_tests, steal_tests, taken_by, act_by_sight, advance_tests, advanced, then_done, holding, in_state, counted, does_wait, answer_tests, answered, inlet_tests, inlet_under, taken_in, staying, finish_tests, finished, spent, is_spendable, Leaf, LeafAnswer, Action, Get, Run, Bring, TakeIn, Finish, Holding, Nothing, Next, Computing as IsComputed, GivingUp, readied, task_at, frame_of_action, step_of, offered, frames_of_tenant, IsOfAReadyFrame, PushesWhatIsReady}
 use Rattle.jamboree_rules.proofs.PoolRules.ReadyFrames.{TreeFrame, below-with_frame_words, ready-woken, ready-pushed}
 use Rattle.jamboree_rules.proofs.PoolRules.ReadiedLemmas.{unless-taken, frame-taken, taken-at, tenant_of-step_of}

@@ -1,8 +1,8 @@
--- Meaning: the count of computations of a pool, and where it stays.
+-- Meaning: the count of computations (of leaves) of a pool's workers, and where it stays as it is.
 use Rattle.std.specs.Prelude.{ℕ}
 use Rattle.jamboree_rules.specs.declared.pool_rules.count.Computations.{Computations}
 
--- how many were begun
+-- how many computations of leaves were begun in the pool
 abbrev pub begun : Computations → ℕ
 begun computations = computations.begun
 

@@ -1,4 +1,4 @@
--- Meaning: which frames a worker's step makes ready, and that they are its tasks.
+-- Meaning: which frames a worker's step makes ready, and that they are the worker's tasks.
 use Rattle.std.specs.Prelude.{◌≡◌, ℕ, [], Option, Some, None, Ok, IfOk, ◌⊎◌}
 use Rattle.frame_table.specs.Frames.{frame_at, IsReadyAt}
 use Rattle.sched_rules.specs.declared.step.StepOf.{StepOf}
@@ -23,8 +23,8 @@ IsNoneForgotten tenant before after task =
     (serial home : ℕ) → IsReadyAt (frame_at after serial) home →
     IsReadyAt (frame_at before serial) home ⊎ (task ≡ Some (record { frame = record { tenant = tenant; serial = serial }; home = home }))
 
--- where the step that a worker offers with what it holds is taken, on a tenant that has the core to itself, no
--- ready frame is forgotten: each that the step made ready is the task of the worker's turn
+-- a worker's step forgets no ready frame, where it is taken on a tenant that has the core to itself: each frame that
+-- the step made ready is the task of the worker's turn after it
 abbrev pub PushesWhatItReadied : Functions Leaf LeafAnswer → Tenant → ℕ → Holding → StepOf LeafAnswer → Type 0
 PushesWhatItReadied functions tenant worker holding step =
     IfOk (lone functions (Some tenant) step) (λ outcome.

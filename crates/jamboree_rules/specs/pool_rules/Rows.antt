@@ -1,4 +1,4 @@
--- Representation: two frames, on which the definitions are tried.
+-- Representation: two frames of a search, on which the definitions of a worker's turn are tried.
 use Rattle.std.specs.Prelude.{ℕ}
 use Rattle.frame_table.specs.declared.names.FrameId.{FrameId}
 use Rattle.jamboree_rules.specs.declared.pool_rules.task.Task.{Task}
@@ -11,6 +11,6 @@ root = record { tenant = 1; serial = 1 }
 abbrev pub child : FrameId
 child = record { tenant = 1; serial = 2 }
 
--- the task of a frame, at a home
+-- the task of a frame at a home: a worker, or 0 for the hall
 abbrev pub task : FrameId → ℕ → Task
 task frame home = record { frame = frame; home = home }

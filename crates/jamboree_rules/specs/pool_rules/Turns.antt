@@ -1,5 +1,5 @@
--- Meaning: the turn of a worker: the table of what it offers, and of what it holds after each answer.
--- (Cilk 5.4 Reference Manual: work stealing, inlets.)
+-- Meaning: the turn of a pool's worker: the table of what it offers, and of what it holds after each answer. (Cilk 5.4
+-- Reference Manual: work stealing, inlets.)
 use Rattle.std.specs.Prelude.{ℕ, Bool, true, false, ◌==◌, Option, Some, None, Result, Ok, Err, if◌then◌else◌}
 use Rattle.frame_table.specs.declared.names.FrameId.{FrameId}
 use Rattle.sched_rules.specs.declared.refusal.Refusal.{Refusal}
@@ -17,7 +17,7 @@ use Rattle.jamboree_rules.specs.declared.pool_rules.turn.Holding.{Holding}
 use Rattle.jamboree_rules.specs.declared.pool_rules.turn.Holding.TheVariants.{Nothing, Next, Computing, GivingUp}
 use Rattle.jamboree_rules.specs.declared.pool_rules.turn.Turn.{Turn}
 
--- the frame that an action is about
+-- the frame that a worker's action is about
 abbrev pub frame_of_action : Action → FrameId
 frame_of_action (Get task) = task.frame
 frame_of_action (Run frame) = frame
@@ -102,7 +102,7 @@ abbrev pub may_go_on : Refusal → Bool
 may_go_on NotSpent = true
 may_go_on _ = false
 
--- the turn after which a worker holds this, with no task
+-- the turn of a pool's worker that then holds this, and pushes no task
 abbrev pub turn : Holding → Turn
 turn holding = record { holding = holding; task = None }
 

@@ -1,4 +1,4 @@
-//! The count of computations of a pool.
+//! The count of computations (of leaves) of a pool's workers.
 ghost use Rattle.std.specs.Prelude.{◌≡◌, ◌+◌, ◌<◌};
 ghost use Rattle.jamboree_rules.specs.pool_rules.Counts.{begun, greatest_count};
 
@@ -9,7 +9,7 @@ pub struct Computations {
 }
 
 impl Computations {
-    /// The count of a new pool: 0.
+    /// The count of a new pool: 0, as no computation has begun.
     pub fn new() -> Computations
         ensures { begun result ≡ 0 }
     {

@@ -1,5 +1,5 @@
-//! What follows from the table of the worker's turn (`specs/Turns.antt`) and the definitions of steps. The functions
-//! here do nothing: each one's contract is a law, for others to use.
+//! What follows from the table of the turn of a pool's worker (`specs/Turns.antt`) and the definitions of steps. The
+//! functions here do nothing: each one's contract is a law, for others to use.
 ghost use Rattle.std.specs.Prelude.{◌≡◌, ◌+◌, ℕ, Some};
 ghost use Rattle.frame_table.specs.Frames.{AllBelow, IsTree};
 ghost use Rattle.sched_rules.specs.declared.step.StepOf.{StepOf};

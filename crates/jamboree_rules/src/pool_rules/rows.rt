@@ -1,5 +1,5 @@
-//! The table of the worker's turn, tried on small cases: each contract is computed from the definitions
-//! alone.
+//! The table of a pool's worker and its turn, tried on small cases: each contract is computed from the definitions
+//! alone. `Steal 1 0 root` is by worker 1 from home 0 (the hall); `task child 2` is at home at worker 2.
 ghost use Rattle.std.specs.Prelude.{◌≡◌, true, false, Some, None, Ok, Err};
 ghost use Rattle.frame_table.specs.declared.names.FrameId.{FrameId};
 ghost use Rattle.jamboree_rules.specs.declared.leaf.Leaf.{Leaf};

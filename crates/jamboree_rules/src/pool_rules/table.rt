@@ -1,4 +1,4 @@
-//! The table of the worker's turn, row by row.
+//! The table of a pool's worker and its turn (what it offers, what it holds after each answer), row by row.
 ghost use Rattle.std.specs.Prelude.{◌≡◌, Ok, Err, Some};
 ghost use Rattle.jamboree_rules.specs.declared.pool_rules.turn.Holding.TheVariants.{Next, GivingUp};
 ghost use Rattle.jamboree_rules.specs.pool_rules.Turns.{holding_after, readied, task_at, is_short, turn, turn_after};

@@ -1,4 +1,4 @@
-//! Tasks: frames that became ready.
+//! The tasks of a pool's workers: frames that became ready.
 use frame_table::FrameId;
 
 /// A frame that became ready, and the worker whose task it is. It is a hint: the hall may refuse the frame when a

@@ -1,4 +1,4 @@
-//! The turn of a worker: what it holds, and from what the hall answered to what it does next.
+//! The turn of a pool's worker: what it holds, and from what the hall answered to what it does next.
 //!
 //! The table is `specs/Turns.antt`: which step a worker offers for what it is about to do, what it
 //! holds after each answer, and which frame became ready by its step.
@@ -52,7 +52,7 @@ impl Action {
     ghost use Rattle.std.specs.Prelude.{◌≡◌};
     ghost use Rattle.jamboree_rules.specs.pool_rules.Turns.{frame_of_action, step_of};
 
-    /// The frame that it is about.
+    /// The frame that the worker's action is about.
     #[inline(always)]
     pub fn frame(&self) -> FrameId
         ensures { result ≡ frame_of_action self.now }

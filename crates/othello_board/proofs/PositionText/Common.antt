@@ -1,4 +1,4 @@
--- The names that the proofs take of the library, of the crates below and of this crate's definitions, from one place.
+-- The names that the proofs of positions' texts use, imported in one place.
 pub use Rattle.std.proofs.Common.{Bool, IsSome, List, None, Ok, Option, Result, Some, [], ap, arith, below_more, bit_and, cond, get_or, inl, inr, length}
 pub use Rattle.std.proofs.Common.{length-append, map, min, nat_eq, refl, replicate, set, slice_index, subst, suc, sym, w64, zero, ℕ, ◌+◌, ◌<◌, ◌^◌, ◌↔◌, ◌∙◌}
 pub use Rattle.std.proofs.Common.{◌∷◌, ◌≡◌, ◌≢◌, ◌≤◌, ◌⊎◌}

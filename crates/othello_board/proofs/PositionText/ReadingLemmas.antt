@@ -1,4 +1,4 @@
--- What is read of a text, by what it spells.
+-- What is read of an Othello position's text, by what it spells.
 use Rattle.othello_board.proofs.PositionText.Common.{◌≡◌, ◌≢◌, ℕ, zero, suc, ◌+◌, ◌<◌, ◌≤◌, cond, List, [], ◌∷◌, map, Option, Some, None, IsSome, ◌⊎◌, refl, sym, ap, ◌∙◌, arith, inl, inr, get_or, min, bit_and, subst, below_more, slice_index, option_map, range_with_len, eq-eqb, cases_eq, eqb_tells, Cell, squares, cells, cell_of, map-range-same, map-map, cell_at-cells_of, apart, Side, Position, Spells, IsBadCell, IsBadSide, spelled, side_spelled, mark_of_cell, AllSpelled, all_of, marks_of, mover_of, seen_by, bit_at, and_comm, bit_at_and, bit_at-zero, same_from_bits, Mark, mark_at, HoldsFirst}
 
 all_of-some : {X : Type 0} (f : ℕ → X) (xs : List ℕ) → all_of (map (λ s. Some (f s)) xs) ≡ Some (map f xs)

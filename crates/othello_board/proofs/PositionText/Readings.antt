@@ -1,4 +1,4 @@
--- The cells of a board, square by square, and boards with the same cells.
+-- An Othello position's text: the cells of a board, square by square, and boards with the same cells.
 use Rattle.othello_board.proofs.PositionText.Common.{◌≡◌, ℕ, ◌<◌, ◌^◌, cond, nat_eq, min, bit_and, sym, ap, subst, ◌∙◌, arith, ◌↔◌, Bool, List, length, get_or, Some, Result, Ok, refl, ℕ_set, bit_at, bit_at-lt, same_from_bits_below, Cell, Empty, Own, Opp, Board, cell_of, cells, apart, cell_at-cells_of, cell_at, Side, Black, White, Position, TextFault, Disc, Blank, side_spelled, mark_of_cell, Spells, FitsWords, mark_at, HoldsFirst}
 
 -- whether a cell is own, as a bit

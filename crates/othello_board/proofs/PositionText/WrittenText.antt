@@ -1,4 +1,4 @@
--- The written text of a position, byte by byte.
+-- The written text of an Othello position, byte by byte.
 use Rattle.othello_board.proofs.PositionText.Common.{◌≡◌, ◌≢◌, ℕ, ◌<◌, List, length, map, get_or, set, replicate, Some, inl, inr, sym, ◌∙◌, arith, length-append, ext_get_or, get_or_append_left, get_or-append_right, get_or-map, length-map, get_or-replicate, length-replicate, length-set, get_or-set_same, get_or-set_other, cases_lt, cases_eq, cell_at, cells, Side, Position, Mark, Disc, spelled, side_spelled, mark_of_cell, byte_of, written, Spells, length-cells_of}
 
 -- how the cell of a square is written

@@ -1,4 +1,4 @@
--- Representation: what the words of the black and the white discs stand for, while a text is read.
+-- Representation: what the words of the black and the white discs stand for, while a position's text is read.
 use Rattle.std.specs.Prelude.{◌≡◌, ℕ, ◌<◌, ◌≤◌, ◌==◌, if◌then◌else◌, Some, List, slice_index}
 use Rattle.std.specs.Int.{bit_at}
 use Rattle.othello_board.specs.declared.position_text.positions.Side.TheVariants.{Black, White}

@@ -1,4 +1,4 @@
--- Meaning: the numbers of the faults of a text.
+-- Meaning: the numbers of the faults of a position's text.
 use Rattle.std.specs.Prelude.{ℕ}
 use Rattle.othello_board.specs.declared.position_text.faults.TextFault.{TextFault}
 use Rattle.othello_board.specs.declared.position_text.faults.TextFault.TheVariants.{Length, BadCell, BadSide}

@@ -1,4 +1,4 @@
--- Meaning: what a text says, read byte by byte: the marks of its cells, and the side to move.
+-- Meaning: what a position's text says, read byte by byte: the marks of its cells, and the side to move.
 use Rattle.std.specs.Prelude.{ℕ, ◌==◌, if◌then◌else◌, Option, Some, None, List, [], ◌∷◌, map, slice_index}
 use Rattle.std.specs.Option.{option_map}
 use Rattle.std.specs.Str.{byte}

@@ -1,4 +1,4 @@
--- Representation: positions and texts on which the definitions are tried.
+-- Representation: Othello positions and texts on which the definitions are tried.
 use Rattle.std.specs.Prelude.{ℕ, ◌+◌, ◌^◌, List, codes, refl}
 use Rattle.othello_board.specs.declared.position_text.positions.Side.TheVariants.{Black, White}
 use Rattle.othello_board.specs.declared.position_text.positions.Position.{Position}
@@ -10,7 +10,7 @@ opening = record {
   side = Black;
 }
 
--- the opening's discs with White to move
+-- the opening's discs as a position with White to move
 abbrev pub white_to_move : Position
 white_to_move = record {
   board = record { own = 2 ^ 27 + 2 ^ 36; opp = 2 ^ 28 + 2 ^ 35; disjoint = refl };

@@ -1,4 +1,4 @@
--- Meaning: the text of a position: the 64 cells from a1 to h8, row by row, a space, and the side to move.
+-- Meaning: the text of an Othello position: the 64 cells from a1 to h8, row by row, a space, and the side to move.
 use Rattle.std.specs.Prelude.{◌≡◌, ◌≢◌, ℕ, ◌<◌, ◌^◌, ◌⊎◌, ◌==◌, ◌||◌, if◌then◌else◌, Option, Some, None, IsSome, List, [], ◌∷◌, ◌++◌, map, length, slice_index}
 use Rattle.std.specs.Option.{option_and_then}
 use Rattle.std.specs.Str.{byte}
@@ -29,7 +29,7 @@ side_of Blank = None
 abbrev pub side_spelled : ℕ → Option Side
 side_spelled b = option_and_then side_of (spelled b)
 
--- the opponent of a side
+-- the opponent's side: White for Black, Black for White
 abbrev pub other_side : Side → Side
 other_side Black = White
 other_side White = Black
@@ -62,7 +62,7 @@ written p = map (λ cell. byte_of (mark_of_cell p.side cell)) (cells p.board) ++
 abbrev pub FitsWords : Position → Type 0
 FitsWords p = (p.board.own < 2 ^ 64) × (p.board.opp < 2 ^ 64)
 
--- each of the first n bytes spells a cell
+-- each of the first n bytes of a text spells a cell
 abbrev pub AllSpelled : List ℕ → ℕ → Type 0
 AllSpelled text n = (s : ℕ) → s < n → IsSome (spelled (slice_index text s))
 

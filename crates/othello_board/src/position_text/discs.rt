@@ -1,4 +1,4 @@
-//! The discs of a text while it is read: a word for each colour.
+//! The discs of a position's text while it is read: a word for each colour.
 ghost use Rattle.std.specs.Prelude.{◌≡◌, ◌≢◌, ◌<◌, ◌^◌, ℕ, bit_and};
 ghost use Rattle.std.specs.Int.{bit_at};
 
@@ -19,7 +19,7 @@ pub struct Discs {
 impl Discs {
     ghost use Rattle.othello_board.specs.position_text.Discs.{mark_at};
 
-    /// No discs: both words are 0.
+    /// The discs of a board without any: both words are 0.
     pub fn none() -> Discs
         ensures { (result.black ≡ 0) × (result.white ≡ 0) }
     {

@@ -1,4 +1,4 @@
-//! Why a text is no position.
+//! Why a text is no Othello position.
 use thiserror::Error;
 
 /// Why a text is no position: the first of these faults that the text has.

@@ -1,4 +1,4 @@
-//! What follows of spellings: laws, each the contract of a function that is there to state it.
+//! What follows of the spelling of positions: laws, each the contract of a function that is there to state it.
 ghost use Rattle.std.specs.Prelude.{◌≡◌, ℕ, List, map, Ok, Some, None, IsSome};
 ghost use Rattle.othello_board.specs.declared.cells.Cell.{Cell};
 ghost use Rattle.othello_board.specs.Words.{cells};

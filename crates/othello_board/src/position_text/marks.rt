@@ -1,4 +1,4 @@
-//! What one byte of a text spells.
+//! What one byte of a position's text spells.
 ghost use Rattle.std.specs.Prelude.{◌≡◌};
 ghost use Rattle.othello_board.specs.position_text.Spelling.{spelled, side_spelled, mark_of_cell, byte_of, other_side};
 
@@ -47,7 +47,7 @@ pub fn byte_of(mark: Mark) -> u8
     }
 }
 
-/// The opponent of a side.
+/// The opponent's side: White for Black, Black for White.
 fn other_side(side: Side) -> Side
     ensures { result ≡ other_side side }
 {

@@ -1,4 +1,4 @@
-//! A board and whose move it is.
+//! An Othello position: a board and whose move it is.
 use crate::Board;
 
 /// One of the two players, and the colour of that player's discs.

@@ -1,4 +1,4 @@
-//! From a text to its position.
+//! From a text to the Othello position that it spells.
 ghost use Rattle.std.specs.Prelude.{◌≡◌, ◌≢◌, ◌↔◌, ℕ, length, Ok, Err, IfOk, IfErr};
 ghost use Rattle.othello_board.specs.declared.position_text.positions.Position.{Position};
 ghost use Rattle.othello_board.specs.position_text.Spelling.{Spells, FitsWords, IsBadCell, IsBadSide};

@@ -1,4 +1,4 @@
-//! The definitions of texts, tried on the opening: each contract is computed from the definitions alone.
+//! The definitions of positions' texts, tried on the opening: each contract is computed from the definitions alone.
 #![tactic(auto, unfolding(crate::specs::Rules::squares))]
 
 ghost use Rattle.std.specs.Prelude.{◌≡◌, ◌++◌, map, codes, Some, None};

@@ -1,4 +1,4 @@
-//! From a position to its written text.
+//! From an Othello position to its written text.
 ghost use Rattle.std.specs.Prelude.{◌≡◌};
 ghost use Rattle.othello_board.specs.position_text.Spelling.{Spells, written};
 

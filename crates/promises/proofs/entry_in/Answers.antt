@@ -1,3 +1,5 @@
+-- The promise that an entry is true (`entry_in`): the hall's reply to the job has the entry, which is true of what the
+-- job's Submit asked for.
 use Rattle.promises.proofs.HallLemmas.{entry-in}
 use Rattle.promises.proofs.entry_in.Goals as goal
 

@@ -1,3 +1,5 @@
+-- The promise on lists of searches (`run`): there is one answer for each step, and a refusal is for the tenant's own
+-- state or a busy worker.
 use Rattle.promises.proofs.Answered.{if-ok}
 use Rattle.promises.proofs.SearchLists.{as-many-answers, refused-of-searches}
 use Rattle.promises.proofs.run.Goals as goal

@@ -1,3 +1,5 @@
+-- The promise on any lists of steps (`run_any`): there is one answer for each step, and a refusal is for the tenant's
+-- own state or a busy worker.
 use Rattle.promises.proofs.Answered.{as-many, if-ok}
 use Rattle.promises.proofs.Refused.{refused-for-these}
 use Rattle.promises.proofs.run_any.Goals as goal

@@ -1,3 +1,5 @@
+-- The promise on two lists of steps (`run_two`): a tenant whose own taken steps are the same in both is the same after
+-- both, also beside nobody.
 use Rattle.promises.proofs.Isolation.{undisturbed, alone}
 use Rattle.promises.proofs.run_two.Goals as goal
 

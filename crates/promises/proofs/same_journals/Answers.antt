@@ -1,3 +1,4 @@
+-- The promise on journals (`same_journals`): a tenant with the same journal in two halls is in the same state in both.
 use Rattle.promises.proofs.HallLemmas.{same-journals}
 use Rattle.promises.proofs.same_journals.Goals as goal
 

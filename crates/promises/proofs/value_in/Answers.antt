@@ -1,3 +1,5 @@
+-- The promise on values (`value_in`): what a hall tells of a done job is the minimax value and the best choice of what
+-- was asked.
 use Rattle.promises.proofs.Common.{◌∙◌, rules, w32, to_z-of_z, SFits}
 use Rattle.promises.proofs.HallLemmas.{value-of}
 use Rattle.promises.proofs.value_in.Goals as goal

@@ -1,4 +1,4 @@
-//! Frames are opened.
+//! Frames are opened in the core's store.
 ghost use Rattle.std.specs.Prelude.{◌≡◌, ◌+◌, ℕ, true, length, IsSome};
 ghost use Rattle.cactus_stack.specs.Nodes.{charge as charge_of_words};
 ghost use Rattle.frame_table.specs.Frames.{has_parent, name_of};

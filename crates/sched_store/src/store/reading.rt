@@ -1,5 +1,5 @@
-//! The calls that only read: the tests by which steps are decided, and what a core shows. They may be called at any
-//! time, except those for a frame that must be there. None takes memory.
+//! The calls of the core's store that only read: the tests by which steps are decided, and what a core shows. They may
+//! be called at any time, except those for a frame that must be there. None takes memory.
 ghost use Rattle.std.specs.Prelude.{◌≡◌, ◌↔◌, ◌+◌, ◌≤◌, ◌^◌, ℕ, [], length, not, is_some, IfSome, IfNone, IsSome, IsNone, Some, option_copied, option_map};
 ghost use Rattle.frame_table.specs.declared.names.State.TheVariants.{Ready};
 ghost use Rattle.frame_table.specs.Frames.{root_of, IsTree};
@@ -31,7 +31,7 @@ pub struct Sighted<'a> {
 }
 
 impl<A: Allocator> Store<A> {
-    /// Whether a tenant is there.
+    /// Whether a tenant of this number is there.
     #[inline(always)]
     pub fn has_tenant(&self, number: u64) -> bool
         ensures there { result ≡ is_some (tenant_in self.now.tenants number) }

@@ -1,4 +1,4 @@
-//! Frames are removed, and give their segments back.
+//! Frames are removed from the core's store, and give their segments back.
 ghost use Rattle.std.specs.Prelude.{◌≡◌, false, length, IsSome};
 ghost use Rattle.frame_table.specs.Frames.{frames_under};
 ghost use Rattle.sched_rules.specs.Trees.{has_child as has_child_in};

@@ -1,4 +1,4 @@
-//! Tenants come and go, take steps, and have jobs.
+//! Tenants of the core's store come and go, take steps, and have jobs.
 ghost use Rattle.std.specs.Prelude.{◌≡◌, ◌<◌, ◌≤◌, ◌^◌, ℕ, false, length, IsSome, OnOk, OnErr};
 ghost use Rattle.sched_rules.specs.Trees.{job_under as number_under};
 ghost use Rattle.sched_rules.specs.Lone.{counted};

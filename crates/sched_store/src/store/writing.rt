@@ -1,4 +1,4 @@
-//! Frames are written, made longer, and put into other states.
+//! Frames of the core's store are written, made longer, and put into other states.
 ghost use Rattle.std.specs.Prelude.{◌≡◌, ◌+◌, ◌≤◌, ◌++◌, ℕ, true, false, length, replicate, IsSome};
 ghost use Rattle.cactus_stack.specs.Nodes.{IsOpen, node_words, with_node_words, growth_charge as growth_of_words};
 ghost use Rattle.sched_rules.specs.Trees.{stored, is_outside, is_held_by};
@@ -30,7 +30,7 @@ impl<A: Allocator> Store<A> {
         self.store_some(name, stores);
     }
 
-    /// `store_all` without its test for an empty list: the frame is looked up in any case.
+    /// Stores words in a frame that is there, as `store_all` does, but looks the frame up even where the list is empty.
     #[inline(always)]
     fn store_some(&mut self, name: FrameId, stores: &[(usize, u64)])
         requires there { IsSome (named self.old name) }

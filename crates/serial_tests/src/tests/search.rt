@@ -1,3 +1,4 @@
+//! What the tests of boards, lines, searches and sessions use.
 mod alone;
 mod cores;
 mod entered;
@@ -13,7 +14,7 @@ use super::{OPENING, heap_of, holds, left_of, opening};
 use std::alloc::{AllocError, Global};
 use std::process::Abort;
 
-/// Fails the test where this isn't so of one of several cases, and tells which.
+/// Fails the test unless this is true of one of several cases, and tells which case it is.
 fn holds_at(rt: &impl Abort, case: usize, is: bool) {
     assert!(rt; is, "case {case}");
 }
@@ -29,7 +30,7 @@ fn given(block: &mut [u8], bytes: &[u8]) -> usize
     bytes.len()
 }
 
-/// These texts, one after the other.
+/// These texts, one after another, as one text.
 fn joined(alloc: Global, texts: &[&[u8]]) -> Result<Vec<u8>, AllocError> {
     texts.concat(alloc)
 }

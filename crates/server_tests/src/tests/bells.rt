@@ -1,5 +1,5 @@
-//! Whom a site's desk wakes: of sixty-four sessions that wait at once each once its own job ends, or as it is told to end; and none for
-//! another's job.
+//! Tests of whom a site's desk wakes: of sixty-four sessions that wait at once each once its own job ends, or as it is
+//! told to end; and none for another's job.
 use super::holds;
 use super::sites::{amount, seat_of, stock_of};
 use super::trials::{Trial, try_out};
@@ -55,7 +55,7 @@ struct Watch {
 }
 
 impl Watch {
-    /// Nobody has come.
+    /// The counts of a test's waiting threads (who is there, who is back, who is done), before any has come.
     fn new() -> Watch {
         Watch {
             there: AtomicU64::new(0),
@@ -65,7 +65,7 @@ impl Watch {
     }
 }
 
-/// Counts one more.
+/// Counts one thread more, in a count that other threads see.
 fn add(count: &AtomicU64) {
     let _before = count.fetch_add(1, Ordering::SeqCst);
 }
@@ -164,7 +164,7 @@ fn waits<J: SiteNaming, R: Wait>(rt: &R, desk: &SiteDesk<J>, seat: SiteSeat<J>, 
     add(&watch.back);
 }
 
-/// A session waits in a thread of its own.
+/// Starts a thread in which a session waits for its first job.
 fn start<'s, J: SiteNaming + Send + Sync, E, R: Wait + Abort + Sync>(
     scope: &'s Scope<'s, E>,
     rt: &'s R,
@@ -176,7 +176,7 @@ fn start<'s, J: SiteNaming + Send + Sync, E, R: Wait + Abort + Sync>(
     holds(rt, started.is_ok());
 }
 
-/// So many have come, and sleep; none is back.
+/// Fails the test unless so many threads have come and sleep, and none is back.
 fn all_sleep<R: Abort + Clock + CpuClock>(rt: &R, watch: &Watch, many: u64) {
     holds(rt, comes_to(rt, &watch.there, many));
     holds(rt, come_to_rest(rt));
@@ -209,13 +209,14 @@ where
     holds(rt, comes_to(rt, &watch.done, MANY - 1));
 }
 
-/// Whether a session is one of the thirty-two that wait: an odd number of its number's last six bits is set. So of two that differ in one of
-/// these bits one waits.
+/// Whether a session is one of the thirty-two of sixty-four that wait: those whose number has an odd count of 1s among
+/// its last six bits. So of two sessions whose numbers differ in just one of these bits one waits.
 fn is_waiting(number: u32) -> bool {
     (number % LAST).count_ones() % 2 == 1
 }
 
-/// Jobs of a session that doesn't wait end, by a worker and by its own word.
+/// A session that doesn't wait asks for jobs, and they end one by one: in each turn one by a worker, and one by its own
+/// cancel.
 fn end_own<J: SiteNaming, R: Wait + Abort + Clock>(
     rt: &R,
     desk: &SiteDesk<J>,
@@ -232,7 +233,8 @@ fn end_own<J: SiteNaming, R: Wait + Abort + Clock>(
     }
 }
 
-/// Half of them wait, and jobs of the others end: meanwhile those who wait sleep. Then the desk is closed, and all are back.
+/// Half of the sessions wait, and jobs of the others end: meanwhile those who wait sleep. Then the desk is closed, and
+/// all are back.
 fn end_others<'s, J: SiteNaming + Send + Sync, E, R>(
     scope: &'s Scope<'s, E>,
     rt: &'s R,
@@ -264,7 +266,7 @@ where
     holds(rt, comes_to(rt, &watch.done, 0));
 }
 
-/// Sixty-four sessions wait in threads of their own.
+/// Sixty-four sessions wait at a site's desk in threads of their own, and each is woken for its own job.
 pub(super) fn all_are_woken<J: SiteNaming + Send + Sync, R>(rt: &R, desk: &SiteDesk<J>)
 where
     R: Wait + Abort + Threads + Clock + CpuClock + Sync,
@@ -275,7 +277,8 @@ where
     });
 }
 
-/// Each of sixty-four sessions that wait is back once its job is done, and the one that is told to end by that.
+/// Of sixty-four sessions that wait at a site's desk each is woken once its own job is done; the last of them is told
+/// to end, and is woken by that.
 #[test]
 fn each_session_is_woken_for_its_own_job(rt: HostRuntime) {
     try_out(&rt, stock_for_all(&rt, rt.alloc()), Trial::AllAreWoken);
@@ -293,7 +296,7 @@ where
     });
 }
 
-/// Thirty-two sessions sleep while they wait, whatever jobs of others end.
+/// Thirty-two sessions at a site's desk sleep while they wait, whatever jobs of others end.
 #[test]
 fn nobody_is_woken_for_anothers_job(rt: HostRuntime) {
     try_out(&rt, stock_for_all(&rt, rt.alloc()), Trial::OthersEnd);

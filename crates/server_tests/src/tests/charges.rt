@@ -1,4 +1,5 @@
-//! What tenants owe for what a worker does under one lock: each is charged for it before anything is picked.
+//! Tests of what a site's tenants owe for what a worker does under one lock: each is charged for it before anything is
+//! picked.
 use super::bells::{OPENING, stock_for_all};
 use super::holds;
 use super::sites::seat_of;
@@ -79,6 +80,7 @@ pub(super) fn both_are_served<J: SiteNaming, R: Wait + Abort + AllocGlobal>(
     let _task = picked(rt, desk, 2);
 }
 
+/// A guest's answer cost 5: it is charged under the same lock, so the guest that was served less is picked next.
 #[test]
 fn who_was_served_owes_it(rt: HostRuntime) {
     try_out(&rt, stock_for_all(&rt, rt.alloc()), Trial::BothAreServed);

@@ -1,4 +1,5 @@
-//! Of a site's desk with several sessions: each call is made for its own session's tenant, and changes no neighbour's.
+//! Tests of a site's desk with several sessions: each call is made for its own session's tenant, and changes no
+//! neighbour's.
 use super::bells::{OPENING, stock_for_all};
 use super::holds;
 use super::sites::{amount, seat_of, stock_of};
@@ -11,12 +12,12 @@ use std::process::Abort;
 use std::sync::Wait;
 use tenant_quota::{Left, Reserve};
 
-/// A guest's seat.
+/// The seat of a guest of this number at the desk.
 fn guest<J: SiteNaming, R: Wait + Abort>(rt: &R, desk: &SiteDesk<J>, number: u32) -> SiteSeat<J> {
     seat_of(rt, desk, Who::V4(number), 1_000).expect(rt, "there is room")
 }
 
-/// Whether a session has this left, and so many frames.
+/// Whether a session's tenant has this left of its reservation, and so many frames.
 fn has_left<J: SiteNaming, R: Wait>(
     rt: &R,
     desk: &SiteDesk<J>,
@@ -55,6 +56,8 @@ pub(super) fn told_of_their_own<J: SiteNaming, R: Wait + Abort>(rt: &R, desk: &S
     holds(rt, has_left(rt, desk, &mut third, left_of(2, 1), 1));
 }
 
+/// Of three sessions, one asks nothing, one asks once and one asks twice and cancels once: each is told of its own
+/// quota and frames.
 #[test]
 fn each_session_is_told_of_its_own(rt: HostRuntime) {
     try_out(&rt, stock_for_all(&rt, rt.alloc()), Trial::ToldTheirOwn);
@@ -89,6 +92,7 @@ pub(super) fn one_raises<J: SiteNaming, R: Wait + Abort>(rt: &R, desk: &SiteDesk
     holds(rt, has == amount(1, 16, 160));
 }
 
+/// A session's raise and Leave change nothing for its neighbour.
 #[test]
 fn a_raise_and_a_leave_are_ones_own(rt: HostRuntime) {
     try_out(&rt, stock_for_two(&rt, rt.alloc()), Trial::OneRaises);
@@ -109,12 +113,13 @@ pub(super) fn sixty_six_come<J: SiteNaming, R: Wait + Abort>(rt: &R, desk: &Site
     holds(rt, has_left(rt, desk, &mut own, left_of(1, 1), 1));
 }
 
+/// 64 sessions came and left; of the two that come then, each is told of its own.
 #[test]
 fn the_sixty_sixth_session_is_its_own(rt: HostRuntime) {
     try_out(&rt, stock_for_all(&rt, rt.alloc()), Trial::SixtySixCome);
 }
 
-/// So many named customers that may have a session each.
+/// The budgets of so many named customers that may have a session each.
 fn named(rt: &impl Abort, alloc: Global, many: u32, each: Amount) -> Vec<Amount> {
     let mut customers = Vec::new(alloc);
     for _ in 0..many {
@@ -159,6 +164,7 @@ pub(super) fn twelve_give_back<J: SiteNaming, R: Wait + Abort>(rt: &R, desk: &Si
     }
 }
 
+/// Twelve named customers come in turn, each by its own budget, and give back all as they leave.
 #[test]
 fn twelve_customers_give_back_all(rt: HostRuntime) {
     try_out(
@@ -197,6 +203,7 @@ pub(super) fn a_plan_comes<J: SiteNaming, R: Wait + Abort + AllocGlobal>(
     holds(rt, may == amount(1, 4, 40));
 }
 
+/// A plan that gives twelve customers less is refused while the tenth has more, and comes in once its session has left.
 #[test]
 fn a_plan_comes_in_whole(rt: HostRuntime) {
     try_out(&rt, stock_for_twelve(&rt, rt.alloc()), Trial::PlanComes);
@@ -214,12 +221,13 @@ pub(super) fn one_is_told<J: SiteNaming, R: Wait + Abort>(rt: &R, desk: &SiteDes
     );
 }
 
+/// The operator tells the second of three sessions to end: that one alone doesn't stay.
 #[test]
 fn one_of_three_is_told(rt: HostRuntime) {
     try_out(&rt, stock_for_all(&rt, rt.alloc()), Trial::OneIsTold);
 }
 
-/// The desks of two halls.
+/// What the desks of two halls of a site are made of.
 fn stocks_of_two(rt: &impl Abort, alloc: Global) -> Vec<SiteStock> {
     let mut stocks = Vec::new(alloc);
     for _ in 0..2u8 {
@@ -261,6 +269,7 @@ pub(super) fn strangers_are_refused<J: SiteNaming, R: Wait + Abort>(rt: &R, desk
     holds(rt, own.roll(rt).len() == 1 && other.roll(rt).len() == 1);
 }
 
+/// A seat of one desk of a site is nobody's at another desk, though that has a session of its number.
 #[test]
 fn a_seat_is_its_own_desks(rt: HostRuntime) {
     try_all(&rt, stocks_of_two(&rt, rt.alloc()), Trial::Strangers);
@@ -287,6 +296,7 @@ pub(super) fn two_leave<J: SiteNaming, R: Wait + Abort>(rt: &R, desks: &[SiteDes
     );
 }
 
+/// Two sessions that left one desk can be compared, and neither with one that left another desk.
 #[test]
 fn two_that_left_are_compared(rt: HostRuntime) {
     try_all(&rt, stocks_of_two(&rt, rt.alloc()), Trial::TwoLeave);

@@ -1,5 +1,5 @@
-//! Sessions over TCP, server and clients in one process. What each session is told is known beforehand, whatever else
-//! the server does.
+//! Tests of sessions over TCP, server and clients in one process. What each session is told is known beforehand,
+//! whatever else the server does.
 ghost use Rattle.std.specs.Prelude.{◌≡◌};
 
 mod doors;
@@ -172,7 +172,7 @@ fn has_asked(stream: &TcpStream, number: usize) -> bool {
         && is_answered(stream, (second.0, "JOB 2\n"))
 }
 
-/// Whether it is told of its second job and its first.
+/// Whether the session on this connection is told of its second job and its first.
 fn is_told_of_its_own(stream: &TcpStream, number: usize) -> bool {
     let (first, second) = (&JOBS[number % 4], &JOBS[number / 4 % 4]);
     is_answered(stream, ("WAIT 2\n", second.2))
@@ -224,7 +224,7 @@ enum Trial {
     Unnamed,
 }
 
-/// Whether all is as it should be where this is tried at this desk and this listener.
+/// Whether the server does as it should in this trial, at this desk and with this listener.
 fn is_tried<L: DeskLedger + Send + Sync, R>(
     rt: &R,
     desk: Desk<L>,
@@ -248,7 +248,7 @@ where
     }
 }
 
-/// The same at a new desk over this ledger, and a listener of its own.
+/// Whether the server does as it should in this trial, at a new desk over this hall and with a listener of its own.
 fn is_well_at<L: DeskLedger + Send + Sync, R>(
     rt: &R,
     hall: Hall,
@@ -267,7 +267,7 @@ where
     is_tried(rt, desk, listener_of(rt), trial)
 }
 
-/// The same at a hall of this grain.
+/// Whether the server does as it should in this trial, at a new hall of this grain.
 fn is_well<R>(rt: &R, grain: u8, trial: Trial) -> bool
 where
     R: Net<Listener = TcpListener, Stream = TcpStream> + Host + Clock + CpuClock + Sync,
@@ -278,12 +278,12 @@ where
     is_well_at::<Brand, R>(rt, hall, Blank::new(PARTS), opened, trial)
 }
 
-/// A listener of its own.
+/// A new listener on a free port of 127.0.0.1.
 fn listener_of<R: Net<Listener = TcpListener, Stream = TcpStream> + Abort>(rt: &R) -> TcpListener {
     TcpListener::bind(rt, "127.0.0.1:0").expect(rt, "a listener")
 }
 
-/// Where it listens.
+/// The address at which a listener listens.
 fn address_of(rt: &impl Abort, listener: &TcpListener) -> SocketAddr {
     listener.local_addr().expect(rt, "an address")
 }
@@ -301,12 +301,12 @@ fn come<R: Net<Stream = TcpStream>>(rt: &R, address: SocketAddr) -> Option<TcpSt
     Some(stream)
 }
 
-/// The same where somebody listens.
+/// A connection to a server that listens, on which a read that takes longer than ten seconds fails.
 fn visitor<R: Net<Stream = TcpStream> + Abort>(rt: &R, address: SocketAddr) -> TcpStream {
     come(rt, address).expect(rt, "a connection")
 }
 
-/// So many such connections.
+/// So many connections to a server that listens.
 fn visitors<R: Net<Stream = TcpStream> + Host>(
     rt: &R,
     address: SocketAddr,
@@ -329,7 +329,7 @@ fn is_whole<L: DeskLedger>(desk: Desk<L>, served: Result<PoolEnd<Badge<L>>, Serv
     }
 }
 
-/// Why a server failed.
+/// The fault with which a server ends that is started so; None where it ends well.
 fn fault_of<L: DeskLedger + Send + Sync, R: Net + Threads + Wait + Sync, N>(
     rt: &R,
     alloc: Global,
@@ -352,16 +352,20 @@ where
     is_well(rt, grain, Trial::Attended(visit, sessions, workers))
 }
 
+/// Two sessions at once, of 2 that the server serves, by 2 workers, are each told what they would be told alone.
 #[test]
 fn two_at_once_are_served_as_each_alone(rt: HostRuntime) {
     holds(&rt, is_content(&rt, 0, Visit::Both, 2, 2));
 }
 
+/// Of 2 sessions that the server serves, by 2 workers, one loses its connection while it waits: it gives back all that
+/// it had reserved.
 #[test]
 fn a_lost_connection_gives_all_back(rt: HostRuntime) {
     holds(&rt, is_content(&rt, 0, Visit::Lost, 2, 2));
 }
 
+/// Sixty-four TCP sessions at once, by 2 workers, at grain 0, are each told of their own jobs.
 #[test]
 fn sixty_four_are_told_of_their_own(rt: HostRuntime) {
     holds(&rt, is_content(&rt, 0, Visit::Many, 64, 2));
@@ -379,6 +383,7 @@ struct Counted<'a> {
 impl Announce for Counted<'_> {
     ghost says = { λ _ _ _. Unit {0} };
 
+    /// Counts that the pool has begun, and says whether it may go on.
     fn announce(&mut self) -> bool {
         self.count.fetch_add(1, Ordering::SeqCst);
         self.works
@@ -421,13 +426,13 @@ fn is_said_so(works: bool, fault: &Option<ServeFault>, said: u32) -> bool {
     }
 }
 
-/// Nothing is said, and the listener is closed.
+/// A server whose pool can't begin announces nothing, and its listener is closed.
 #[test]
 fn nothing_is_said_where_the_pool_cannot_begin(rt: HostRuntime) {
     holds(&rt, is_well(&rt, 0, Trial::Unserved(true)));
 }
 
-/// It was tried once, and the listener is closed.
+/// A server whose beginning can't be announced ends: it was tried once, and the listener is closed.
 #[test]
 fn a_beginning_that_cannot_be_said_ends_the_server(rt: HostRuntime) {
     holds(&rt, is_well(&rt, 0, Trial::Unserved(false)));
@@ -460,6 +465,7 @@ fn are_closed(streams: &[TcpStream]) -> bool {
     true
 }
 
+/// A connection for which no thread can be started is closed, and counts as one that was served.
 #[test]
 fn a_connection_without_a_thread_is_closed_and_counts(rt: HostRuntime) {
     holds(&rt, is_well(&rt, 0, Trial::Threadless));

@@ -1,4 +1,5 @@
-//! A site's sessions over a desk without workers: bytes in, bytes out, and a clock that goes on by a step at each look.
+//! Tests of a site's sessions over a desk without workers: bytes in, bytes out, and a clock that goes on by a step at
+//! each look.
 ghost use Rattle.std.specs.Prelude.{◌≡◌};
 
 use super::trials::{Trial, try_out};
@@ -28,7 +29,7 @@ const SCHOOL: Who = Who::Named(0);
 
 const TOKEN: &[u8] = b"sesame";
 
-/// An amount.
+/// An amount of so many sessions, segments and nodes.
 pub(super) fn amount(sessions: u32, segments: u64, nodes: u64) -> Amount
     ensures { result ≡ record { sessions = sessions; segments = segments; nodes = nodes } }
 {
@@ -64,7 +65,7 @@ pub(super) fn stock_of(
     Some(SiteStock::new(hall, book, shares, opened, granted))
 }
 
-/// A list of one.
+/// A list of this one element.
 pub(super) fn only<T: Drop>(rt: &impl Abort, alloc: Global, one: T) -> Vec<T> {
     let mut all = Vec::new(alloc);
     holds(rt, all.push(one).is_ok());
@@ -95,7 +96,7 @@ struct TestEnvironment<'a, J: SiteNaming, R> {
     told: Vec<u8>,
 }
 
-/// A letter for what an environment is told.
+/// The letter that a test writes for a note that the office makes in its environment.
 fn letter(note: Note) -> u8 {
     match note {
         Note::Begins(_, Who::Named(_)) => b'N',
@@ -115,15 +116,19 @@ fn letter(note: Note) -> u8 {
 }
 
 impl<J: SiteNaming, R: Wait> Environment for TestEnvironment<'_, J, R> {
+    /// The clock goes on by a step at each look.
     fn now(&self) -> u64 {
         self.now.set(self.now.get().saturating_add(self.step));
         self.now.get()
     }
 
+    /// A guest may say nothing for a minute (60,000 milliseconds).
     fn guest_idle(&self) -> u64 {
         60_000
     }
 
+    /// The connection's own customer without a token, the school by its token, and nobody by any other; crowded where
+    /// the test says so.
     fn identify(&mut self, token: Option<&[u8]>) -> Identity {
         if self.is_crowded {
             return Identity::Crowded;
@@ -135,12 +140,14 @@ impl<J: SiteNaming, R: Wait> Environment for TestEnvironment<'_, J, R> {
         }
     }
 
+    /// Whether a line is left of those that are paid for.
     fn pay(&mut self, _who: Who) -> bool {
         let passes = self.paid > 0;
         self.paid = self.paid.saturating_sub(1);
         passes
     }
 
+    /// Keeps a letter for what it is told; where it is to tell others to end, the other session leaves.
     fn note(&mut self, note: Note) {
         let _ = self.told.push(letter(note));
         if let Note::Tells(_) = note {
@@ -151,7 +158,7 @@ impl<J: SiteNaming, R: Wait> Environment for TestEnvironment<'_, J, R> {
     }
 }
 
-/// An environment for a connection of a guest.
+/// What an office in a test asks of the site around it, where its connection is a guest's.
 fn environment<'a, J: SiteNaming, R: AllocGlobal>(
     rt: &'a R,
     desk: &'a SiteDesk<J>,
@@ -199,7 +206,7 @@ fn plays<J: SiteNaming, R: Wait + Clock + Abort + AllocGlobal>(
     holds(rt, spell(&noted, told));
 }
 
-/// Plays a session over a guest's connection.
+/// Plays a session over a guest's connection, and compares what is said with what should be.
 fn guest_plays<J: SiteNaming, R: Wait + Clock + Abort + AllocGlobal>(
     rt: &R,
     desks: &[SiteDesk<J>],
@@ -209,7 +216,7 @@ fn guest_plays<J: SiteNaming, R: Wait + Clock + Abort + AllocGlobal>(
     plays(rt, desks, environment(rt, desk), talk);
 }
 
-/// A seat of a customer that came then.
+/// The seat at a site's desk of a customer that came at this time.
 pub(super) fn seat_of<J: SiteNaming, R: Wait + Abort>(
     rt: &R,
     desk: &SiteDesk<J>,
@@ -229,7 +236,7 @@ pub(super) fn seat_of<J: SiteNaming, R: Wait + Abort>(
     }
 }
 
-/// Whose seat this is leaves.
+/// The session that has this seat leaves the desk.
 fn leaves<J: SiteNaming, R: Wait + Abort>(rt: &R, desk: &SiteDesk<J>, seat: Option<SiteSeat<J>>) {
     let _trace = desk.leave(rt, seat.expect(rt, "a seat"));
 }
@@ -241,7 +248,7 @@ const WHOLE: Talk = (
     "bBbE",
 );
 
-/// One guest's session, behind which nobody is there.
+/// Plays one guest's session, behind which nobody is there.
 pub(super) fn a_guest_plays<J: SiteNaming, R: Wait + Clock + Abort + AllocGlobal>(
     rt: &R,
     desks: &[SiteDesk<J>],
@@ -251,6 +258,7 @@ pub(super) fn a_guest_plays<J: SiteNaming, R: Wait + Clock + Abort + AllocGlobal
     holds(rt, desk.roll(rt).is_empty());
 }
 
+/// A guest's session from its first line to BYE, by its bytes.
 #[test]
 fn a_guests_session(rt: HostRuntime) {
     try_out(&rt, stock_of_school(&rt, rt.alloc()), Trial::GuestsSession);
@@ -270,7 +278,7 @@ const OWN_AGAIN: Talk = (
     "btbBE",
 );
 
-/// The school's session, and then a guest's.
+/// Two sessions over a guest's connection: the first says the school's token, and the second is a guest's again.
 pub(super) fn tokens_are_said<J: SiteNaming, R: Wait + Clock + Abort + AllocGlobal>(
     rt: &R,
     desks: &[SiteDesk<J>],
@@ -280,7 +288,8 @@ pub(super) fn tokens_are_said<J: SiteNaming, R: Wait + Clock + Abort + AllocGlob
     guest_plays(rt, desks, desk, OWN_AGAIN);
 }
 
-/// A token says whose a session is; one that nobody has is refused, and then the connection is its own again.
+/// A token in HELLO says whose a session is. One that nobody has is refused, and then the connection counts for itself
+/// again.
 #[test]
 fn whose_a_session_is(rt: HostRuntime) {
     try_out(&rt, stock_of_school(&rt, rt.alloc()), Trial::Tokens);
@@ -311,7 +320,7 @@ pub(super) fn lines_are_paid<J: SiteNaming, R: Wait + Clock + Abort + AllocGloba
     plays(rt, desks, crowded, CROWDED);
 }
 
-/// Lines that ask for a reservation are paid for, and no others.
+/// HELLO and RESERVE, which ask for a reservation, are charged to the customer's rate of lines, and no other lines are.
 #[test]
 fn lines_that_are_paid_for(rt: HostRuntime) {
     try_out(&rt, stock_of_school(&rt, rt.alloc()), Trial::PaidLines);
@@ -320,7 +329,7 @@ fn lines_that_are_paid_for(rt: HostRuntime) {
 /// A guest has its place once another one has left.
 const SEATED: Talk = ("HELLO 8 80\nBYE\n", "WELCOME 8 80\nBYE\n", "TBE");
 
-/// Of two guests one is idle, and leaves once it is told.
+/// Of two guests at a site's desk one is idle, and leaves once it is told to end for a third.
 pub(super) fn one_goes<J: SiteNaming, R: Wait + Clock + Abort + AllocGlobal>(
     rt: &R,
     desks: &[SiteDesk<J>],
@@ -336,7 +345,8 @@ pub(super) fn one_goes<J: SiteNaming, R: Wait + Clock + Abort + AllocGlobal>(
     leaves(rt, desk, busy);
 }
 
-/// Where all guests' places are taken the one goes that has been idle for longest, and the comer has its place once that has left.
+/// Where all places of guests are taken, the guest that has been idle for longest is told to end for one that comes,
+/// who has its place once that guest has left.
 #[test]
 fn a_guest_goes_for_another(rt: HostRuntime) {
     try_out(&rt, stock_of_school(&rt, rt.alloc()), Trial::OneGoes);
@@ -367,7 +377,8 @@ pub(super) fn nobody_goes<J: SiteNaming, R: Wait + Clock + Abort + AllocGlobal>(
     holds(rt, desk.roll(rt).is_empty());
 }
 
-/// Who waits for one that doesn't leave gives up after 2 seconds of the clock; and nobody goes where none is idle.
+/// One that waits for a guest which doesn't leave gives up after 2 seconds of the clock; and no guest is told to end
+/// where none is idle.
 #[test]
 fn a_guest_that_does_not_leave(rt: HostRuntime) {
     try_out(&rt, stock_of_school(&rt, rt.alloc()), Trial::NobodyGoes);

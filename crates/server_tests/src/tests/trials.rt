@@ -1,4 +1,4 @@
-//! What is tried at a site's desk. Each test has a desk of its own, whose history is named by the call that makes it.
+//! For tests at a site's desk. Each test has a desk of its own, whose history is named by the call that makes it.
 ghost use Rattle.site_desk.specs.Stocks.{AreStocked};
 
 use super::sites::only;
@@ -32,7 +32,7 @@ pub(super) enum Trial {
     BothAreServed,
 }
 
-/// Tries something at the desk that is made of this.
+/// Does this trial at a new site's desk, made of this stock (a hall, a book and its plan).
 pub(super) fn try_out<R>(rt: &R, stock: SiteStock, trial: Trial)
 where
     R: Wait + Abort + Threads + Clock + CpuClock + AllocGlobal + Sync,
@@ -40,7 +40,7 @@ where
     try_all(rt, only(rt, rt.alloc(), stock), trial);
 }
 
-/// The same, at the first of the desks that are made of these.
+/// Does this trial at the first of several new desks of a site, made of these stocks.
 pub(super) fn try_all<R>(rt: &R, stocks: Vec<SiteStock>, trial: Trial)
 where
     R: Wait + Abort + Threads + Clock + CpuClock + AllocGlobal + Sync,
@@ -48,7 +48,7 @@ where
     try_at::<Brand, R>(rt, stocks, trial);
 }
 
-/// The same, where the histories have a name.
+/// Tries something at the first of the desks that are made of these, where the desks' histories have a name.
 fn try_at<J: SiteNaming + Send + Sync, R>(rt: &R, stocks: Vec<SiteStock>, trial: Trial)
 where
     R: Wait + Abort + Threads + Clock + CpuClock + AllocGlobal + Sync,
@@ -59,7 +59,7 @@ where
     is_tried(rt, desks.as_slice(), &desks[0], trial);
 }
 
-/// What is tried at this desk, of these.
+/// Does this trial at a site's desk, the first of these desks.
 fn is_tried<J: SiteNaming + Send + Sync, R>(
     rt: &R,
     desks: &[SiteDesk<J>],

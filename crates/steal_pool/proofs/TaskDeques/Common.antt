@@ -1,4 +1,4 @@
--- The names that the proofs take of the library, of the crates below and of this crate's definitions, from one place.
+-- The names that the proofs of the pool's task deques use, imported in one place.
 pub use Rattle.std.proofs.Common.{All, IfNone, IfSome, List, None, Option, Some, [], add-one, ap, append_assoc, arith, drop, get_or, inl, inr, length, map}
 pub use Rattle.std.proofs.Common.{refl, rules, set, subst, suc, sum_by, sym, take, vec_capacity, vec_len, zero, ℕ, ◌*◌, ◌++◌, ◌+◌, ◌-◌, ◌<◌, ◌∙◌, ◌∷◌, ◌≡◌, ◌≤◌}
 pub use Rattle.std.proofs.Math.Seq.{map-set_same}

@@ -1,4 +1,4 @@
--- The seats of thieves are joined to the owners'.
+-- The pool's task deques: the seats of thieves are joined to the owners' at the end.
 use Rattle.steal_pool.proofs.TaskDeques.Common.{◌≡◌, ℕ, zero, suc, ◌+◌, ◌<◌, ◌≤◌, List, [], ◌∷◌, ◌++◌, length, map, take, drop, set, get_or, All, sym, refl, ap, ◌∙◌, subst, arith, add-one, vec_len, length-map, map-set, drop_more, drop-set-lt, get_or-map, take-append-drop, All-head, All-tail, All-cons, All-map, Owner, Thief, Returned, DequeIn, DequeSeatIn, owner_seat, thief_seat, joined, WorkerSeatsIn, PostsIn, owner_seats, thief_seats, deques, posts_of, with_row, with_rows, zip_seats, whole_deques, returned, IsWhole}
 
 -- seats at deques

@@ -1,4 +1,5 @@
--- Each kind of step keeps the rule of a deque.
+-- The pool's task deques: each kind of step (push, pop, steal) keeps the rule of a deque, that each task is taken
+-- once.
 use Rattle.steal_pool.proofs.TaskDeques.Common.{◌≡◌, ℕ, ◌+◌, ◌-◌, ◌<◌, List, [], ◌∷◌, ◌++◌, set, refl, arith, some, get_elem?, Pushes, Takes, Pops, Finds, Forks, Merges, Learns, Tally, Task, tally, weigh, IsEmptied, IsEachOnce}
 use Rattle.steal_pool.proofs.TaskDeques.TallyLemmas.{weigh-append, total-snoc, total-set, alone, idle-set, idle-snoc}
 

@@ -1,4 +1,5 @@
--- Seats in lists: one of them steals, a part of each is cut off, and they are dealt to workers.
+-- The pool's task deques: seats in lists, of which one steals, a part of each is cut off, and they are dealt to
+-- workers.
 use Rattle.steal_pool.proofs.TaskDeques.Common.{◌≡◌, ℕ, zero, suc, ◌+◌, ◌-◌, ◌<◌, List, [], ◌∷◌, ◌++◌, length, map, take, drop, set, get_or, All, Option, Some, None, IfSome, IfNone, sym, refl, ap, ◌∙◌, subst, arith, append_assoc, map-set, get_or-map, length-map, map_push, map_more, map_over_more, map-set_same, All-head, All-tail, All-map, Task, Owner, Thief, DequeEnds, tally, DequeIn, DequeSeatIn, owner_seat, owner_room, thief_seat, with_taken, with_part_cut, new_thief, WorkerSeatsIn, PostsIn, owner_seats, thief_seats, deques, worker_seats, worker_room, posts_of, posts, IsStolen, IsDealt, IsWhole, fresh_with, beside}
 use Rattle.steal_pool.proofs.TaskDeques.JoinLemmas.{Seats, all-unmapped}
 

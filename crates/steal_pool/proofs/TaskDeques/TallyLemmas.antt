@@ -1,4 +1,4 @@
--- Sums over the seats of a deque.
+-- The pool's task deques: sums over what the seats of a deque pushed and took.
 use Rattle.steal_pool.proofs.TaskDeques.Common.{◌≡◌, ℕ, zero, suc, ◌+◌, ◌≤◌, List, [], ◌∷◌, ◌++◌, length, set, sym, refl, ap, arith, some, some-injective, some-ne-none, get_elem?, at_set, at_snoc, Tally, Task, weigh, total, IdleIsEmpty}
 
 pub weigh-append : (h : Task → ℕ) (xs ys : List Task) → weigh h (xs ++ ys) ≡ weigh h xs + weigh h ys

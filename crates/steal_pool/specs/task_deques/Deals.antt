@@ -1,4 +1,5 @@
--- Meaning: what contracts see of the ends of workers: the seats that each has, and when all seats of all deques are there.
+-- Meaning: what contracts see of the ends of a pool's deques that workers have: the seats that each has, and when all
+-- seats of all deques are there.
 use Rattle.std.specs.Prelude.{◌≡◌, ℕ, ◌+◌, ◌-◌, ◌⊎◌, List, [], ◌∷◌, ◌++◌, length, map, All}
 use Rattle.std.specs.declared.alloc.Global.{Global}
 use Rattle.jamboree_rules.specs.declared.pool_rules.task.Task.{Task}

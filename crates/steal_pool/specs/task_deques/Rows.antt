@@ -1,4 +1,4 @@
--- Representation: two workers' seats, on which the definitions are tried.
+-- Representation: two workers' seats at a pool's deques, on which the definitions are tried.
 use Rattle.std.specs.Prelude.{ℕ, List, [], ◌∷◌}
 use Rattle.jamboree_rules.specs.declared.pool_rules.task.Task.{Task}
 use Rattle.steal_pool.specs.task_deques.Tallies.{tally}
@@ -13,7 +13,7 @@ worker_task serial = record { frame = record { tenant = 1; serial = serial }; ho
 abbrev pub seat : Deque → ℕ → List Task → List Task → DequeSeat
 seat deque parts pushed taken = record { deque = deque; tally = tally parts pushed taken }
 
--- new seats of thieves at two deques
+-- the new seats of a worker's thieves at two deques, each with one part
 abbrev pub two_thieves : Deque → Deque → List DequeSeat
 two_thieves one two = seat one 1 [] [] ∷ seat two 1 [] [] ∷ []
 

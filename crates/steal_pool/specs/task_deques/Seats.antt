@@ -1,4 +1,5 @@
--- Meaning: what contracts see of a deque's owner and of a thief: which deque it is, and the tally of the seat.
+-- Meaning: what contracts see of the owner and of a thief of a pool's deque: which deque it is, and the tally of the
+-- seat (what it pushed and took).
 use Rattle.std.specs.Prelude.{ℕ, ◌+◌, ◌-◌, [], ◌∷◌, ◌++◌}
 use Rattle.std.specs.declared.alloc.Global.{Global}
 use Rattle.atomic_blocks.specs.Lent.{RowsId}
@@ -22,7 +23,7 @@ pub record DequeSeatIn (A : Type 0) : Type 0 where
 abbrev pub Deque : Type 0
 Deque = DequeIn Global
 
--- a seat at such a deque
+-- a seat (the owner's or a thief's) at a pool's deque
 abbrev pub DequeSeat : Type 0
 DequeSeat = DequeSeatIn Global
 

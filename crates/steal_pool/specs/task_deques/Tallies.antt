@@ -1,4 +1,4 @@
--- Meaning: what the seats of a deque know of it, and its rule.
+-- Meaning: what the seats of a pool's deque (its owner's and its thieves') know of it, and the rule that ties this.
 use Rattle.std.specs.Prelude.{◌≡◌, ℕ, ◌+◌, List, [], ◌∷◌}
 use mathlib.Core.Option.{some}
 use lib.ListN.{get_elem?}

@@ -1,4 +1,4 @@
-//! A worker's ends of all deques of a pool.
+//! A worker's ends of all deques of a pool: the owner of its own, and a thief at each (the one at its own isn't used).
 ghost use Rattle.std.specs.Prelude.{◌≡◌, ◌<◌, ◌≤◌, vec_len, OnOk, IfErr, OnErr, IfNone, IfSome};
 ghost use Rattle.steal_pool.specs.task_deques.Seats.{with_pushed, with_taken};
 ghost use Rattle.steal_pool.specs.task_deques.Deals.{thief_seats, IsStolen};

@@ -1,4 +1,4 @@
-//! The joining of the seats of all thieves to those of the deques' owners.
+//! The joining of the seats of all thieves to those of the owners of a pool's deques, when the pool ends.
 ghost use Rattle.std.specs.Prelude.{◌≡◌, ◌+◌, ◌<◌, ◌≤◌, map, length, sum_by, vec_len, All};
 ghost use Rattle.steal_pool.specs.task_deques.Deals.{owner_seats, thief_seats, deques, with_row, with_rows, IsAccounted};
 

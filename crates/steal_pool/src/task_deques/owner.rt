@@ -1,4 +1,4 @@
-//! A deque's owner.
+//! The owner of a pool's deque of tasks: the one worker that pushes there.
 ghost use Rattle.std.specs.Prelude.{◌≡◌, ℕ, List, ◌+◌, ◌*◌, ◌^◌, ◌<◌, ◌≤◌, [], false, length, IfOk, OnOk, IfErr, OnErr, IfNone, IfSome};
 ghost use Rattle.jamboree_rules.specs.declared.pool_rules.task.Task.{Task};
 ghost use Rattle.crossbeam_deque.specs.Handles.{worker_flavor, worker_view};

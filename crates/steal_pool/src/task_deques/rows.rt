@@ -1,4 +1,5 @@
-//! The definitions of seats, tried on two workers: each contract is computed from the definitions alone.
+//! The definitions of seats at a pool's deques, tried on two workers: each contract is computed from the definitions
+//! alone. A `seat` stands with its deque, its parts (of 64), and the tasks that it pushed and took.
 ghost use Rattle.std.specs.Prelude.{◌≡◌, [], ◌∷◌, map, All};
 ghost use Rattle.steal_pool.specs.task_deques.Tallies.{tally, IsEmptied};
 ghost use Rattle.steal_pool.specs.task_deques.Seats.{Deque};

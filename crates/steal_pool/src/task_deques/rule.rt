@@ -1,4 +1,4 @@
-//! The rule of a deque, and what each kind of step changes in what a seat knows.
+//! The rule of a pool's deque of tasks, and what each kind of step changes in what a seat knows.
 //!
 //! A deque has seats: its owner's, and one for each of its thieves. What a seat knows is its [`Tally`].
 //! The rule, [`EachOnce`], ties the tallies of all seats to the tasks that the deque holds: these and

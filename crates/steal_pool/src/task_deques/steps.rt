@@ -1,4 +1,5 @@
-//! The steps of a deque under its rule, each with what it changes in the tally of the seat that steps.
+//! The steps of a pool's deque under its rule, each with what it changes in the tally (what it pushed and took) of the
+//! seat that steps.
 ghost use Rattle.std.specs.Prelude.{◌≡◌, ℕ, List, ◌+◌, ◌-◌, ◌<◌, [], ◌∷◌, ◌++◌, MatchResult, MatchOption, IfOk, IfNone, length};
 ghost use Rattle.jamboree_rules.specs.declared.pool_rules.task.Task.{Task};
 ghost use Rattle.crossbeam_deque.specs.Handles.{view, IsPassOf, worker_deque, stealer_deque, worker_flavor, worker_view};

@@ -1,4 +1,4 @@
-//! How many tasks there were.
+//! How many tasks a pool's deques had.
 ghost use Rattle.std.specs.Prelude.{◌≡◌, ◌+◌};
 
 /// How many tasks were pushed, taken and left: the first is the sum of the other two.

@@ -1,4 +1,4 @@
-//! A thief of a deque.
+//! A thief of a pool's deque: what another worker steals by.
 ghost use Rattle.std.specs.Prelude.{◌≡◌, ◌+◌, [], length, IfOk, IfNone, IfSome};
 ghost use Rattle.crossbeam_deque.specs.Handles.{view, IsPassOf, worker_deque, stealer_deque};
 ghost use Rattle.steal_pool.specs.task_deques.Tallies.{tally};

@@ -1,9 +1,9 @@
--- Meaning: what an error of `accept` says.
+-- Meaning: what an error of a server's `accept` says.
 use Rattle.std.specs.Prelude.{ℤ, pos, Bool, true, false, ◌||◌, negsuc, Option, Some, None, nat_eq}
 use Rattle.std.specs.declared.io.ErrorKind.{ErrorKind}
 use Rattle.std.specs.declared.io.ErrorKind.TheVariants.{ConnectionAborted, Interrupted}
 
--- whether it concerns one call or one connection alone
+-- whether an error of `accept` concerns one call or one connection alone, so that the server goes on
 abbrev pub is_passing : ErrorKind → Bool
 is_passing ConnectionAborted = true
 is_passing Interrupted = true

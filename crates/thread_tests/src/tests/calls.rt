@@ -1,5 +1,5 @@
-//! The calls of a desk, each in one function that promises nothing, so that the prover reads each contract once for
-//! all tests.
+//! For tests: the calls of a desk, each in one function that promises nothing, so that the prover reads each contract
+//! once for all tests.
 ghost use Rattle.std.specs.Prelude.{◌≡◌, true};
 ghost use Rattle.hall.specs.Journals.{is_worker_step};
 
@@ -15,7 +15,7 @@ use std::alloc::Global;
 use std::sync::Wait;
 use tenant_quota::{Left, Reserve};
 
-/// This board, Black to move.
+/// This board as a position, with Black to move.
 pub fn black(board: Board) -> Position {
     Position {
         board,
@@ -23,7 +23,7 @@ pub fn black(board: Board) -> Position {
     }
 }
 
-/// The opening.
+/// The opening position of Othello, Black to move.
 pub fn opening() -> Position {
     black(Board {
         own: 0x8_1000_0000,
@@ -36,7 +36,7 @@ pub fn corner() -> Position {
     black(Board { own: 1, opp: 2 })
 }
 
-/// All discs are White's.
+/// A position whose 64 discs are all White's: the game is over.
 pub fn all_white() -> Position {
     black(Board {
         own: 0,
@@ -50,7 +50,7 @@ pub fn hall_of(alloc: Global, segments: u32, nodes: u32, grain: u8) -> Option<Ha
     Hall::new(alloc, config, grain.min(6)).ok()
 }
 
-/// So much left of a reservation.
+/// What a tenant has left, of these numbers: segments, nodes and steps.
 pub fn left_of(segments: u32, nodes: u32, steps: u32) -> Left {
     Left {
         segments,
@@ -74,7 +74,7 @@ pub enum Found {
     Refused(Refusal),
 }
 
-/// What a call found of a job.
+/// What a call at the desk found of a job, as a test compares it.
 fn told(answer: Result<Outcome, Refusal>) -> Found {
     match answer {
         Ok(Outcome::Pending) => Found::Pending,
@@ -106,7 +106,7 @@ impl<L: DeskLedger, R: Wait> At<'_, L, R> {
         self.desk.ask(self.rt, seat, board, depth.min(12))
     }
 
-    /// What a seat finds of a job.
+    /// What a seat finds of its job, without waiting.
     pub fn get(&self, seat: &Seat<L>, job: u64) -> Found {
         told(self.desk.get(self.rt, seat, job))
     }
@@ -131,14 +131,14 @@ impl<L: DeskLedger, R: Wait> At<'_, L, R> {
         self.desk.live(self.rt, seat).ok()
     }
 
-    /// A seat's tenant leaves.
+    /// The tenant of this seat leaves the desk.
     pub fn leave(&self, seat: Seat<L>)
         requires { L.all ≡ L.parts }
     {
         self.desk.leave(self.rt, seat);
     }
 
-    /// A badge, if there is one.
+    /// A new worker's badge of the desk, if there is one.
     pub fn badge(&self) -> Option<Badge<L>> {
         self.desk.badge(self.rt)
     }
@@ -148,7 +148,7 @@ impl<L: DeskLedger, R: Wait> At<'_, L, R> {
         self.desk.next_ready(self.rt).is_none()
     }
 
-    /// A worker does this with a frame: what it is answered.
+    /// A worker offers the desk the step of this turn for a frame. Returns what it is answered.
     pub fn offer(
         &self,
         badge: &mut Badge<L>,
@@ -176,7 +176,8 @@ pub enum Turn {
     Spend,
 }
 
-/// The step of a worker that does this with a frame.
+/// The step of a worker for this turn with a frame: it steals the frame, advances it, brings its answer, or finishes or
+/// spends its job.
 fn step_of(worker: Worker, frame: FrameId, turn: Turn) -> Step<Jamboree>
     ensures { is_worker_step result ≡ true }
 {
@@ -189,7 +190,7 @@ fn step_of(worker: Worker, frame: FrameId, turn: Turn) -> Step<Jamboree>
     }
 }
 
-/// A worker that holds the desk does this with a frame: what it is answered.
+/// A worker that holds the desk offers the step of this turn for a frame. Returns what it is answered.
 pub fn offer_held<L: DeskLedger, R: Wait>(
     rt: &R,
     held: &mut DeskGuard<'_, LockedHall<L>>,
@@ -216,7 +217,7 @@ pub struct Ended {
     pub free: usize,
 }
 
-/// The end of a desk.
+/// The desk's hall and its numbers, after the desk was taken apart with this badge.
 pub fn end<L: DeskLedger>(desk: Desk<L>, badge: Badge<L>) -> Ended
     requires { L.all ≡ L.parts }
 {

@@ -1,4 +1,4 @@
-//! Deques in one thread: what is taken, in which order, and the sums.
+//! Tests of a pool's task deques in one thread: what is taken, in which order, and the sums.
 ghost use Rattle.std.specs.Prelude.{◌≡◌, ◌≤◌, ◌<◌, map, vec_len};
 ghost use Rattle.steal_pool.specs.task_deques.Deals.{posts, IsWhole};
 
@@ -47,7 +47,7 @@ fn pushes_three<A: Allocator>(all: &mut Vec<DequeEnds<A>, A>, worker: Worker) ->
     pushes(all, worker, 1) && pushes(all, worker, 2) && pushes(all, worker, 3)
 }
 
-/// A worker takes a task.
+/// The task that a worker takes by its ends: of its own deque, or stolen; 0 where it finds none.
 fn takes<A: Allocator>(all: &mut Vec<DequeEnds<A>, A>, worker: Worker) -> u64
     ensures posts { map posts all.new.items ≡ map posts all.old.items }
     ensures len { vec_len all.new ≡ vec_len all.old }
@@ -75,7 +75,7 @@ fn sums<A: Allocator + Clone>(
     Ok(back.sums())
 }
 
-/// The worker of this number.
+/// The worker of this number, 1 to 32.
 fn worker(number: u8) -> Worker
     requires { (1 ≤ number) × (number ≤ 32) }
 {
@@ -90,8 +90,8 @@ fn dealt(rt: &impl Abort, alloc: Global, last: Worker, room: usize) -> Vec<Deque
     deal(alloc, last, room).expect(rt, "there is memory")
 }
 
-/// A worker tries the deques in the order of their numbers after its own, and then from the first on:
-/// worker 2 steals worker 3's task before worker 1's.
+/// Of three workers, each with room for 8 tasks, 1 and 3 push one each: worker 2 steals worker 3's before worker 1's,
+/// as it tries the deques in the order of their numbers after its own.
 #[test]
 fn the_next_worker_is_tried_first(rt: HostRuntime) {
     let mut all = dealt(&rt, rt.alloc(), worker(3), 8);
@@ -115,7 +115,7 @@ fn are_kept(all: &mut Vec<DequeEnds<Global>>) -> bool
         && !pushes(all, worker(1), 6)
 }
 
-/// Whether the workers take these in turn.
+/// Whether these workers, one after the other, take these tasks.
 fn are_taken(all: &mut Vec<DequeEnds<Global>>) -> bool
     ensures posts { map posts all.new.items ≡ map posts all.old.items }
     ensures len { vec_len all.new ≡ vec_len all.old }
@@ -128,8 +128,8 @@ fn are_taken(all: &mut Vec<DequeEnds<Global>>) -> bool
         && takes(all, worker(3)) == 0
 }
 
-/// A worker takes its own newest task, else the oldest of the next worker's that has one; where there
-/// is no room a task is handed back.
+/// Of three workers with room for 3 tasks each, a worker takes its own newest task, else the oldest of the next
+/// worker's that has one; where there is no room a task is handed back. Five are pushed, five taken, none is left.
 #[test]
 fn own_newest_else_the_next_workers_oldest(rt: HostRuntime) {
     let three = worker(3);
@@ -139,7 +139,7 @@ fn own_newest_else_the_next_workers_oldest(rt: HostRuntime) {
     holds(&rt, (sums.pushed, sums.taken, sums.left) == (5, 5, 0));
 }
 
-/// How many of so many pushes by a worker are kept.
+/// How many pushes by a worker are kept, of one fewer than `many`.
 fn kept<A: Allocator>(all: &mut Vec<DequeEnds<A>, A>, worker: Worker, many: u64) -> u64 {
     let mut kept = 0u64;
     for serial in 1..many {
@@ -150,7 +150,7 @@ fn kept<A: Allocator>(all: &mut Vec<DequeEnds<A>, A>, worker: Worker, many: u64)
     kept
 }
 
-/// How many of so many takes by a worker find a task.
+/// How many takes by a worker find a task, of one fewer than `many`.
 fn found<A: Allocator>(all: &mut Vec<DequeEnds<A>, A>, worker: Worker, many: u64) -> u64 {
     let mut found = 0u64;
     for _turn in 1..many {
@@ -161,8 +161,8 @@ fn found<A: Allocator>(all: &mut Vec<DequeEnds<A>, A>, worker: Worker, many: u64
     found
 }
 
-/// Of as many workers as can be, each has room for as many tasks as were asked for, and the third takes all of the second's,
-/// whose deque it tries last.
+/// Of 32 workers, the most, with room for 1,024 tasks each: of 1,099 pushes of worker 2 that many are kept, and worker
+/// 3, which tries worker 2's deque last, steals them all.
 #[test]
 fn a_deque_holds_as_many_as_it_has_room_for(rt: HostRuntime) {
     let mut all = dealt(&rt, rt.alloc(), worker(32), 1024);
@@ -184,7 +184,7 @@ fn takers<A: Allocator>(all: &mut Vec<DequeEnds<A>, A>, owner: Worker) -> u64 {
     found.min(pushed)
 }
 
-/// Each of as many workers as can be steals, of the first, of the middle and of the last.
+/// Each of 32 workers, the most, gets one of 32 tasks that the first, the middle (16) or the last worker pushed.
 #[test]
 fn each_of_32_workers_steals(rt: HostRuntime) {
     let mut all = dealt(&rt, rt.alloc(), worker(32), 32);
@@ -193,7 +193,7 @@ fn each_of_32_workers_steals(rt: HostRuntime) {
     holds_that(&rt, takers(&mut all, worker(32)) == 32, "of the last");
 }
 
-/// Room that can't be had is refused, for tasks and for ends that come back.
+/// Room for 2^64 - 1 tasks, or for as many ends that come back, is refused.
 #[test]
 fn no_room(rt: HostRuntime) {
     holds(&rt, deal(rt.alloc(), worker(2), usize::MAX).is_err());

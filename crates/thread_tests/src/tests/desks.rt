@@ -1,4 +1,4 @@
-//! A desk in one thread and in several. Each test tries something at a desk of its own.
+//! Tests of a desk in one thread and in several. Each test tries something at a desk of its own.
 ghost use Rattle.std.specs.Prelude.{◌≡◌};
 
 mod four;
@@ -36,7 +36,7 @@ enum Trial {
     Crowd(Who, u64, What),
 }
 
-/// Tries something at a new desk of this hall.
+/// Tries this trial at a new desk over this hall.
 fn try_at<L, R>(rt: &R, hall: Hall, blank: Blank, opened: Opened<Step<Jamboree>>, trial: Trial)
 where
     L: DeskLedger + Send + Sync,
@@ -49,7 +49,7 @@ where
     is_tried(rt, Desk::<L>::new(hall, blank, opened), trial);
 }
 
-/// The same with a hall of its own, in which one worker searches each job.
+/// Does this trial at a new desk, over a hall in which one worker searches each job by itself.
 fn try_out<R>(rt: &R, alloc: Global, trial: Trial)
 where
     R: Wait + Abort + Threads + Clock + CpuClock + Sync,
@@ -59,7 +59,7 @@ where
     try_at::<Brand, R>(rt, hall, Blank::new(PARTS), opened, trial);
 }
 
-/// What is tried at this desk.
+/// Does this trial at a desk, and fails the test where the desk doesn't do as it should.
 fn is_tried<L, R>(rt: &R, desk: Desk<L>, trial: Trial)
 where
     L: DeskLedger + Send + Sync,
@@ -74,7 +74,7 @@ where
     }
 }
 
-/// The worker of this number.
+/// The worker of this number, 1 to 32.
 fn worker_of(rt: &impl Abort, number: u8) -> Worker {
     Worker::new(number).expect(rt, "a worker's number")
 }
@@ -129,7 +129,7 @@ impl<L: DeskLedger, R: Wait> At<'_, L, R> {
         }
     }
 
-    /// Whether a seat that says this is answered so.
+    /// Whether the desk answers this call of a seat as stated there.
     fn is_answered(&self, seat: &mut Seat<L>, said: Said) -> bool {
         match said {
             Said::Ask(depth, answer) => self.ask(seat, &opening(), depth) == answer,
@@ -153,12 +153,12 @@ impl<L: DeskLedger, R: Wait + Abort> At<'_, L, R> {
         self.admit(segments, nodes).expect(self.rt, "there is room")
     }
 
-    /// A badge.
+    /// A new worker's badge of the desk.
     fn badge_of(&self) -> Badge<L> {
         self.badge().expect(self.rt, "there are badges")
     }
 
-    /// A seat says these in turn, and is answered so.
+    /// A seat makes these calls in turn; the test fails at the first that is answered otherwise than stated there.
     fn talks(&self, seat: &mut Seat<L>, turns: &[Said]) {
         let mut number = 0u64;
         for said in turns {
@@ -227,18 +227,19 @@ fn one_stays<L: DeskLedger, R: Wait + Abort>(rt: &R, desk: Desk<L>, is_closed: b
     holds(rt, ended.is_whole);
 }
 
+/// One seat and one badge at a desk that isn't closed, in one thread, from the admission to the Leave.
 #[test]
 fn a_seat_and_a_badge(rt: HostRuntime) {
     try_out(&rt, rt.alloc(), Trial::One(false));
 }
 
-/// A closed desk takes asks, and all else that doesn't wait.
+/// A desk that is closed takes asks, and all else that doesn't wait.
 #[test]
 fn a_closed_desk_goes_on(rt: HostRuntime) {
     try_out(&rt, rt.alloc(), Trial::One(true));
 }
 
-/// So many wait at a desk, and this comes to them.
+/// So many threads wait at a desk at once, and then this event comes to them.
 fn crowd<R>(rt: &R, alloc: Global, who: Who, many: u64, what: What)
 where
     R: Wait + Abort + Threads + Clock + CpuClock + Sync,

@@ -1,5 +1,5 @@
-//! Pools that run. A scenario speaks at the desk of a running pool; [`play`] makes the desk, runs the
-//! pool beside the scenario, closes the desk and counts.
+//! Tests of pools of workers that run. A scenario speaks at the desk of a running pool; [`play`] makes the desk, runs
+//! the pool beside the scenario, closes the desk and counts.
 ghost use Rattle.std.specs.Prelude.{◌≡◌};
 
 mod announced;
@@ -53,7 +53,7 @@ pub(crate) struct Table<'t, S, G> {
 }
 
 impl<'t, S, G> Table<'t, S, G> {
-    /// So many workers with the usual room, and a desk of this grain with so many segments.
+    /// A pool of so many workers with the usual room, and a desk of this grain with so many segments, for a scenario.
     pub(crate) fn of(
         scenario: &'t S,
         gate: &'t G,
@@ -84,7 +84,7 @@ pub(crate) fn play<S: Scenario, G: Gate + Sync, R: Threads + Wait + Sync>(
     play_on::<Brand, S, G, R>(rt, alloc, hall, Blank::new(PARTS), opened, table)
 }
 
-/// The same over the ledger of the desk.
+/// Plays a scenario beside a pool, at a new desk over this hall.
 fn play_on<L: DeskLedger + Send + Sync, S: Scenario, G: Gate + Sync, R: Threads + Wait + Sync>(
     rt: &R,
     alloc: Global,
@@ -142,6 +142,7 @@ struct Counted {
 impl Announce for Counted {
     ghost says = { λ _ _ _. Unit {0} };
 
+    /// Counts the announcements, and says whether the pool may go on.
     fn announce(&mut self) -> bool {
         self.count = self.count.saturating_add(1);
         self.works

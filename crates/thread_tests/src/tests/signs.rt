@@ -1,4 +1,4 @@
-//! What one thread tells another, and how long the other waits for it.
+//! For tests with threads: what one thread tells another, and how long the other waits for it.
 use std::sync::atomic::{AtomicBool, AtomicU64, Ordering};
 use std::thread;
 use std::time::{Clock, CpuClock, Duration};
@@ -6,22 +6,22 @@ use std::time::{Clock, CpuClock, Duration};
 /// The most turns of a loop that waits for another thread.
 pub(crate) const MOST_TURNS: u32 = 10_000_000;
 
-/// A flag that isn't set.
+/// A new flag between threads, which isn't set.
 pub(crate) fn unset() -> AtomicBool {
     AtomicBool::new(false)
 }
 
-/// A count of nothing.
+/// A new count between threads, at 0.
 pub(crate) fn none() -> AtomicU64 {
     AtomicU64::new(0)
 }
 
-/// Sets a flag.
+/// Sets a flag, so that other threads see it.
 pub(crate) fn set(flag: &AtomicBool) {
     flag.store(true, Ordering::SeqCst);
 }
 
-/// Whether a flag is set now.
+/// Whether a flag between threads is set now.
 pub(crate) fn is_set(flag: &AtomicBool) -> bool {
     flag.load(Ordering::SeqCst)
 }
@@ -31,12 +31,12 @@ pub(crate) fn add(count: &AtomicU64) -> u64 {
     count.fetch_add(1, Ordering::SeqCst)
 }
 
-/// How many there are now.
+/// How many a count between threads has now.
 pub(crate) fn value(count: &AtomicU64) -> u64 {
     count.load(Ordering::SeqCst)
 }
 
-/// Keeps this number.
+/// Puts this number into a count between threads.
 pub(crate) fn keep(count: &AtomicU64, number: u64) {
     count.store(number, Ordering::SeqCst);
 }
@@ -86,7 +86,7 @@ pub(crate) fn used_by_others<C: CpuClock>(clock: &C) -> Duration {
     all.saturating_sub(own)
 }
 
-/// Whether all threads but this one have used more than that: this one's time is read last.
+/// Whether all threads but this one have now used more processor time than before. This thread's own time is read last.
 fn have_others_worked<C: CpuClock>(clock: &C, before: Duration) -> bool {
     let all = clock.process_cpu_time().unwrap_or(Duration::ZERO);
     let own = clock.thread_cpu_time().unwrap_or(Duration::MAX);

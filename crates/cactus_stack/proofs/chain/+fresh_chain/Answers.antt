@@ -1,3 +1,5 @@
+-- A chain of segments for a stack's node (`chain::fresh_chain`): made from its end to its front, it holds the given
+-- words and then zeros, and no other segment changes.
 use Rattle.cactus_stack.proofs.Common.{arith}
 use Rattle.cactus_stack.proofs.Grown.{fresh-chain-grows, fresh-chain-of-one}
 use Rattle.cactus_stack.proofs.chain.+fresh_chain.Goals as goal

@@ -1,3 +1,5 @@
+-- A closed node's chain of segments is given back (`chain::give_chain`): all its segments are free then, and no other
+-- changes.
 use Rattle.cactus_stack.proofs.Common.{arith}
 use Rattle.cactus_stack.proofs.Grown.{give-rest-of, given-back-of}
 use Rattle.cactus_stack.proofs.chain.+give_chain.Goals as goal

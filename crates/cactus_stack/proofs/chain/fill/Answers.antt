@@ -1,3 +1,4 @@
+-- A segment of a stack is filled (`chain::fill`): the words stand at its front, and behind them what was there.
 use Rattle.cactus_stack.proofs.Common.{◌≡◌, length, arith, take-length}
 use Rattle.cactus_stack.proofs.chain.fill.Goals as goal
 

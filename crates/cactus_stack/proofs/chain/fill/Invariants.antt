@@ -1,3 +1,5 @@
+-- A segment of a stack is filled (`chain::fill`): at each turn, the words so far stand at its front, and behind them
+-- what was there.
 use Rattle.cactus_stack.proofs.Common.{◌≡◌, ◌++◌, take, drop}
 use Rattle.cactus_stack.proofs.chain.fill.Given as goal
 

@@ -1,3 +1,5 @@
+-- A fresh segment for a stack's node (`chain::fresh_segment`): it holds the words and zeros, and its link is the one
+-- given.
 use Rattle.cactus_stack.proofs.Grown.{fresh-segment-is-filled}
 use Rattle.cactus_stack.proofs.chain.fresh_segment.Goals as goal
 

@@ -1,3 +1,4 @@
+-- A node's chain of segments is made longer (`chain::grow_chain`): the new ones hold zeros and hang at its old end.
 use Rattle.cactus_stack.proofs.Grown.{chain-grows, last_is-taken}
 use Rattle.cactus_stack.proofs.chain.grow_chain.Goals as goal
 

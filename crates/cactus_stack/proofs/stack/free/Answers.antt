@@ -1,3 +1,5 @@
+-- A stack gives a node's segments and number back (`stack::free`): the node is gone, and the others are stored as
+-- before.
 use Rattle.cactus_stack.proofs.Common.{refl, ◌∙◌, rules, place_at, resized}
 use Rattle.cactus_stack.proofs.Steps.{IsChange, changed, still-stored, kept-node, is-read, close-change}
 use Rattle.cactus_stack.proofs.stack.free.Goals.{After-give_chain}

@@ -1,3 +1,5 @@
+-- The program runs a command (`running::run`): the names that the server's clauses use for a new desk, its ledger,
+-- history and first hall.
 use Rattle.hall.specs.Halls.{empty_hall}
 use Rattle.commands.proofs.running.run.Given as goal
 

@@ -1,3 +1,4 @@
+-- A desk's reading of the hall (`reading::is_awaited`): a job is awaited exactly where it is pending.
 use Rattle.desk.proofs.Common.{rules}
 use Rattle.desk.proofs.reading.is_awaited.Goals as goal
 

@@ -1,3 +1,5 @@
+-- A server's session is served at its desk (`serve_desk`): what holds of it with the history given back holds of it
+-- without.
 use Rattle.desk_office.proofs.serving.serve_desk.Goals as goal
 
 pub returns-clause-lines : goal.returns-clause-lines

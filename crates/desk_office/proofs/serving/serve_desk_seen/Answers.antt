@@ -1,3 +1,5 @@
+-- A server's session is served at its desk (`serve_desk_seen`): each answer is a function of its request and of the
+-- tenant's own part of the history.
 use Rattle.desk_office.proofs.Sessions.{seen-session}
 use Rattle.desk_office.proofs.serving.serve_desk_seen.Goals as goal
 

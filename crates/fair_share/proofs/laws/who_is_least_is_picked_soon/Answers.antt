@@ -1,3 +1,5 @@
+-- Of who shares a pool: the least served is picked before anybody who comes later, so the law
+-- `who_is_least_is_picked_soon`.
 use Rattle.fair_share.proofs.Common.{◌+◌, ◌*◌, ◌<◌, ◌≤◌, arith, count_by, mul-le-mul_left, is_ahead, picks_in}
 use Rattle.fair_share.proofs.WaitLemmas.{few-picks, few-tasks}
 use Rattle.fair_share.proofs.laws.who_is_least_is_picked_soon.Goals as goal

@@ -1,3 +1,5 @@
+-- Of who shares a pool: whoever is ready all along is picked again within a bound, so the law
+-- `who_is_ready_is_picked`.
 use Rattle.fair_share.proofs.Common.{◌+◌, ◌*◌, ◌≤◌, arith, mul-le-mul_left, picks_in}
 use Rattle.fair_share.proofs.WaitLemmas.{few-tasks}
 use Rattle.fair_share.proofs.LeadLemmas.{led-picks, lead-after}

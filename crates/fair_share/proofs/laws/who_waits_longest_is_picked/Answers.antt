@@ -1,3 +1,4 @@
+-- Of who shares a pool: who has waited longest is picked in turn, so the law `who_waits_longest_is_picked`.
 use Rattle.fair_share.proofs.Common.{◌+◌, ◌*◌, ◌<◌, ◌≤◌, arith, length, mul-le-mul_left, is_older, long_picks_in}
 use Rattle.fair_share.proofs.LongLemmas.{few-between, few-longs, count-most}
 use Rattle.fair_share.proofs.laws.who_waits_longest_is_picked.Goals as goal

@@ -1,3 +1,4 @@
+-- A line of those who share (`line::has_member`): at each turn, no account passed so far is of the group.
 use Rattle.fair_share.proofs.Common.{◌≡◌, drop, has_member}
 use Rattle.fair_share.proofs.line.has_member.Given as goal
 

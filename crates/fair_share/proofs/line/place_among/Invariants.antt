@@ -1,3 +1,4 @@
+-- A line of those who share (`line::place_among`): at each turn, no name passed so far is the one that is sought.
 use Rattle.fair_share.proofs.Common.{◌≡◌, drop, place_among_from}
 use Rattle.fair_share.proofs.line.place_among.Given as goal
 

@@ -1,3 +1,4 @@
+-- A line of those who share (`line::place_of`): at each turn, no account passed so far has the name in the group.
 use Rattle.fair_share.proofs.Common.{◌≡◌, drop, place_from}
 use Rattle.fair_share.proofs.line.place_of.Given as goal
 

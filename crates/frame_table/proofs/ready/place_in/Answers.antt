@@ -1,4 +1,4 @@
--- The place of a serial among the ready frames, at each return of the search for it.
+-- One tenant's list of ready frames (`ready::place_in`): the place of a serial, at each way out of the search for it.
 use Rattle.frame_table.proofs.Common.{◌-◌, length, nat_lt, arith, rules, ReadyFrame, ℕ}
 use Rattle.std.proofs.lemmas.List.Sorted.{IsPartitionPoint-from_clause, IsPartitionedBy-ltb}
 use Rattle.frame_table.proofs.Places.{rises-by-not-falls, place-by-count, place-before, counts-below}

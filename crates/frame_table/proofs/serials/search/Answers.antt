@@ -1,3 +1,5 @@
+-- The frame table's binary search for a serial (`serials::search`): the place that it finds holds the serial, and
+-- where it finds none no place does.
 use Rattle.std.proofs.lemmas.List.Sorted.{searched}
 use Rattle.frame_table.proofs.Places.{rises-by-not-falls, absent-between}
 use Rattle.frame_table.proofs.serials.search.Goals as goal

@@ -1,3 +1,5 @@
+-- The frame table closes the gaps in its list of keys (`slot_store::close_up`): at each turn, the keys passed so far
+-- are filtered in place, and the list has as many places as before.
 use Rattle.std.proofs.Common.{◌≡◌}
 use Rattle.std.proofs.lemmas.List.Filters.{FiltersInPlace}
 use Rattle.frame_table.proofs.Common.{has_slot_under}

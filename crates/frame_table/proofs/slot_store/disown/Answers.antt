@@ -1,3 +1,5 @@
+-- A frame of the frame table loses a child (`slot_store::disown`): the count in the parent's slot goes down by one,
+-- and where there is no parent nothing changes.
 use Rattle.frame_table.proofs.Common.{recounted}
 use Rattle.frame_table.proofs.Forest.{with_slot-none}
 use Rattle.frame_table.proofs.Common.{◌-◌, refl, ◌∙◌, arith, ap, sym, slots_in, without_child}

@@ -1,3 +1,5 @@
+-- A frame of the frame table gets a child (`slot_store::enroll`): the count in its slot goes up by one, the keys stay
+-- right, and the root that is returned is that frame's.
 use Rattle.frame_table.proofs.Common.{recounted}
 use Rattle.std.proofs.Common.{◌+◌, Some, refl, ◌∙◌}
 use Rattle.frame_table.proofs.Forest.{count-at, with_slot-set, slot_at-found}

@@ -1,3 +1,5 @@
+-- The frame table's first pass of an abort (`slot_store::take_under`): each slot below the frame is removed, its value
+-- appended, and no other slot changes.
 use Rattle.std.proofs.Common.{take_all, ◌≤◌, []}
 use Rattle.frame_table.proofs.Common.{slots_in}
 use Rattle.frame_table.proofs.SlotStores.{slots_in-length}

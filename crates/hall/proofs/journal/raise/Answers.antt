@@ -1,4 +1,4 @@
--- The journal that is raised is the tenant's.
+-- The hall raises a journal among all (`journal::raise`): the one that is raised is the tenant's.
 use Rattle.hall.proofs.Common.{◌≡◌, ℕ, List, Result, Ok, Err, ap, ◌∙◌, arith, StepOf, AdmitMore, LeafAnswer, owner_of_journal, journal_in, longer, put-changed, put-same, raise_count, said-found, thing-own}
 use Rattle.std.specs.Prelude.{OnErr}
 use Rattle.hall.proofs.journal.raise.Given.{Over}

@@ -1,3 +1,5 @@
+-- The hall writes a step into its tenant's journal (`journal::write`): it is the last of that journal then, and no
+-- other journal changes.
 use Rattle.hall.proofs.Common.{[], length, ap, sym, ◌∙◌, long_steps, owner_of_journal, longer, put-changed, said-found, thing-own}
 use Rattle.hall.proofs.Lists.{steps_of, places_of, longs_of, further-longer}
 use Rattle.hall.proofs.journal.write.Goals as goal

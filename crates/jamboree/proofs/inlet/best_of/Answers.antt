@@ -1,3 +1,5 @@
+-- A search's inlet (`inlet::best_of`): the greater of the frame's best score and the
+-- child's score is at most 1,000,000.
 use Rattle.jamboree.proofs.Common.{arith, ints, clamps}
 use Rattle.jamboree.proofs.inlet.best_of.Goals as goal
 

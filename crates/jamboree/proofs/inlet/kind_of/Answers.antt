@@ -1,3 +1,5 @@
+-- A search's inlet (`inlet::kind_of`): by the window that the child was searched in, its score is an upper bound, a
+-- lower bound or the value of its choice.
 use Rattle.jamboree.proofs.Common.{neg_ℤ, seen, frame_in}
 use Rattle.jamboree.proofs.ActLemmas.{is-low, is-high, kind-low, kind-other}
 use Rattle.jamboree.proofs.inlet.kind_of.Goals as goal

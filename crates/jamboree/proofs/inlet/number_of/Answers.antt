@@ -1,3 +1,4 @@
+-- A search's inlet (`inlet::number_of`): the number of the child's choice is at most 64.
 use Rattle.jamboree.proofs.Common.{arith, board, choices-fit, child-told, frame_in}
 use Rattle.jamboree.proofs.inlet.number_of.Goals as goal
 

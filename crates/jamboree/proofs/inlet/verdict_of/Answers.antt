@@ -1,3 +1,5 @@
+-- A search's inlet (`inlet::verdict_of`): for a test, a first search and a search again, what the parent does about
+-- the score is what the definition says.
 use Rattle.jamboree.proofs.ActLemmas.{by-end, by-test, by-search}
 use Rattle.jamboree.proofs.inlet.verdict_of.Goals as goal
 

@@ -1,3 +1,4 @@
+-- A search's next act (`next::board_under`): the child's board is its parent's after the choice.
 use Rattle.jamboree.proofs.Common.{arith, frame_with}
 use Rattle.jamboree.proofs.ActLemmas.{child-opens}
 use Rattle.jamboree.proofs.next.board_under.Goals as goal

@@ -1,3 +1,4 @@
+-- A search's next act (`next::later`): what the functions for each phase need of the frame's words holds.
 use Rattle.jamboree.proofs.Common.{inl, inr, ap, frame-told, phase_number, frame_in}
 use Rattle.jamboree.proofs.next.later.Goals as goal
 

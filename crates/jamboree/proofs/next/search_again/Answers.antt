@@ -1,3 +1,5 @@
+-- A search's next act (`next::search_again`): the child and the stored words are what the definition says for a choice
+-- whose test has failed.
 use Rattle.jamboree.proofs.Common.{frame_with}
 use Rattle.jamboree.proofs.ActLemmas.{negated-beta, negated-floor, act-by, spawns-by, again-stores}
 use Rattle.jamboree.proofs.next.search_again.Goals as goal

@@ -1,3 +1,5 @@
+-- A search's next act (`next::test`): the child and the stored words are what the definition says for a choice that is
+-- tested.
 use Rattle.jamboree.proofs.Common.{◌∙◌, ap, spawns, ◌+ℤ◌, pos, neg_ℤ, rest_at, floor, frame_with}
 use Rattle.std.proofs.Common.{ℕ}
 use Rattle.jamboree.proofs.ActLemmas.{negated-floor, negated-more, act-by, spawns-by, start-stores}

@@ -1,3 +1,5 @@
+-- A search's next act while choices are tested (`next::tests`): search again, test the next, be done or wait, each
+-- where the definition says so.
 use Rattle.jamboree.proofs.Common.{◌==◌, ◌≤◌, ◌&&◌, nat_lt, nat_le, slice_index, List, Bool, true, false, subst, sym, ◌∙◌, ap, arith, and_parts, lt-ltb, le-ltb, ltb-true, le-leb, lt-leb, length-map, length-drop, status_of, Act, first_open, tests, tests_from, FrameView, Ends, Waits, act_for, frame_with, entries_of, statuses_in}
 use Rattle.std.proofs.Common.{◌≡◌, ℕ, ◌+◌, ◌<◌, drop, length, refl}
 use Rattle.jamboree.proofs.ActLemmas.{tests-by}

@@ -1,3 +1,5 @@
+-- The search as a procedure (`procedure::plan_below`): the plan under a parent in words is that of the definition,
+-- also where the words have no frame's form.
 use Rattle.jamboree.proofs.Common.{sym, ◌∙◌, may_be_child, returns as to_return, act_of, frame_in, frame_with, entries_of}
 use Rattle.std.proofs.Common.{Some}
 use Rattle.jamboree.proofs.SightLemmas.{by-form}

@@ -1,3 +1,4 @@
+-- The search as a procedure (`procedure::plan_formed`): with and without a parent the plan is that of the definition.
 use Rattle.jamboree.proofs.Common.{◌∷◌, List, ℕ, Option, sym, ◌∙◌, ap, next_act, above_of, entries_of}
 use Rattle.jamboree.proofs.SightLemmas.{act-by-form}
 use Rattle.jamboree.proofs.procedure.plan_formed.Goals as goal

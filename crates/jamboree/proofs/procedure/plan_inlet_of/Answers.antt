@@ -1,3 +1,5 @@
+-- The search as a procedure (`procedure::plan_inlet_of`): with or without the test of form, the plan of the inlet is
+-- the definition's.
 use Rattle.jamboree.proofs.Common.{entries_of}
 use Rattle.jamboree.proofs.SightLemmas.{inlet-by-form}
 use Rattle.jamboree.proofs.procedure.plan_inlet_of.Goals as goal

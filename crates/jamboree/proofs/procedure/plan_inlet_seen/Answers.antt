@@ -1,3 +1,5 @@
+-- The search as a procedure (`procedure::plan_inlet_seen`): words that have no frame's form only wake the parent, as
+-- the definition says.
 use Rattle.jamboree.proofs.Common.{sym, ◌∙◌, entries_of}
 use Rattle.jamboree.proofs.SightLemmas.{inlet-under}
 use Rattle.jamboree.proofs.procedure.plan_inlet_seen.Goals as goal

@@ -1,3 +1,5 @@
+-- The search as a procedure (`procedure::plan_inlet_under`): what can't be a child of the frame only wakes it, as the
+-- definition says.
 use Rattle.jamboree.proofs.Common.{◌∙◌, may_be_child, status_of, entry_rest, frame_in, frame_with}
 use Rattle.std.proofs.Common.{map}
 use Rattle.jamboree.proofs.SightLemmas.{by-told, inlet-with}

@@ -1,3 +1,5 @@
+-- The search as a procedure (`procedure::plan_under`): what can't be a child of the parent returns, as the definition
+-- says.
 use Rattle.std.proofs.Common.{Some}
 use Rattle.jamboree.proofs.Common.{may_be_child, frame_in, frame_with}
 use Rattle.jamboree.proofs.SightLemmas.{by-told}

@@ -1,3 +1,4 @@
+-- A reply's table is read (`reading::known_in`): each entry's word is one that an entry may have.
 use Rattle.jamboree.proofs.ReplyLemmas.{rest-at}
 use Rattle.jamboree.proofs.reading.known_in.Goals as goal
 

@@ -1,3 +1,5 @@
+-- A reply's table is read (`reading::known_in`): at each turn, what is known so far is what the first entries say, and
+-- the list has 64 places.
 use Rattle.jamboree.proofs.Common.{take}
 use Rattle.std.proofs.Common.{◌≡◌, length}
 use Rattle.jamboree.proofs.ReplyLemmas.{said_by}

@@ -1,3 +1,5 @@
+-- The entries in a search's frame (`statuses::are_entries`): at each turn, those so far are valid, so the rest
+-- decides.
 use Rattle.std.proofs.Common.{◌≡◌, drop}
 use Rattle.jamboree.proofs.Common.{are_entries}
 use Rattle.jamboree.proofs.StatusLemmas.{left}

@@ -1,3 +1,5 @@
+-- The entries in a search's frame (`statuses::first_open`): the number found is that of the first choice that
+-- isn't settled.
 use Rattle.jamboree.proofs.Common.{◌∙◌, ap}
 use Rattle.std.proofs.Common.{ℕ, ◌+◌}
 use Rattle.jamboree.proofs.StatusLemmas.{open-found}

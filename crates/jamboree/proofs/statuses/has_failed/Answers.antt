@@ -1,3 +1,5 @@
+-- The entries in a search's frame (`statuses::has_failed`): it says yes exactly where the entry's status is that
+-- of a failed test.
 use Rattle.jamboree.proofs.Common.{sym, ◌∙◌}
 use Rattle.jamboree.proofs.StatusLemmas.{entry-some, entry-none}
 use Rattle.jamboree.proofs.statuses.has_failed.Goals as goal

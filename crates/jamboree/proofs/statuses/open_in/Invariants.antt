@@ -1,3 +1,4 @@
+-- The entries in a search's frame (`statuses::open_in`): at each turn, all choices passed so far are settled.
 use Rattle.std.proofs.Common.{◌≡◌, ℕ, ◌<◌, map, slice_index}
 use Rattle.jamboree.proofs.Common.{status_of}
 use Rattle.jamboree.proofs.statuses.open_in.Given as goal

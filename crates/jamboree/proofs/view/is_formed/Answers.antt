@@ -1,3 +1,5 @@
+-- The form of a search's frame (`view::is_formed`): it says yes exactly to twelve words in their ranges and as many
+-- valid entries as they count.
 use Rattle.jamboree.proofs.Common.{sym, ◌∙◌, arith, false≢true, false_from_ne_true, is_formed}
 use Rattle.std.proofs.Common.{◌≡◌, ℕ, ◌+◌, ◌-◌, ◌≤◌, length}
 use Rattle.jamboree.proofs.ViewLemmas.{formed-parts, formed-rest}

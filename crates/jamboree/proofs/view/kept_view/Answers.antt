@@ -1,3 +1,4 @@
+-- The words of a returned root (`view::kept_view`): what a job keeps has the form that the typed view asks for.
 use Rattle.jamboree.proofs.ViewLemmas.{formed-parts}
 use Rattle.jamboree.proofs.view.kept_view.Goals as goal
 

@@ -1,3 +1,5 @@
+-- The words of a search's frame (`view::view`): they have the form that the typed view asks for, and it counts as many
+-- entries as there are.
 use Rattle.jamboree.proofs.Common.{arith, head_of}
 use Rattle.std.proofs.Common.{refl}
 use Rattle.jamboree.proofs.ViewLemmas.{formed-parts}

@@ -1,3 +1,5 @@
+-- What suffices for a search (`amounts::most_needed`): the segments and nodes below a position are worked out ply by
+-- ply, as the definition does.
 use Rattle.std.proofs.Common.{arith}
 use Rattle.jamboree_core.proofs.EnoughBounds.{segments-step, nodes-step}
 use Rattle.jamboree_core.proofs.amounts.+most_needed.Goals as goal

@@ -1,3 +1,5 @@
+-- What suffices for a search (`amounts::enough`): no number overflows, and the reservation is the defined one, within
+-- the limits of a tenant.
 use Rattle.std.proofs.Common.{arith, ap, refl, ℕ, ◌≡◌, min, ◌∙◌}
 use Rattle.othello_board.specs.Words.{cells}
 use Rattle.jamboree_core.specs.Enough.{board_nodes, board_segments}

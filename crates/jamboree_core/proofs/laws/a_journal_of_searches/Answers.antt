@@ -1,3 +1,5 @@
+-- Of a tenant's journal of searches: its jobs are searches, and those done hold the minimax value, so the law
+-- `a_journal_of_searches`.
 use Rattle.jamboree_core.proofs.Common.{origins_of}
 use Rattle.jamboree_core.proofs.Serving.{tenant-replies}
 use Rattle.jamboree_core.proofs.JournalLemmas.{journal-searches}

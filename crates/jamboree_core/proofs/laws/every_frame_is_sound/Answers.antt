@@ -1,3 +1,4 @@
+-- Of any run of searches on a new core: every frame is sound, so the law `every_frame_is_sound`.
 use Rattle.jamboree_core.proofs.Common.{TenantFits}
 use Rattle.jamboree_core.proofs.Replying.{searched, all-sound}
 use Rattle.jamboree_core.proofs.laws.every_frame_is_sound.Goals as goal

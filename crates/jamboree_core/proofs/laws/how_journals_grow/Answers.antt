@@ -1,3 +1,4 @@
+-- Of tenants' journals: how each taken step lengthens its own tenant's and no other's, so the law `how_journals_grow`.
 use Rattle.jamboree_core.proofs.Common.{jamboree}
 use Rattle.jamboree_core.proofs.JournalLemmas.{journal-begins, journal-goes-on, others-stay}
 use Rattle.jamboree_core.proofs.laws.how_journals_grow.Goals as goal

@@ -1,3 +1,5 @@
+-- Of a core whose jobs are searches: what each of its tenants and jobs holds, so the law
+-- `what_a_core_of_searches_holds`.
 use Rattle.jamboree_core.proofs.Serving.{core-replies, core-tenant, core-serves, core-whole}
 use Rattle.jamboree_core.proofs.laws.what_a_core_of_searches_holds.Goals as goal
 

@@ -1,3 +1,5 @@
+-- Of a tenant whose jobs are searches: its replies are minimax values and its frames sound, so the law
+-- `what_a_tenant_of_searches_holds`.
 use Rattle.jamboree_core.proofs.Serving.{tenant-replies, tenant-sound}
 use Rattle.jamboree_core.proofs.laws.what_a_tenant_of_searches_holds.Goals as goal
 

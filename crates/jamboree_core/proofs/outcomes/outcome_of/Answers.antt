@@ -1,3 +1,5 @@
+-- What became of a tenant's search (`outcomes::outcome_of`): the job of this number, whose reply is to what its Submit
+-- asked for; None where it isn't there.
 use Rattle.jamboree_core.proofs.Common.{sym}
 use Rattle.jamboree_core.proofs.Serving.{served-job, answers-asked, none-asked}
 use Rattle.jamboree_core.proofs.outcomes.outcome_of.Goals as goal

@@ -1,3 +1,5 @@
+-- Of the nodes that a tenant of searches reserved: once enough, they stay so after each step, if each further Submit
+-- finds room too; the law `nodes_reserved_suffice`.
 use Rattle.jamboree_core.proofs.NeverSpent.{begins, more-nodes, never-without-nodes}
 use Rattle.jamboree_core.proofs.Needs.{search-uses}
 use Rattle.jamboree_core.proofs.Weights.{step-room}

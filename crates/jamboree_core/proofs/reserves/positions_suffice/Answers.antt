@@ -1,3 +1,4 @@
+-- Of what is said to suffice for a position: it meets each frame's inequality, so the law `positions_suffice`.
 use Rattle.jamboree_core.proofs.EnoughBounds.{positions-enough, root-nodes, positions-roomy, root-segments}
 use Rattle.jamboree_core.proofs.reserves.positions_suffice.Goals as goal
 

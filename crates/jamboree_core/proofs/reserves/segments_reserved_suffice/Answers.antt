@@ -1,3 +1,5 @@
+-- Of the segments that a tenant of searches reserved: once enough, they stay so after each step, if each further
+-- Submit finds room too; the law `segments_reserved_suffice`.
 use Rattle.jamboree_core.proofs.NeverSpent.{segments-begin, roots-use, more-segments}
 use Rattle.jamboree_core.proofs.Weights.{step-room}
 use Rattle.jamboree_core.proofs.reserves.segments_reserved_suffice.Goals as goal

@@ -1,3 +1,5 @@
+-- Of a tenant's steps: sixteen for each opened node are enough in any order, so the law
+-- `sixteen_steps_a_node_suffice`.
 use Rattle.std.proofs.lemmas.Bool.{eqb-false}
 use Rattle.jamboree_core.proofs.SearchTurns.{journal-counts, journal-left}
 use Rattle.jamboree_core.proofs.reserves.sixteen_steps_a_node_suffice.Goals as goal

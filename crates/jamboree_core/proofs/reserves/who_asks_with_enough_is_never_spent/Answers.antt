@@ -1,3 +1,5 @@
+-- Of a tenant that asks for each search with enough left and no other that lives: none of its jobs can be spent, so
+-- the law `who_asks_with_enough_is_never_spent`.
 use Rattle.jamboree_core.proofs.EnoughBounds.{positions-enough, root-nodes, positions-roomy, root-segments, any-nodes, any-segments}
 use Rattle.jamboree_core.proofs.NeverSpent.{asks-refused}
 use Rattle.jamboree_core.proofs.reserves.who_asks_with_enough_is_never_spent.Goals as goal

@@ -1,3 +1,4 @@
+-- Rows of journals: two lists that are a tenant's journal, and three that aren't, by computing the definition.
 use Rattle.jamboree_core.proofs.Common.{refl}
 use Rattle.jamboree_core.proofs.rows.journals.Goals as goal
 

@@ -1,3 +1,4 @@
+-- Rows of outcomes: the words of a job by its number, and what is no outcome, by computing the definitions.
 use Rattle.jamboree_core.proofs.Common.{refl}
 use Rattle.jamboree_core.proofs.rows.outcomes_in_small.Goals as goal
 

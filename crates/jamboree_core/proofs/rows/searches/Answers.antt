@@ -1,3 +1,4 @@
+-- Rows of searches: tenants whose jobs are searches, and tenants whose aren't.
 use Rattle.jamboree_core.proofs.Common.{refl, arith, few, admitted_then, submit_of, asked_once, admitted_with}
 use Rattle.std.specs.Prelude.{[], ◌∷◌}
 use Rattle.jamboree_core.proofs.JournalLemmas.{journal-searches}

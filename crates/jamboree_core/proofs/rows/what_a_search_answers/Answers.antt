@@ -1,3 +1,4 @@
+-- Rows of replies: what answers a search of the opening to one ply, and scores, choices, depths and tables that don't.
 use Rattle.jamboree_core.proofs.Common.{◌≡◌, ℕ, negsuc, ap, ◌∙◌, arith, ints, squares, squares_beside, Square, in_order, BoundKind, Low, High, Exact, weights, minimax, best_choice, entry, coded}
 use Rattle.jamboree_core.proofs.Replying.{worth, best, answered}
 use Rattle.jamboree_core.proofs.rows.what_a_search_answers.Goals as goal

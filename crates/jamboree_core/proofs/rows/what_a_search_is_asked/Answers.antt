@@ -1,3 +1,4 @@
+-- Rows of roots: the words that ask for a search, and words that don't, each for one fault.
 use Rattle.jamboree_core.proofs.Common.{◌≡◌, ℕ, List, bit_and, refl, ap, ◌∙◌, arith, root_words, AreRootWords}
 use Rattle.std.proofs.Common.{slice_index}
 use Rattle.jamboree_core.proofs.rows.what_a_search_is_asked.Goals as goal

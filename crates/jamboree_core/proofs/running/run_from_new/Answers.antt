@@ -1,3 +1,5 @@
+-- A list of searches on a new core (`running::run_from_new`): the headline holds of it, and the core's jobs are then
+-- what the taken Submits asked for.
 use Rattle.jamboree_core.proofs.Common.{ℕ, ap, subst, Jamboree, IsHeadlineInFull, submitted_by}
 use Rattle.jamboree_core.proofs.Serving.{headline-from-new, core-serves}
 use Rattle.jamboree_core.proofs.running.run_from_new.Goals as goal

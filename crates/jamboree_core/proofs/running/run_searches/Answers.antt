@@ -1,3 +1,5 @@
+-- A list of steps on a core of searches (`running::run_searches`): the headline holds of it, and the jobs stay
+-- searches.
 use Rattle.jamboree_core.proofs.Serving.{headline-in-full, both-ok}
 use Rattle.jamboree_core.proofs.running.run_searches.Goals as goal
 

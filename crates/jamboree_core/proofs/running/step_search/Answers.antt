@@ -1,3 +1,5 @@
+-- One step on a core of searches (`running::step_search`): the jobs stay searches, and BadAct is told of a Submit
+-- alone.
 use Rattle.jamboree_core.proofs.Replying.{search-fits}
 use Rattle.jamboree_core.proofs.Possible.{answer-none-bad}
 use Rattle.jamboree_core.proofs.Serving.{after-asked}

@@ -1,3 +1,5 @@
+-- Of a search's root that has returned: it holds a table of its board, each entry a true bound, so the law
+-- `a_returned_root_holds_a_table`.
 use Rattle.jamboree_rules.proofs.Rooted.{root-whole}
 use Rattle.jamboree_rules.proofs.laws.a_returned_root_holds_a_table.Goals as goal
 

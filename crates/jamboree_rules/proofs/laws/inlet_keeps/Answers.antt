@@ -1,3 +1,5 @@
+-- Of a search's frame that takes in a returned child: it and its parent stay right (`AreFitting`), so the law
+-- `inlet_keeps`.
 use Rattle.std.proofs.Common.{refl}
 use Rattle.jamboree_rules.proofs.Common.{jamboree}
 use Rattle.jamboree_rules.proofs.Keeping.{inlet-keeps, inlet-possible}

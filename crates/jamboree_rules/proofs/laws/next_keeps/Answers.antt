@@ -1,3 +1,5 @@
+-- Of a search's frame that does its next act: it, its parent and a new child stay right (`AreFitting`), so the law
+-- `next_keeps`.
 use Rattle.std.proofs.Common.{refl}
 use Rattle.jamboree_rules.proofs.Common.{jamboree}
 use Rattle.jamboree_rules.proofs.Keeping.{next-keeps, next-possible}

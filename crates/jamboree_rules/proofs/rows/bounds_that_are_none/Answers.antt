@@ -1,3 +1,4 @@
+-- Rows of the search: scores that are no bound of a value, each shown by computing the definition.
 use Rattle.jamboree_rules.proofs.Common.{◌≡◌, pos, arith, ints}
 use Rattle.jamboree_rules.proofs.rows.bounds_that_are_none.Goals as goal
 

@@ -1,3 +1,5 @@
+-- Rows of the search: children of a frame that `IsSound` refuses, each for one fault: its choice, board, depth, window
+-- or time.
 use Rattle.jamboree_rules.proofs.Common.{◌≡◌, ◌⊎◌, ℕ, ◌<◌, pos, negsuc, List, inl, inr, ap, arith, ints, Cell, Empty, Opp, squares, cell_at, in_order, least, HasWindow}
 use Rattle.othello_board.specs.Rules.{squares_beside}
 use Rattle.jamboree_rules.specs.Frames.{phase_first, role_first_child}

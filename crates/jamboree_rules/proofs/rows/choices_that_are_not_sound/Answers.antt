@@ -1,3 +1,5 @@
+-- Rows of the search: frames whose choices `IsSound` refuses, each for one fault of the best score or the stored
+-- choice.
 use Rattle.jamboree_rules.proofs.Common.{◌≡◌, ◌⊎◌, ℕ, zero, suc, negsuc, ◌<ℤ◌, slice_index, refl, inl, inr, ap, sym, ◌∙◌, arith, ints, squares, in_order, Frame, code_at, value_at}
 use Rattle.othello_board.specs.Rules.{squares_beside}
 use Rattle.leaf_search.specs.othello_eval.Values.{weights}

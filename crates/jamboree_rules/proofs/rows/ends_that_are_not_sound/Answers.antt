@@ -1,3 +1,4 @@
+-- Rows of the search: frames that are done, whose score or stored choice `IsSound` refuses.
 use Rattle.jamboree_rules.proofs.Common.{◌≡◌, negsuc, refl, arith, ints, squares, in_order}
 use Rattle.othello_board.specs.Rules.{squares_beside}
 use Rattle.leaf_search.specs.othello_eval.Values.{weights}

@@ -1,3 +1,4 @@
+-- Rows of the search: an entry of c4 that isn't true is refused, one of each kind, each in another phase of its frame.
 use Rattle.jamboree_rules.proofs.Common.{◌≡◌, negsuc, refl, arith, ints, squares, in_order, Exact}
 use Rattle.othello_board.specs.Rules.{squares_beside}
 use Rattle.leaf_search.specs.othello_eval.Values.{weights}

@@ -1,3 +1,4 @@
+-- Rows of the search: best scores at beta, or below a settled choice's worth, that `IsSound` refuses.
 use Rattle.jamboree_rules.proofs.Common.{refl, inl, inr, squares, in_order}
 use Rattle.othello_board.specs.Rules.{squares_beside}
 use Rattle.leaf_search.specs.othello_eval.Values.{weights}

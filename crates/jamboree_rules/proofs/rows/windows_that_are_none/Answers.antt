@@ -1,3 +1,4 @@
+-- Rows of the search: windows that no child of a frame may have, for each role of a child.
 use Rattle.jamboree_rules.proofs.Common.{◌≡◌, ℕ, ◌<◌, ℤ, pos, negsuc, neg_ℤ, ◌+ℤ◌, ◌≤ℤ◌, refl, arith, ints, Frame, floor, IsSettled, HasWindow}
 use Rattle.jamboree_rules.specs.Frames.{role_root, role_first_child, role_test, role_again}
 use Rattle.jamboree_rules.specs.Sound.{First, Test, Again}

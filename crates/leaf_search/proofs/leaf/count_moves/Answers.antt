@@ -1,3 +1,4 @@
+-- A leaf's mobility (`leaf::count_moves`): as many bits are set as squares are legal.
 use Rattle.leaf_search.proofs.Common.{sym, arith, cells, is_legal, length-in_order}
 use Rattle.leaf_search.proofs.leaf.count_moves.Goals as goal
 

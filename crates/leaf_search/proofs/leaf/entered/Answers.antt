@@ -1,3 +1,4 @@
+-- A leaf's value (`leaf::entered`): where the game is over the final value, else the evaluation.
 use Rattle.leaf_search.proofs.Common.{◌≡◌, ◌↔◌, Bool, IsTrue, true, false, [], sym, ◌∙◌, ap, arith, ints, Board, cells, choices, minimax, minimax-leaf-there, minimax-over}
 use Rattle.leaf_search.proofs.leaf.entered.Goals as goal
 

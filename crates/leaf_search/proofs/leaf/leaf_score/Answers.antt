@@ -1,3 +1,4 @@
+-- A leaf's score through a window (`leaf::leaf_score`): it is the value or a bound of it.
 use Rattle.leaf_search.proofs.Common.{◌≡◌, arith, ints, to_z, of_z, w32, cells, minimax}
 use Rattle.leaf_search.proofs.WindowLemmas.{exact-bound}
 use Rattle.leaf_search.proofs.leaf.leaf_score.Goals as goal

@@ -1,3 +1,5 @@
+-- A leaf's least value (`leaf::least_by`): four times the opponent's moves fit in 32 bits, and the value isn't below
+-- the result.
 use Rattle.leaf_search.proofs.Common.{◌≡◌, ◌≤◌, ℕ, length, refl, arith, ints, cells, exchanged, legal_squares, legal_squares-fit, small-fits, known-within}
 use Rattle.leaf_search.proofs.LeafLemmas.{value-on, four-fits, less-fits, less-is}
 use Rattle.leaf_search.proofs.leaf.least_by.Goals as goal

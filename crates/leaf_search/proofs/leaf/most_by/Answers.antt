@@ -1,3 +1,5 @@
+-- A leaf's greatest value (`leaf::most_by`): four times the mover's moves fit in 32 bits, and the value isn't above
+-- the result.
 use Rattle.leaf_search.proofs.Common.{◌≡◌, ◌≤◌, ℕ, length, refl, arith, ints, cells, exchanged, legal_squares, legal_squares-fit, small-fits, known-within}
 use Rattle.leaf_search.proofs.LeafLemmas.{value-on, four-fits, more-fits, more-is}
 use Rattle.leaf_search.proofs.leaf.most_by.Goals as goal

@@ -1,3 +1,5 @@
+-- A leaf's value by both players' moves (`leaf::value_by`): the sums fit in 32 bits, and the result is the minimax
+-- value at depth 0.
 use Rattle.leaf_search.proofs.Common.{◌≡◌, ◌≤◌, ℕ, ap, sym, ◌∙◌, ◌+ℤ◌, ◌-ℤ◌, ◌*ℤ◌, pos, arith, ints, cells, exchanged, legal_squares-fit, small-fits, difference-fits, mobility-fits, eval-fits, eval-is, known-within, minimax}
 use Rattle.leaf_search.proofs.LeafLemmas.{value-over, value-on}
 use Rattle.leaf_search.proofs.leaf.value_by.Goals as goal

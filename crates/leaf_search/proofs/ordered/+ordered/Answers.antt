@@ -1,3 +1,5 @@
+-- The ordered serial search (`ordered`): its score is a bound of the minimax value and its choice the first best,
+-- whatever the order in which choices are tried.
 use Rattle.leaf_search.proofs.Common.{rules, eqb-true, ◌≡◌, ◌<◌, length, neg_ℤ, ◌-◌, sym, ◌∙◌, ap, arith, int_max, ints, cells, choices, goes_down, final_value, Scored, minimax-deeper, best_choice-deeper, minimax-over, best_choice-over}
 use Rattle.leaf_search.proofs.WindowLemmas.{child-of, exact-bound, test-low}
 use Rattle.leaf_search.proofs.RankingLemmas.{IsFloor, ranked-in, IsRanking-next, IsRanking-turn, IsRanking-cut, IsRanking-cut_within, IsRanking-cut_chosen, IsRanking-bound, IsRanking-best, IsRanking-within}

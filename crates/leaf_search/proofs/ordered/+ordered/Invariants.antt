@@ -1,3 +1,5 @@
+-- The ordered serial search (`ordered`): it ends, as each call has a ply or a pass less; and what holds of the choices
+-- tried so far.
 use Rattle.leaf_search.proofs.Common.{map, drop, ◌+◌, ◌*◌, cells, choices, passing, choice_value, numbered_choice}
 use Rattle.leaf_search.proofs.RankingLemmas.{IsRanking}
 use Rattle.leaf_search.proofs.ordered.+ordered.Given as goal

@@ -1,3 +1,4 @@
+-- The ordered serial search (`search_ordered`): the choice that it returns is one of the board's.
 use Rattle.leaf_search.proofs.Common.{subst, IfSome, Contains, cells, choices}
 use Rattle.leaf_search.proofs.ordered.search_ordered.Goals as goal
 

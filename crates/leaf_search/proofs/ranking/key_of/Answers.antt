@@ -1,3 +1,4 @@
+-- The key by which the ordered search sorts choices (`ranking::key_of`): its sums fit in 32 bits.
 use Rattle.leaf_search.proofs.Common.{◌+ℤ◌, ◌-ℤ◌, ◌*ℤ◌, ℤ, pos, arith, ints, cells, known-within, FitsSigned, IsWithin, to_z, of_z, w32}
 use Rattle.leaf_search.proofs.ranking.key_of.Goals as goal
 

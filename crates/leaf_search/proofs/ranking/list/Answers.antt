@@ -1,3 +1,5 @@
+-- The list of keyed choices for the ordered search (`ranking::list`): the next choice of the board is listed with its
+-- key, for which there is room.
 use Rattle.leaf_search.proofs.Common.{refl, sym, subst, rules, cells}
 use Rattle.leaf_search.proofs.ListLemmas.{IsListed, IsListed-next, IsListed-room, IsListed-turn}
 use Rattle.leaf_search.proofs.ranking.list.Goals as goal

@@ -1,3 +1,5 @@
+-- The list of keyed choices for the ordered search (`ranking::list`): at each turn, it has the choices taken so far
+-- in the rules' order. It ends, as fewer choices are left.
 use Rattle.leaf_search.proofs.Common.{length, cells}
 use Rattle.leaf_search.proofs.ListLemmas.{IsListed}
 use Rattle.leaf_search.proofs.ranking.list.Given as goal

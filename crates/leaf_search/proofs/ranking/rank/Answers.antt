@@ -1,3 +1,4 @@
+-- The sorted choices for the ordered search (`ranking::rank`): they are all the board's, each once.
 use Rattle.leaf_search.proofs.Common.{cells}
 use Rattle.leaf_search.proofs.ListLemmas.{sorted-rearranged}
 use Rattle.leaf_search.proofs.ranking.rank.Goals as goal

@@ -1,3 +1,5 @@
+-- The serial search (`tree::search`): the scores of a board and of the choices below it are bounds of their minimax
+-- values.
 use Rattle.leaf_search.proofs.Common.{rules, ◌≡◌, neg_ℤ, ◌-◌, ◌∙◌, ap, arith, int_max, ints, clamps, subst, IsBound, cells, goes_down, final_value, choices, choice_value, minimax, Counted, minimax-deeper, minimax-over}
 use Rattle.leaf_search.proofs.WindowLemmas.{child-of, Searched-start, Searched-next, Searched-turn, Searched-cut, Searched-bound, Searched-real, exact-bound, some-rearranged, none-rearranged}
 use Rattle.leaf_search.proofs.tree.+search.Goals as goal

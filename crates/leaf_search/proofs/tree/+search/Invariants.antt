@@ -1,3 +1,5 @@
+-- The serial search (`tree::search`): it ends, as each call has a ply or a pass less; and what holds of the choices
+-- searched so far.
 use Rattle.leaf_search.proofs.Common.{length, ◌+◌, ◌*◌, cells, choices, passing, choice_value}
 use Rattle.leaf_search.proofs.WindowLemmas.{Searched}
 use Rattle.leaf_search.proofs.tree.+search.Given as goal

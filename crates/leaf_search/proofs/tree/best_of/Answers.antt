@@ -1,3 +1,4 @@
+-- The serial search of a root (`tree::best_of`): its score bounds the value, and its choice is the first best.
 use Rattle.leaf_search.proofs.Common.{◌≡◌, neg_ℤ, sym, ◌∙◌, ap, arith, int_max, ints, clamps, cells, final_value, Scored, minimax-deeper, best_choice-deeper, minimax-over, best_choice-over}
 use Rattle.leaf_search.proofs.WindowLemmas.{IsTakenIn, greater, still-chosen, child-of, IsSearching-turn, IsSearching-cut, IsSearching-next, IsSearching-real, IsSearching-bound, IsSearching-best, exact-bound, some-left, none-left}
 use Rattle.leaf_search.proofs.tree.best_of.Goals as goal

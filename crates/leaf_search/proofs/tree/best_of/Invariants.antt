@@ -1,3 +1,5 @@
+-- The serial search of a root (`tree::best_of`): at each turn, the best is that of the choices searched so far. It
+-- ends, as fewer choices are left.
 use Rattle.leaf_search.proofs.Common.{length, cells, choices, choice_value}
 use Rattle.leaf_search.proofs.WindowLemmas.{IsSearching}
 use Rattle.leaf_search.proofs.tree.best_of.Given as goal

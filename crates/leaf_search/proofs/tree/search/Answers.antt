@@ -1,3 +1,4 @@
+-- The serial search of a root (`tree::search`): at depth 0 too the score is a bound, and there is no choice.
 use Rattle.leaf_search.proofs.Common.{◌≡◌, sym, ◌∙◌, ap, subst, arith, IfSome, Contains, ints, cells, choices, minimax, best_choice-leaf, Scored}
 use Rattle.leaf_search.proofs.WindowLemmas.{exact-bound}
 use Rattle.leaf_search.proofs.tree.search.Goals as goal

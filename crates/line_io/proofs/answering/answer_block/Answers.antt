@@ -1,3 +1,5 @@
+-- A block of input is answered (`answering::answer_block`): each byte either ends a line, which is answered, or
+-- lengthens the line begun.
 use Rattle.line_io.proofs.Common.{◌∙◌, arith, err_from_is_err_and}
 use Rattle.line_io.proofs.Blocks.{Block-start, Block-byte, Block-line, Block-failed}
 use Rattle.line_io.proofs.answering.answer_block.Goals as goal

@@ -1,3 +1,5 @@
+-- A block of input is answered (`answering::answer_block`): at each turn, the lines that the bytes so far ended are
+-- answered.
 use Rattle.line_io.proofs.Blocks.{BlockSoFar}
 use Rattle.line_io.proofs.answering.answer_block.Given as goal
 

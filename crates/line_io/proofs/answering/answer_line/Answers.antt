@@ -1,3 +1,5 @@
+-- One line of an input is answered (`answering::answer_line`): the answer is written with its LF, or where a write
+-- fails a beginning of it.
 use Rattle.line_io.proofs.Common.{◌∙◌}
 use Rattle.line_io.proofs.Answered.{LinesAnswered-one}
 use Rattle.line_io.proofs.answering.answer_line.Goals as goal

@@ -1,3 +1,5 @@
+-- An input is answered line by line (`answer_lines`): each way out, the end, a failed read or write, too many bytes,
+-- leaves just the answers that are due.
 use Rattle.line_io.proofs.Common.{err_from_is_err_and}
 use Rattle.line_io.proofs.Whole.{read-gave, read-ended, length-front, Run-start, Run-more, Run-read-failed, Run-too_much, Run-ended, Run-last-failed, Run-write-failed}
 use Rattle.line_io.proofs.answering.answer_lines.Goals as goal

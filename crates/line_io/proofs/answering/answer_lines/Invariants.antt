@@ -1,3 +1,5 @@
+-- An input is answered line by line (`answer_lines`): at each turn, the lines of all bytes so far are answered. It
+-- ends, as each read has at least one of 2^62 bytes.
 use Rattle.line_io.proofs.Common.{◌-◌}
 use Rattle.line_io.proofs.Whole.{RunSoFar}
 use Rattle.line_io.proofs.answering.answer_lines.Given as goal

@@ -1,3 +1,4 @@
+-- Of a reader whose bytes are known: its reads up to the end give all of them, so the law `known_bytes_are_read`.
 use Rattle.line_io.proofs.Known.{known-read}
 use Rattle.line_io.proofs.laws.known_bytes_are_read.Goals as goal
 

@@ -1,3 +1,4 @@
+-- Of a writer whose contents are known: its writes add what they took, so the law `known_contents_grow`.
 use Rattle.line_io.proofs.Known.{known-write}
 use Rattle.line_io.proofs.laws.known_contents_grow.Goals as goal
 

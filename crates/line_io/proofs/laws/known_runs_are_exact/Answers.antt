@@ -1,3 +1,5 @@
+-- Of a run from known bytes to a known writer: what is appended is exactly the answers, so the law
+-- `known_runs_are_exact`.
 use Rattle.line_io.proofs.Known.{known-run}
 use Rattle.line_io.proofs.laws.known_runs_are_exact.Goals as goal
 

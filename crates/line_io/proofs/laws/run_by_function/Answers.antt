@@ -1,3 +1,5 @@
+-- Of a run whose answers are a function of the lines: what it writes is that function of what it reads, so the law
+-- `run_by_function`.
 use Rattle.line_io.proofs.ByFunction.{Run-function}
 use Rattle.line_io.proofs.laws.run_by_function.Goals as goal
 

@@ -1,3 +1,5 @@
+-- A text is written by as many calls as it takes (`output::write_text`): at a failure only a beginning of it is
+-- written.
 use Rattle.line_io.proofs.Common.{arith, rules, length-drop, err_from_is_err_and}
 use Rattle.line_io.proofs.Written.{Sent-more, Sent-failed, offered-all}
 use Rattle.line_io.proofs.output.write_text.Goals as goal

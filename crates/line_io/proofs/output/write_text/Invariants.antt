@@ -1,3 +1,5 @@
+-- A text is written by as many calls as it takes (`output::write_text`): at each turn, the bytes so far are written.
+-- It ends, as each call takes one at least.
 use Rattle.line_io.proofs.Common.{length, ◌-◌, ◌≤◌}
 use Rattle.line_io.proofs.Written.{Sent}
 use Rattle.line_io.proofs.output.write_text.Given as goal

@@ -1,3 +1,4 @@
+-- A block of a talk is answered (`talking::talk_block`): each line that ends in it, up to one that ends the talk.
 use Rattle.line_io.proofs.Common.{◌∙◌, ap, sym, not, arith, rules, err_from_is_err_and}
 use Rattle.line_io.proofs.Talked.{Talk-start, Talk-byte, Talk-line, Talk-stopped, Talk-failed, Talk-end}
 use Rattle.line_io.proofs.talking.talk_block.Goals as goal

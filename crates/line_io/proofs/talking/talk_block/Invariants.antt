@@ -1,3 +1,5 @@
+-- A block of a talk is answered (`talking::talk_block`): at each turn, the lines that the bytes so far ended are
+-- answered, and none of them ends the talk.
 use Rattle.line_io.proofs.Talked.{TalkSoFar}
 use Rattle.line_io.proofs.talking.talk_block.Given as goal
 

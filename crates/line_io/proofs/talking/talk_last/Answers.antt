@@ -1,3 +1,4 @@
+-- The last line of a talk (`talking::talk_last`): where no byte came since the last LF nothing is written.
 use Rattle.line_io.proofs.Common.{sym, ap, ◌∙◌, option_to_list, option_map, text_of}
 use Rattle.line_io.proofs.Answered.{LinesAnswered-none, LinesAnswered-same}
 use Rattle.line_io.proofs.talking.talk_last.Goals as goal

@@ -1,3 +1,5 @@
+-- A talk is answered line by line (`talk_lines`): each way out, a line that ends it, the end, a failed read or write,
+-- leaves just the answers that are due.
 use Rattle.line_io.proofs.Common.{◌∙◌, sym, ap, Ok, true, false, err_from_is_err_and, not-true, not-false}
 use Rattle.line_io.proofs.Whole.{read-gave, read-ended}
 use Rattle.line_io.proofs.Talks.{Talking-start, Talking-more, Talk-read-failed, Talk-stopped, Talk-write-failed, Talk-ended, Talk-last-failed}

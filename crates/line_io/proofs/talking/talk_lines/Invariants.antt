@@ -1,3 +1,5 @@
+-- A talk is answered line by line (`talk_lines`): at each turn, the lines of all bytes so far are answered, and none
+-- of them ends the talk.
 use Rattle.line_io.proofs.Talks.{TalkingSoFar}
 use Rattle.line_io.proofs.talking.talk_lines.Given as goal
 

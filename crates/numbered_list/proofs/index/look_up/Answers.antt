@@ -1,4 +1,5 @@
--- What stands at the place is the thing of the number, or there is none.
+-- The index of a list by number (`index::look_up`): what stands at the place is the thing of the number, or there is
+-- none.
 use Rattle.std.proofs.Common.{sym, ◌∙◌, arith}
 use Rattle.numbered_list.proofs.Places.{find_by_number-read, find_by_number-other, find_by_number-past}
 use Rattle.numbered_list.proofs.index.look_up.Goals as goal

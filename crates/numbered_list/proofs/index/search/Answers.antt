@@ -1,4 +1,4 @@
--- The point of the partition is the place.
+-- The index of a list by number (`index::search`): the point where the numbers stop being smaller is the place.
 use Rattle.std.proofs.Common.{ltb, rules}
 use Rattle.std.proofs.lemmas.List.Sorted.{IsPartitionPoint-from_clause}
 use Rattle.numbered_list.proofs.Places.{partitioned-rising, point-is-count_below}

@@ -1,3 +1,5 @@
+-- The plain recursion for minimax (`recursion::plain`): value and choice are the defined ones, at leaves, at the end
+-- of a game, and by each choice's value.
 use Rattle.othello_eval.proofs.Common.{rules, ◌<◌, ◌-◌, sym, ap, ◌∙◌, subst, to_z, w32, Some, arith, cells, choices, goes_down, length-cells, IsWithin, choice_value}
 use Rattle.othello_eval.proofs.MinimaxLemmas.{minimax-over, best_choice-over, minimax-within, same_bits, within_more, child-value, leaf-value-at, leaf-choice-at, start-value, start-choice, running-more, running-same, running-all, left-chosen, next-chosen}
 use Rattle.othello_eval.proofs.recursion.+plain.Goals as goal

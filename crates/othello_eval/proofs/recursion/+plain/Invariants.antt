@@ -1,3 +1,5 @@
+-- The plain recursion for minimax (`recursion::plain`): it ends, as each call has a ply or a pass less; at each turn,
+-- value and best choice of those tried and of those left are the board's.
 use Rattle.othello_eval.proofs.Common.{◌+◌, ◌*◌, ◌≡◌, Some, All, Contains, length, cells, choices, minimax, choice_value, best_choice, passing}
 use Rattle.othello_eval.proofs.MinimaxLemmas.{running}
 use Rattle.othello_eval.proofs.recursion.+plain.Given as goal

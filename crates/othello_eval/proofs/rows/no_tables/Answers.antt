@@ -1,3 +1,4 @@
+-- Rows of tables: three lists that are no table of a board, by computing the definition.
 use Rattle.othello_eval.proofs.Common.{◌≡◌, pos, refl, ap, arith, length, squares, squares_beside, Square, in_order, High, Exact, weights, minimax, best_choice, entry}
 use Rattle.othello_eval.proofs.rows.no_tables.Goals as goal
 

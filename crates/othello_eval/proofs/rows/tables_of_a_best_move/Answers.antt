@@ -1,3 +1,4 @@
+-- Rows of tables: those of two boards with one best move, by computing the definition.
 use Rattle.othello_eval.proofs.Common.{refl, arith, All-from_recursion, squares, squares_beside, in_order, two_discs_from_there, weights, minimax, best_choice, corner_or_edge, corner_and_edge, to_pass, IsTrueBound, IsExactIfBest}
 use Rattle.othello_eval.proofs.TableLemmas.{apart}
 use Rattle.othello_eval.proofs.rows.tables_of_a_best_move.Goals as goal

@@ -1,3 +1,4 @@
+-- Rows of tables: the opening's to one ply, with four equal moves, and the empty ones, by computing the definition.
 use Rattle.othello_eval.proofs.Common.{refl, arith, [], All-from_recursion, squares, squares_beside, in_order, weights, minimax, best_choice, opening, all_opposing, equal_moves, IsTrueBound, IsExactIfBest}
 use Rattle.othello_eval.proofs.TableLemmas.{apart}
 use Rattle.othello_eval.proofs.rows.tables_of_equal_moves.Goals as goal

@@ -1,3 +1,5 @@
+-- The evaluation's discs (`values::discs_value`): the sum of all weights passed fits in 32 bits, and is the defined
+-- one.
 use Rattle.othello_eval.proofs.Common.{◌≡◌, ◌+◌, sym, ap, ◌∙◌, drop, pos, ◌+ℤ◌, ◌*ℤ◌, get_or, to_z, w32, subst, arith, ints, cells, weights, discs_value, IsWithin, disc_difference}
 use Rattle.othello_eval.proofs.ValueLemmas.{weighed-within}
 use Rattle.othello_eval.proofs.MaskLemmas.{weighed_sum, weight_table, sums-more, sum-fits, sums-next, sums-end, weight-fits, weighed_sum-discs_value}

@@ -1,3 +1,5 @@
+-- The evaluation's discs (`values::discs_value`): at each turn, the sum so far and the weights left make the whole,
+-- within 6,400 for each weight passed.
 use Rattle.othello_eval.proofs.Common.{◌≡◌, ◌*◌, ◌≤ℤ◌, ◌+ℤ◌, pos, neg_ℤ, drop}
 use Rattle.othello_eval.proofs.MaskLemmas.{weighed_sum, weight_table}
 use Rattle.othello_eval.proofs.values.discs_value.Given as goal

@@ -1,3 +1,4 @@
+-- The evaluation's discs (`values::weighed`): the weight times a difference of at most 64 discs is within bounds.
 use Rattle.othello_eval.proofs.Common.{sym, subst, arith, IsWithin}
 use Rattle.othello_eval.proofs.MaskLemmas.{product-within, product-is}
 use Rattle.othello_eval.proofs.values.weighed.Goals as goal

@@ -1,3 +1,4 @@
+-- The weights of four rows of a board (`weighed::half_value`): the sum of the four rows' weights.
 use Rattle.othello_eval.proofs.Common.{arith, ints}
 use Rattle.othello_eval.proofs.weighed.half_value.Goals as goal
 

@@ -1,3 +1,5 @@
+-- The weights of one row of a board (`weighed::row_value`): what the table of rows says is the sum of the row's
+-- weights.
 use Rattle.othello_eval.proofs.Common.{refl, sym, subst, IsWithin}
 use Rattle.othello_eval.proofs.MaskLemmas.{row-read, row-within}
 use Rattle.othello_eval.proofs.weighed.row_value.Goals as goal

@@ -1,3 +1,4 @@
+-- The weight of one square (`weighed::weight_of`): what the table says is the square's weight.
 use Rattle.othello_eval.proofs.Common.{sym, subst, IsWithin}
 use Rattle.othello_eval.proofs.ValueLemmas.{weight-read, weight-within}
 use Rattle.othello_eval.proofs.weighed.weight_of.Goals as goal

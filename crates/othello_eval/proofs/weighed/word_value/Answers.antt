@@ -1,3 +1,4 @@
+-- The weights of a word of squares (`weighed::word_value`): the sum of both halves'.
 use Rattle.othello_eval.proofs.Common.{◌≡◌, to_z, of_z, w32, ◌+ℤ◌, sym, subst, arith, ints, cells_of, weights, discs_value, IsWithin}
 use Rattle.othello_eval.proofs.MaskLemmas.{board-rows}
 use Rattle.othello_eval.proofs.ValueLemmas.{weighed-within}

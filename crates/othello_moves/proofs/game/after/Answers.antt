@@ -1,3 +1,4 @@
+-- The board after a choice (`game::after`): the choice's square is on the board and legal.
 use Rattle.othello_moves.proofs.Common.{subst, Contains, cells, choices}
 use Rattle.othello_moves.proofs.AllowedLemmas.{contained-allowed}
 use Rattle.othello_moves.proofs.game.after.Goals as goal

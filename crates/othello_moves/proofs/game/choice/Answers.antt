@@ -1,3 +1,4 @@
+-- A board's choice by its number (`game::choice`): each turn takes the first choice that is left.
 use Rattle.othello_moves.proofs.Common.{ap, ◌∙◌, drop, drop-drop, cells, choices}
 use Rattle.othello_moves.proofs.game.choice.Goals as goal
 

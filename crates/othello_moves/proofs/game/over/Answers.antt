@@ -1,3 +1,4 @@
+-- Whether a game is over (`game::over`): exactly where the board has no choice.
 use Rattle.othello_moves.proofs.Common.{◌≡◌, ◌↔◌, [], IsTrue, subst, Board, cells, choices}
 use Rattle.othello_moves.proofs.game.over.Goals as goal
 

@@ -1,3 +1,4 @@
+-- Both players' legal squares (`legal::both_moves`): the words' bits are those of the squares that the rules allow.
 use Rattle.othello_moves.proofs.Common.{filter, ap, ◌∙◌, arith, squares, is_legal, bits_of, exchanged-cells_of}
 use Rattle.std.proofs.lemmas.Nat.{and_comm}
 use Rattle.othello_moves.proofs.LaneLemmas.{by-lanes}

@@ -1,3 +1,4 @@
+-- A player's legal squares (`legal::moves`): the word's bits are those of the squares that the rules allow.
 use Rattle.othello_moves.proofs.Common.{arith}
 use Rattle.othello_moves.proofs.LaneLemmas.{both-lines}
 use Rattle.othello_moves.proofs.legal.moves.Goals as goal

@@ -1,3 +1,5 @@
+-- A site begins to serve (`serving::serve_config`): the names that its desks' clauses use for their histories, halls
+-- and plans.
 use Rattle.site_desk.specs.Stocks.{desk_names}
 use Rattle.othello_site.proofs.serving.serve_config.Given as goal
 

@@ -1,3 +1,5 @@
+-- The page's value of a board (`choosing::value_near`): where the first search gives a bound, the second, on that
+-- side, gives the value.
 use Rattle.std.proofs.Common.{◌≡◌, ℤ, pos, negsuc, ◌+ℤ◌, ◌≤ℤ◌, ◌<ℤ◌, to_z, of_z, w32, arith}
 use Rattle.std.proofs.lemmas.Int.{by_lt_z, ints}
 use Rattle.page_engine.specs.leaf_search.othello_eval.Values.{IsWithin}

@@ -1,3 +1,4 @@
+-- The page's choice by its code (`codes::choice_of`): what is found is a choice of the board.
 use Rattle.std.proofs.Common.{sym, ◌∙◌}
 use Rattle.std.proofs.lemmas.Bool.{cond-true, eq-eqb}
 use Rattle.othello_board.specs.Words.{cells}

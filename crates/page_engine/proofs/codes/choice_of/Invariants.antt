@@ -1,3 +1,5 @@
+-- The page's choice by its code (`codes::choice_of`): at each turn, no choice taken so far has the code. It ends, as
+-- fewer are left.
 use Rattle.std.proofs.Common.{◌≡◌, length}
 use Rattle.othello_board.specs.Words.{cells}
 use Rattle.page_engine.specs.Codes.{choice_of_code, with_code}

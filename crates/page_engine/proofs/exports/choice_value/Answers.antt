@@ -1,3 +1,5 @@
+-- A function that the page calls (`exports::choice_value`): the value of the choice with this code, or the number that
+-- stands for none.
 use Rattle.std.proofs.Common.{◌≡◌, ◌∙◌, ap, None, Some, to_z, of_z, w32, arith}
 use Rattle.std.proofs.lemmas.Int.{ints}
 use Rattle.std.specs.Option.{option_map_or}

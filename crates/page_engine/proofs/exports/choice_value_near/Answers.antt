@@ -1,3 +1,4 @@
+-- A function that the page calls (`exports::choice_value_near`): the same value, sought near a guess first.
 use Rattle.std.proofs.Common.{◌≡◌, ◌∙◌, ap, None, Some, to_z, of_z, w32, arith}
 use Rattle.std.proofs.lemmas.Int.{ints}
 use Rattle.std.specs.Option.{option_map_or}

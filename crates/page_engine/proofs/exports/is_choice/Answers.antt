@@ -1,3 +1,4 @@
+-- A function that the page calls (`exports::is_choice`): 1 exactly where a choice of the board has this code.
 use Rattle.std.proofs.Common.{◌≡◌, ◌∙◌, sym, ap}
 use Rattle.std.specs.Option.{is_some}
 use Rattle.othello_board.specs.Words.{cells_of}

@@ -1,3 +1,5 @@
+-- A function that the page calls (`exports::own_after`): the discs, after the choice with this code,
+-- of the player who is then to move.
 use Rattle.std.proofs.Common.{◌≡◌, ◌∙◌, ap, Some, None, arith}
 use Rattle.std.specs.Option.{option_map_or}
 use Rattle.othello_board.specs.Words.{cells, cells_of}

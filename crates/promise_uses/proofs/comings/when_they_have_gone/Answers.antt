@@ -1,3 +1,5 @@
+-- A use of the site's law on another plan (`when_they_have_gone`): with those gone who were told to end, each customer
+-- and all guests have what the new plan allows.
 use Rattle.std.proofs.Common.{[]}
 use Rattle.site_book.specs.Comings.{told_by}
 use Rattle.site_book.specs.Rolls.{remaining}

@@ -1,3 +1,5 @@
+-- A use of the site's law on who enters (`who_enters`): any customer and any guest enters exactly where the book
+-- allows it.
 use Rattle.site_book.specs.declared.who.Who.TheVariants.{Named, V4, V6}
 use Rattle.promise_uses.proofs.comings.who_enters.Goals as goal
 

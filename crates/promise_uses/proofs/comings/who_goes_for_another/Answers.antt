@@ -1,3 +1,5 @@
+-- A use of the site's law on who goes for another (`who_goes_for_another`): where nobody is an idle guest nobody is to
+-- end.
 use Rattle.std.proofs.Common.{arith, subst, None, ◌≡◌, ◌≢◌, ◌-◌, ◌≤◌, false, true}
 use Rattle.std.proofs.lemmas.Bool.{false≢true}
 use Rattle.std.proofs.lemmas.List.Elements.{All-contains}

@@ -1,3 +1,5 @@
+-- A use of the site's law on refusals (`who_has_no_room`): a refused customer or guest has no room even without those
+-- who were told to end.
 use Rattle.std.specs.Prelude.{[], ◌∷◌, Some, None, is_some, if◌then◌else◌, ◌≡◌}
 use Rattle.std.proofs.Common.{ap, subst, sym}
 use Rattle.site_book.specs.Books.{why_over}

@@ -1,3 +1,4 @@
+-- Answers for a use: a connection of a site that says PING and HELLO, and ends.
 use Rattle.promise_uses.proofs.Common.{List}
 use Rattle.promise_uses.proofs.Connected.{all-read, left-of, none-came, ping-hello}
 use Rattle.line_io.specs.Lines.{LineText}

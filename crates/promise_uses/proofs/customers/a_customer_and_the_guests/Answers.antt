@@ -1,3 +1,5 @@
+-- A use of the site's law of isolation (`a_customer_and_the_guests`): a customer is told the same whatever others do,
+-- and so are all guests together.
 use Rattle.promise_uses.proofs.Common.{◌∙◌, sym, ap, refl, Named, V4, V6, same_who, new_book, book_after_events, answers_of}
 use Rattle.promise_uses.proofs.customers.a_customer_and_the_guests.Goals as goal
 

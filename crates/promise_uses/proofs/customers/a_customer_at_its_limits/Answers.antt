@@ -1,3 +1,5 @@
+-- A use of the site's law on refusals (`a_customer_at_its_limits`): of each kind, the last that a customer's budget
+-- has is granted and one more is refused.
 use Rattle.promise_uses.proofs.Common.{false≢true, Named}
 use Rattle.promise_uses.proofs.customers.a_customer_at_its_limits.Goals as goal
 

@@ -1,3 +1,5 @@
+-- A use of the site's law on refusals (`a_guest_at_its_limits`): a guest needs room in its own budget, its wider
+-- network's and that of all guests.
 use Rattle.promise_uses.proofs.Common.{refl, V4, V6}
 use Rattle.promise_uses.proofs.customers.a_guest_at_its_limits.Goals as goal
 

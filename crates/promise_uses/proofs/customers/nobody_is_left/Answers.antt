@@ -1,3 +1,4 @@
+-- A use of the site's law on what comes back (`nobody_is_left`): with no session open nobody has anything.
 use Rattle.promise_uses.proofs.Common.{ap, Own, Named, V4}
 use Rattle.promise_uses.proofs.customers.nobody_is_left.Goals as goal
 

@@ -1,3 +1,5 @@
+-- A use of the site's law on plans (`plans_that_come_in`): a plan of the same hall that leaves all what they
+-- have comes in, and no other.
 use Rattle.promise_uses.proofs.Common.{arith, Own, Guests, Named, new_book}
 use Rattle.promise_uses.proofs.customers.plans_that_come_in.Goals as goal
 

@@ -1,3 +1,4 @@
+-- A use of the site's law on the hall's room (`room_for_all`): what the book doesn't refuse has room in the hall.
 use Rattle.site_book.specs.declared.who.Who.TheVariants.{Named, V4}
 use Rattle.promise_uses.proofs.customers.room_for_all.Goals as goal
 

@@ -1,3 +1,5 @@
+-- A use of the site's law on budgets (`within_all_budgets`): customer, guest, all guests and all sessions together are
+-- within what they may have.
 use Rattle.promise_uses.proofs.Common.{subst, ◌≤◌, Own, Guests, All, Named, V6, used, new_book, book_after_events}
 use Rattle.promise_uses.proofs.customers.within_all_budgets.Goals as goal
 

@@ -1,3 +1,4 @@
+-- A use of the desk's `ask` (`nine_asks_in_vain`): the 257th ask of tenant 9 is refused, and nothing changes.
 use Rattle.promise_uses.proofs.Parts.{no-more}
 use Rattle.promise_uses.proofs.desks.nine_asks_in_vain.Goals as goal
 

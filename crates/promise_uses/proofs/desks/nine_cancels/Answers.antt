@@ -1,3 +1,5 @@
+-- A use of the desk's `cancel` (`nine_cancels`): tenant 9's cancel, taken, ends the history with its Cancel; refused,
+-- it leaves tenant and share.
 use Rattle.promise_uses.proofs.Common.{ℕ, Cancel, SearchStep}
 use Rattle.promise_uses.proofs.Parts.{taken-nine, refused-nine, kept-of, share-of}
 use Rattle.promise_uses.proofs.desks.nine_cancels.Goals as goal

@@ -1,3 +1,4 @@
+-- A use of the desk's `leave_seen` (`nine_leaves`): tenant 9's Leave ends the history and its own steps.
 use Rattle.promise_uses.proofs.desks.nine_leaves.Goals as goal
 
 pub returns : goal.returns

@@ -1,3 +1,5 @@
+-- A use of the desk's `reserve` (`nine_reserves`): tenant 9's raise, taken, ends the history with its AdmitMore;
+-- refused, it leaves tenant and share.
 use Rattle.promise_uses.proofs.Common.{ℕ, AdmitMore, SearchStep}
 use Rattle.promise_uses.proofs.Parts.{taken-nine, refused-nine, kept-of, share-of}
 use Rattle.promise_uses.proofs.desks.nine_reserves.Goals as goal

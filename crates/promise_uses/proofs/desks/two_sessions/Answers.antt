@@ -1,3 +1,4 @@
+-- A use of the desk's `compare` (`two_sessions`): what two sessions have seen is of one history.
 use Rattle.promise_uses.proofs.Common.{◌≡◌, List, ℕ, sym, subst, IsPrefix, own, SearchStep}
 use Rattle.promise_uses.proofs.Parts.{seen-by}
 use Rattle.promise_uses.proofs.desks.two_sessions.Goals as goal

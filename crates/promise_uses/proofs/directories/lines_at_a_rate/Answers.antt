@@ -1,3 +1,5 @@
+-- A use of the law on a customer's rate at a site (`lines_at_a_rate`): at one moment and in so many periods, no more
+-- lines pass than the rate says.
 use Rattle.std.proofs.Common.{arith, subst, ◌≡◌, ◌+◌, ◌*◌, ◌<◌, ◌≤◌, ℕ}
 use Rattle.std.proofs.Math.Arith.{add-le_cancel_left}
 use Rattle.std.proofs.Math.Nat.{le_refl, mul_comm, le_of_mul-le-mul_right}

@@ -1,3 +1,5 @@
+-- A use of the law on a site's accepted file (`what_is_accepted`): its guests and its second customer may say lines,
+-- and no token and no network stands twice.
 use Rattle.std.specs.Prelude.{ℕ, Bool, true, false, ◌≡◌, ◌∷◌, nat_le, Option, Some, None, if◌then◌else◌}
 use Rattle.std.proofs.Common.{refl}
 use Rattle.std.proofs.lemmas.Bool.{and_parts, leb-true}

@@ -1,3 +1,5 @@
+-- A use of the promise on tables (`entry_of_nine`): the third entry of tenant 9's job 5 is the third choice's, and
+-- true of it.
 use Rattle.promise_uses.proofs.Parts.{if-some, low-says, high-says, exact-says}
 use Rattle.promise_uses.proofs.halls.entry_of_nine.Goals as goal
 

@@ -1,3 +1,5 @@
+-- A use of the promise on journals (`seven_and_nine`): tenants 7 and 9 with the same journals in two halls are in the
+-- same state in both.
 use Rattle.std.proofs.Common.{sym, ◌∙◌}
 use Rattle.promise_uses.proofs.halls.seven_and_nine.Goals as goal
 

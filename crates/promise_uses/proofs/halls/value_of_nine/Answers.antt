@@ -1,3 +1,5 @@
+-- A use of the promise on values (`value_of_nine`): what a hall tells of tenant 9's job 5 is the minimax value and the
+-- best choice.
 use Rattle.promise_uses.proofs.Parts.{if-some}
 use Rattle.promise_uses.proofs.halls.value_of_nine.Goals as goal
 

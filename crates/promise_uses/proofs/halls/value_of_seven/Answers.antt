@@ -1,3 +1,5 @@
+-- A use of the promise on values (`value_of_seven`): what a hall tells of tenant 7's job 3 is the minimax value and
+-- the best choice.
 use Rattle.promise_uses.proofs.Parts.{if-some}
 use Rattle.promise_uses.proofs.halls.value_of_seven.Goals as goal
 

@@ -1,3 +1,5 @@
+-- A use of the law of isolation (`seven_in_a_running_core`): tenant 7, there before a list of steps, is after it what
+-- its own steps make of it.
 use Rattle.promise_uses.proofs.Common.{Option, ap, ◌∙◌, Tenant, alone_from, answers_from, only, taken_steps}
 use Rattle.promise_uses.proofs.isolation.seven_in_a_running_core.Goals as goal
 

@@ -1,3 +1,5 @@
+-- A use of the law on what suffices (`seven_asks_again`): tenant 7, whose first search is over, has enough left for
+-- its second, which is never spent.
 use Rattle.promise_uses.proofs.Common.{refl, arith, sym, subst, List, Option, Tenant, ◌∷◌, StepOf, Admit, Submit, None, root_words, frame_size}
 use Rattle.sched_rules.specs.Trees.{admitted_with}
 use Rattle.jamboree_rules.specs.declared.leaf.LeafAnswer.{LeafAnswer}

@@ -1,3 +1,4 @@
+-- A use of the promise on lists of searches (`eight_answers`): eight steps have eight answers.
 use Rattle.promise_uses.proofs.Common.{◌∙◌, if-ok}
 use Rattle.promise_uses.proofs.runs.eight_answers.Goals as goal
 

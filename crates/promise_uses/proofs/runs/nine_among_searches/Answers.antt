@@ -1,3 +1,5 @@
+-- A use of the promise on lists of searches (`nine_among_searches`): tenant 9 is what its own steps make of it alone,
+-- and each of its frames is sound.
 use Rattle.promise_uses.proofs.Common.{if-ok}
 use Rattle.promise_uses.proofs.runs.nine_among_searches.Goals as goal
 

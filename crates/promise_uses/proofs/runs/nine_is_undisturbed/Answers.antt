@@ -1,3 +1,5 @@
+-- A use of the promise on two lists (`nine_is_undisturbed`): tenants 7 and 9 are the same after both lists, where
+-- their own steps are.
 use Rattle.promise_uses.proofs.Common.{sym, ◌∙◌, if-ok}
 use Rattle.promise_uses.proofs.runs.nine_is_undisturbed.Goals as goal
 

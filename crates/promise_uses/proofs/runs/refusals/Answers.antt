@@ -1,3 +1,5 @@
+-- A use of the promise on any list of steps (`refusals`): tenant 7's Steal is refused for its own state, or as worker
+-- 5 is busy for another; tenant 9's Spend for its own state alone.
 use Rattle.promise_uses.proofs.Common.{refl, if-ok}
 use Rattle.promise_uses.proofs.Parts.{of-seven, of-nine}
 use Rattle.promise_uses.proofs.runs.refusals.Goals as goal

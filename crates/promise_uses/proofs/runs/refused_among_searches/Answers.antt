@@ -1,3 +1,5 @@
+-- A use of the promise on lists of searches (`refused_among_searches`): tenant 7's Steal is refused for its own state,
+-- or as worker 5 is busy for another.
 use Rattle.promise_uses.proofs.Common.{refl, if-ok}
 use Rattle.promise_uses.proofs.Parts.{of-seven}
 use Rattle.promise_uses.proofs.runs.refused_among_searches.Goals as goal

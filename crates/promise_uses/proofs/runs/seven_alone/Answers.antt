@@ -1,3 +1,4 @@
+-- A use of the promise on two lists (`seven_alone`): tenant 7 is among others what it is without them.
 use Rattle.promise_uses.proofs.Common.{sym, ◌∙◌, if-ok}
 use Rattle.promise_uses.proofs.runs.seven_alone.Goals as goal
 

@@ -1,3 +1,5 @@
+-- A use of the promise on two lists (`seven_in_both`): tenant 7 is after each list what its own steps of it make of
+-- it, with minimax values where it asked for searches.
 use Rattle.promise_uses.proofs.Common.{sym, ap, ◌∙◌, CoreState, tenant_in, if-ok}
 use Rattle.promise_uses.proofs.Replied.{searches-taken}
 use Rattle.promise_uses.proofs.runs.seven_in_both.Goals as goal

@@ -1,3 +1,5 @@
+-- A use of the promise on lists of searches (`table_of_nine`): tenant 9's job 5, where it is done, has a table of what
+-- its fifth Submit asked for.
 use Rattle.promises.proofs.Answered.{if-ok}
 use Rattle.promise_uses.proofs.Replied.{reply-at}
 use Rattle.promise_uses.proofs.runs.table_of_nine.Goals as goal

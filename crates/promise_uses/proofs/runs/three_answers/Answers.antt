@@ -1,3 +1,4 @@
+-- A use of the promise on any list of steps (`three_answers`): three steps have three answers.
 use Rattle.promise_uses.proofs.Common.{◌∙◌, if-ok}
 use Rattle.promise_uses.proofs.runs.three_answers.Goals as goal
 

@@ -1,3 +1,5 @@
+-- A use of the promise on lists of searches (`words_of_seven`): tenant 7's job 3, where it is done, has the value,
+-- choice and table of what its third Submit asked for.
 use Rattle.promises.proofs.Answered.{if-ok}
 use Rattle.promise_uses.proofs.Replied.{reply-at}
 use Rattle.promise_uses.proofs.runs.words_of_seven.Goals as goal

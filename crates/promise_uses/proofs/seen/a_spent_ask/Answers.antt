@@ -1,3 +1,5 @@
+-- A use of the promise on a session's history (`a_spent_ask`): of a session with HELLO, ASK, WAIT and a refused raise,
+-- the Submit is in the history.
 use Rattle.promise_uses.proofs.Turned.{spent-ask}
 use Rattle.promise_uses.proofs.seen.a_spent_ask.Goals as goal
 

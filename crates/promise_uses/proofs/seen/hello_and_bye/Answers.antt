@@ -1,3 +1,5 @@
+-- A use of the promise on a session's history (`hello_and_bye`): of a session with HELLO alone, the history has its
+-- Admit and its Leave.
 use Rattle.promise_uses.proofs.Turned.{admit-and-leave}
 use Rattle.promise_uses.proofs.seen.hello_and_bye.Goals as goal
 

@@ -1,3 +1,5 @@
+-- A use of the desk's session without the history given back (`hello_and_bye_untold`): what the seat knew of it is
+-- there all the same.
 use Rattle.promise_uses.proofs.Turned.{admit-and-leave}
 use Rattle.promise_uses.proofs.seen.hello_and_bye_untold.Goals as goal
 

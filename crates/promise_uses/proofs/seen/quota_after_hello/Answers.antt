@@ -1,3 +1,5 @@
+-- A use of the promise on a session's history (`quota_after_hello`): what QUOTA tells is what the tenant had left at a
+-- moment of the history.
 use Rattle.promise_uses.proofs.Turned.{quota-left}
 use Rattle.promise_uses.proofs.seen.quota_after_hello.Goals as goal
 

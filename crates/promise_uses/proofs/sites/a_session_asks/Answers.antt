@@ -1,3 +1,5 @@
+-- A use of a site's `ask` (`a_session_asks`): tenant 9's fifth ask, taken, ends its desk's history with its Submit;
+-- refused, it leaves list and share.
 use Rattle.promise_uses.proofs.Common.{ℕ, arith, ◌∙◌, Submit, root_words, frame_size, SearchStep}
 use Rattle.promise_uses.proofs.Parts.{taken-nine, refused-nine, list-of, asked-share, asked-tenant}
 use Rattle.promise_uses.proofs.sites.a_session_asks.Goals as goal

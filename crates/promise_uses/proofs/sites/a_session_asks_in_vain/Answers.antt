@@ -1,3 +1,4 @@
+-- A use of a site's `ask` (`a_session_asks_in_vain`): the 257th ask of a session is refused, and nothing changes.
 use Rattle.promise_uses.proofs.Parts.{no-more}
 use Rattle.promise_uses.proofs.sites.a_session_asks_in_vain.Goals as goal
 

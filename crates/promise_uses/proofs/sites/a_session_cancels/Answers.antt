@@ -1,3 +1,5 @@
+-- A use of a site's `cancel` (`a_session_cancels`): tenant 9's cancel, taken, ends its desk's history with its Cancel;
+-- refused, it leaves tenant and share.
 use Rattle.promise_uses.proofs.Common.{ℕ, Cancel, SearchStep}
 use Rattle.promise_uses.proofs.Parts.{taken-nine, refused-nine, kept-of, share-of}
 use Rattle.promise_uses.proofs.sites.a_session_cancels.Goals as goal

@@ -1,3 +1,5 @@
+-- A use of a site's `come` (`a_session_comes`): who is seated is whoever came, and the history ends with its tenant's
+-- Admit and the book's with its grant.
 use Rattle.promise_uses.proofs.SiteParts.{entered}
 use Rattle.promise_uses.proofs.sites.a_session_comes.Goals as goal
 

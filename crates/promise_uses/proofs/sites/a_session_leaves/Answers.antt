@@ -1,3 +1,5 @@
+-- A use of a site's `leave` (`a_session_leaves`): tenant 9's Leave ends its desk's history, and the session's
+-- closing the history of the book.
 use Rattle.promise_uses.proofs.Parts.{if-some}
 use Rattle.promise_uses.proofs.SiteParts.{always-left, never-left}
 use Rattle.promise_uses.proofs.sites.a_session_leaves.Goals as goal

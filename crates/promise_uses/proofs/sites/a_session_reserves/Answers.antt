@@ -1,3 +1,5 @@
+-- A use of a site's `reserve` (`a_session_reserves`): tenant 9's raise, taken, ends the history with its AdmitMore;
+-- refused by the book, it changes nothing.
 use Rattle.promise_uses.proofs.Common.{◌∙◌}
 use Rattle.promise_uses.proofs.SiteParts.{raised-nine, raised-by-book, raised-kept}
 use Rattle.promise_uses.proofs.sites.a_session_reserves.Goals as goal

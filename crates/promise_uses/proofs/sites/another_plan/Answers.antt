@@ -1,3 +1,4 @@
+-- Answers for a use: one plan comes in at a site's desk, or is refused for its reason.
 use Rattle.promise_uses.proofs.Common.{if-ok}
 use Rattle.promise_uses.proofs.Parts.{if-err}
 use Rattle.promise_uses.proofs.sites.another_plan.Goals as goal

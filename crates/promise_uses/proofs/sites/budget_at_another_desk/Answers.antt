@@ -1,3 +1,4 @@
+-- Answers for a use: a budget that is asked at another desk is that of a history of that desk's book.
 use Rattle.promise_uses.proofs.Common.{sym, ◌∙◌, subst, ap, used, Own, Named}
 use Rattle.site_book.specs.Amounts.{IsAmountWithin}
 use Rattle.site_book.specs.Plans.{limit_of}

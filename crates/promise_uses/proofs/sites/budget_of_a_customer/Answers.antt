@@ -1,3 +1,5 @@
+-- A use of a site's `budget` (`budget_of_a_customer`): customer 3 is within its budget, by the history of what its
+-- desk's book granted.
 use Rattle.promise_uses.proofs.Common.{sym, ◌∙◌, subst, ap, used, Own, Named}
 use Rattle.site_book.specs.Amounts.{IsAmountWithin}
 use Rattle.site_book.specs.Plans.{limit_of}

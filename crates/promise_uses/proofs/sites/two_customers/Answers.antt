@@ -1,3 +1,5 @@
+-- A use of a site's `compare` (`two_customers`): what two customers' sessions at one desk have seen is of one history,
+-- and of one history of the book.
 use Rattle.promise_uses.proofs.Common.{◌≡◌, List, ℕ, sym, subst, IsPrefix, own, SearchStep}
 use Rattle.promise_uses.proofs.Parts.{seen-by}
 use Rattle.promise_uses.proofs.SiteParts.{both-here, book-seen-by}

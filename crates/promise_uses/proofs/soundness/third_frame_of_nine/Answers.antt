@@ -1,3 +1,5 @@
+-- A use of the law on sound frames (`third_frame_of_nine`): what holds of tenant 9's third frame, its fifth choice and
+-- its second child.
 use Rattle.promise_uses.proofs.Common.{List, ℕ, inr, subst, Low}
 use Rattle.frame_table.specs.Frames.{Frame}
 use Rattle.jamboree_rules.specs.Frames.{Frame as SearchFrame}

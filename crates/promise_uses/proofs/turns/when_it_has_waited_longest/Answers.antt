@@ -1,3 +1,5 @@
+-- A use of the law on who has waited longest (`when_it_has_waited_longest`): of 64 places it is picked within 64 such
+-- picks.
 use Rattle.std.proofs.Common.{arith}
 use Rattle.promise_uses.proofs.turns.when_it_has_waited_longest.Goals as goal
 

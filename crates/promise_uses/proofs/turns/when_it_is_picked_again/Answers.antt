@@ -1,3 +1,5 @@
+-- A use of the law on who is ready (`when_it_is_picked_again`): with a lead of 5 and two others it is picked within 13
+-- picks.
 use Rattle.std.proofs.Common.{arith}
 use Rattle.std.proofs.Math.Nat.{le_refl}
 use Rattle.promise_uses.proofs.turns.when_it_is_picked_again.Goals as goal

@@ -1,3 +1,5 @@
+-- A use of the law on the least served (`when_the_least_is_picked`): behind two others it is picked third at the
+-- latest.
 use Rattle.std.proofs.Common.{arith}
 use Rattle.promise_uses.proofs.turns.when_the_least_is_picked.Goals as goal
 

@@ -1,3 +1,5 @@
+-- A question of a line about a position (`position_question`): what is read is the question that the text spells, or
+-- its first fault.
 use Rattle.std.proofs.Common.{sym, ap, ◌∙◌}
 use Rattle.protocol.proofs.QuestionLemmas.{faulty, spelled-question, fault-question}
 use Rattle.protocol.proofs.asking.position_question.Goals as goal

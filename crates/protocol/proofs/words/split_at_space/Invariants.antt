@@ -1,3 +1,4 @@
+-- A line is split at its first space (`words::split_at_space`): at each turn, no byte passed so far is a space.
 use Rattle.std.proofs.Common.{◌≡◌, take, drop}
 use Rattle.protocol.specs.Words.{split_at_space}
 use Rattle.protocol.proofs.QuestionLemmas.{behind}

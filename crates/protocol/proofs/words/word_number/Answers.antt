@@ -1,3 +1,4 @@
+-- A number in a line's word (`words::word_number`): seven digits and one more stay in 32 bits.
 use Rattle.std.proofs.Common.{arith}
 use Rattle.protocol.proofs.QuestionLemmas.{seven-digits-fit}
 use Rattle.protocol.proofs.words.word_number.Goals as goal

@@ -1,3 +1,5 @@
+-- A number in a line's word (`words::word_number`): at each turn, the number is that of the digits passed so far, and
+-- the digits left decide the rest.
 use Rattle.std.proofs.Common.{◌≡◌, ◌<◌, ◌≤◌, ◌^◌, drop, length}
 use Rattle.std.specs.List.{list_all}
 use Rattle.std.specs.Char.{is_ascii_digit}

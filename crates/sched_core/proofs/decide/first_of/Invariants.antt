@@ -1,3 +1,4 @@
+-- The core decides a step by a list of tests (`decide::first_of`): at each turn, no test so far refuses the step.
 use Rattle.sched_core.proofs.Common.{◌≡◌, drop, unless}
 use Rattle.sched_core.proofs.decide.first_of.Given as goal
 

@@ -1,3 +1,5 @@
+-- The core ends a job (`ends::end_at`): all its frames are removed, the root last, and the job is replaced by how it
+-- ended; no other tenant is touched.
 use Rattle.sched_core.proofs.Common.{aborted-itself, without_frame, without_under, ending_job, ended, shaped-in}
 use Rattle.sched_core.proofs.TakenStep.{IsWith, begins, then-changed}
 use Rattle.sched_core.proofs.Ending.{IsNamed, named-there, with-named, with-there, as-change, aborted-childless}

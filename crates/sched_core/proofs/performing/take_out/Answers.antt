@@ -1,3 +1,5 @@
+-- The core takes a returned child out for an Inlet (`performing::take_out`): it alone is removed, or at an abort all
+-- below its parent, which is still there.
 use Rattle.sched_core.proofs.Common.{◌≡◌, true, refl, sym, ◌∙◌, without_frame, without_under, staying_with}
 use Rattle.sched_core.proofs.TakenStep.{begins, then-changed}
 use Rattle.sched_core.proofs.Ending.{as-change}

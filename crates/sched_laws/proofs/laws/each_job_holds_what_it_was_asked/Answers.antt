@@ -1,3 +1,5 @@
+-- Of a run on a new core whose taken Submits have roots that fit: each job holds what its tenant's Submit asked for, so
+-- the law `each_job_holds_what_it_was_asked`.
 use Rattle.sched_laws.proofs.Common.{[], shared_by_nobody}
 use Rattle.sched_laws.proofs.FitAnswers.{run-fits, nobody-fits}
 use Rattle.sched_laws.proofs.laws.each_job_holds_what_it_was_asked.Goals as goal

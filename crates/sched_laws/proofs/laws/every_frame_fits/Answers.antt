@@ -1,3 +1,5 @@
+-- Of a core whose frames all fit its procedure: they still fit after any steps that were answered rightly, as long as the
+-- roots of taken Submits fit, so the law `every_frame_fits`.
 use Rattle.sched_laws.proofs.FitAnswers.{stays-fitting, run-fits, nobody-fits}
 use Rattle.sched_laws.proofs.laws.every_frame_fits.Goals as goal
 

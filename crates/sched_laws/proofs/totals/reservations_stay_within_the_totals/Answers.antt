@@ -1,3 +1,5 @@
+-- Of all tenants' reservations in a core: together they stay within its totals after each step and each list of steps,
+-- so the law `reservations_stay_within_the_totals`.
 use Rattle.sched_laws.proofs.Sums.{reserved-answer, reserved-answers}
 use Rattle.sched_laws.proofs.totals.reservations_stay_within_the_totals.Goals as goal
 

@@ -1,4 +1,5 @@
--- `allocate` cuts what the allocator gives into empty places, and keeps the token to give it back.
+-- A region's memory is taken (`cells::allocate`): what the allocator gives is cut into empty places, and the token to
+-- give it back is kept.
 use Rattle.segment_region.proofs.Common.{◌≡◌, refl, subst, ℕ, ◌*◌, ◌<◌, ◌^◌, List, [], ◌∷◌, ◌++◌, lit<, length, Ura, Incl-trans, Fn, w64, ty_array, inst_fn, Val, vptr, vint, vstruct, vcons, vnil, SProp, ent, Lft, ftrue, flft, capped_fits, Memory, align, capped, Routine, Env, Calls, Loops, WpFn, Wp, after_seq, at_return, Logic, ◌⊑◌, Fun, fact, tables, FmC, Post as After, Item, ⋆, ‵, raw, ◌⊛◌, any_q, later, await, at_ret, ◌$◌, ◌∵◌, !, qed, by, move, keep, drop, use0, use1, use2, use3, split, join, fsplit, fjoin, feq_l, flt_i, flt_l, suffices, frame, done, live, vrt, in_variant, whole, agg, stop, fld, bin, lit, size_word, align_word, of_opd, and_then, no_more, first, switches_on, exec, returns, enter, alloc_all, pass_all, free_all, look_at, get, get_in, get_tag, sets, sets_last, is, lands_as, env, RattleType, owns, Is, hidden_shr, layout, Ptr, block_ptr, Bor, plain, types_at, RefOf, usize, yes, nothing, heard, owned, Struct, Struct-Makes, Tuple, Triple, calls_at, framed, says, Stays, stay_dropped, walk_of, ends_at, Goes-dropped, None, IfOk, Ok, Err, FitsInBlock, proved_at, El, R, elτ, Al, Answer-typed, takes_key, Takes, at_takes, Answered, Takes-goes, Takes-gives, answers, uncapped, block_ty, block_size, block_align, P, as_written, ok_of, err_of, after, head, arm_body, Good, word, word-Good, first_Good, row_owned}
 use mathlib.Core.Path.{sym, ap}
 use mathlib.Core.Bool.{true, false}

@@ -1,4 +1,5 @@
--- `deallocate` makes memory of the places again, whatever lies in them, and hands it back with the token.
+-- A region's memory is given back (`cells::deallocate`): the places become memory again, whatever lies in them, and it
+-- goes back with the token.
 use Rattle.segment_region.proofs.Common.{◌≡◌, refl, subst, ℕ, ◌*◌, ◌<◌, ◌^◌, List, [], ◌∷◌, ◌++◌, T, length, Ura, Fn, w64, ty_unit, ty_array, inst_fn, Val, vptr, vint, vunit, has_ty, WT, SProp, ent, never, id⊢, Incl-trans, Lft, ftrue, froom, flft, capped_fits, Memory, align, capped, Routine, Calls, Loops, WpFn, Logic, ◌⊑◌, Fun, fact, tables, FmC, Item, ⋆, ‵, raw, ◌⊛◌, given, later, await, learn, at_ret, ◌$◌, ◌∵◌, !, qed, by, move, keep, drop, use1, split, join, group, rewrite, fsplit, fjoin, feq_i, feq_l, flt_l, suffices, done, whole, sub, stop, fld, bin, unit_lit, size_word, align_word, of_opd, and_then, no_more, first, blocks, exec, returns, enter, alloc_all, pass_all, free_all, look_at, get, get_in, sets, is, lands_last, env, RattleType, owns, hidden_shr, Ptr, ptr_val, in_a_block, Bor, plain, types_at, RefOf, usize, yes, no, nothing, heard, Triple, calls_at_last, framed, Stays, stay_dropped, walk_of, ends_at, Goes-dropped, proved_at, El, R, elτ, Al, token, gives_key, Gives, at_gives, Gives-goes, Gives-Gives, Goes-blank, uncapped, block_ty, block_size, block_align, P, as_raw, after, word, word-Good, places_owned, title_owned}
 use mathlib.Core.Path.{sym, ap, ◌∙◌}
 use native.Mathlib.Omega.{arith}

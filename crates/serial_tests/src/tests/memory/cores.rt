@@ -1,3 +1,4 @@
+//! Tests of a core's memory: a list of steps is run, or it isn't for want of memory.
 use crate::tests::memory::plain_core::{left, made, run};
 use crate::tests::memory::{config_of, reserve_of};
 use crate::tests::{holds, left_of};
@@ -35,7 +36,7 @@ fn runs_the_next_time<A: Allocator + Copy>(
     runs(rt, alloc, &mut core, (true, 1), Some(left_of(4, 16, 256)));
 }
 
-/// Where memory for the answers is refused, `run` tries no step; the next time it does.
+/// Where a core is refused memory for the answers to a list of steps, it tries no step of it; the next time it does.
 #[test]
 fn a_run_without_memory_for_its_answers(rt: HostRuntime) {
     let counted = CountedAlloc::new(rt.alloc());

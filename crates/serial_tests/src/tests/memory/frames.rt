@@ -1,3 +1,4 @@
+//! Tests of the frame table (each tenant's tree of open frames): its memory, and the example at its crate's head.
 ghost use Rattle.std.specs.Prelude.{◌≤◌, ◌<◌};
 
 use crate::tests::{heap_of, holds};
@@ -6,12 +7,13 @@ use linked_list_allocator::LocalHeap;
 use std::alloc::{AllocError, Allocator};
 use std::process::Abort;
 
-/// A frame's name.
+/// The name of the frame with this serial of this tenant.
 pub fn name(tenant: u64, serial: u64) -> FrameId {
     FrameId { tenant, serial }
 }
 
-/// Makes places where that can be done.
+/// Makes so many places for a tenant in the frame table, after a look that the table allows it; an error where memory
+/// was refused.
 fn reserve<T: Copy, A: Allocator + Copy>(
     rt: &impl Abort,
     table: &mut FrameTable<T, A>,
@@ -26,7 +28,7 @@ fn reserve<T: Copy, A: Allocator + Copy>(
     table.reserve(tenant, places)
 }
 
-/// Adds a frame where that can be done.
+/// Adds a frame to the frame table, after a look that the table allows it.
 fn put<T: Copy, A: Allocator>(
     rt: &impl Abort,
     table: &mut FrameTable<T, A>,
@@ -39,7 +41,7 @@ fn put<T: Copy, A: Allocator>(
     table.add(f, parent, home, value);
 }
 
-/// Adds a frame at home 0 where that can be done, with ten times its serial as its value.
+/// Adds a frame at home 0 to the frame table, after a look that the table allows it. Its value is ten times its serial.
 pub fn add<A: Allocator>(
     rt: &impl Abort,
     table: &mut FrameTable<u64, A>,
@@ -49,7 +51,7 @@ pub fn add<A: Allocator>(
     put(rt, table, f, parent, 0, f.serial.wrapping_mul(10));
 }
 
-/// Makes places where that can be done and there is room.
+/// Makes so many places for a tenant in the frame table, for which there must be memory.
 pub fn make_places<T: Copy, A: Allocator + Copy>(
     rt: &impl Abort,
     table: &mut FrameTable<T, A>,
@@ -59,7 +61,7 @@ pub fn make_places<T: Copy, A: Allocator + Copy>(
     reserve(rt, table, tenant, places).expect(rt, "room for places");
 }
 
-/// A table where this tenant has so many places.
+/// A new frame table in which this tenant has so many places.
 pub fn table_of<T: Copy, A: Allocator + Copy>(
     rt: &impl Abort,
     alloc: A,
@@ -71,7 +73,7 @@ pub fn table_of<T: Copy, A: Allocator + Copy>(
     table
 }
 
-/// What is kept of a frame that is ready at this home.
+/// What the frame table keeps of a frame with this parent and this value, which is ready at this home.
 fn ready_under<T>(parent: FrameId, home: u8, value: T) -> Option<Entry<T>> {
     Some(Entry {
         parent: Some(parent),
@@ -80,13 +82,14 @@ fn ready_under<T>(parent: FrameId, home: u8, value: T) -> Option<Entry<T>> {
     })
 }
 
-/// An abort at the root takes the child alone.
+/// An abort at the root takes the value of its child, and the root stays.
 fn abort_the_example(rt: &impl Abort, table: &mut FrameTable<char>, root: FrameId) {
     holds(rt, table.contains(root));
     holds(rt, table.remove_under(root) == ['b'].as_slice());
     holds(rt, table.contains(root));
 }
 
+/// The example at the crate's head: a root and a ready child of tenant 7, and an abort below the root.
 #[test]
 fn example_of_the_crate(rt: HostRuntime) {
     let (root, child) = (name(7, 1), name(7, 2));
@@ -104,7 +107,7 @@ fn add_five(rt: &impl Abort, table: &mut FrameTable<u64>) {
     }
 }
 
-/// Whether an abort at a frame that is there takes these values.
+/// Whether an abort at a frame, which must be there, takes just these values.
 fn takes(rt: &impl Abort, table: &mut FrameTable<u64>, f: FrameId, values: &[u64]) -> bool {
     holds(rt, table.contains(f));
     table.remove_under(f) == values
@@ -116,8 +119,8 @@ fn is_alone(table: &FrameTable<u64>) -> bool {
     gone && table.frame_count(7) == 1 && table.contains(name(7, 1)) && !table.has_child(name(7, 1))
 }
 
-/// An abort at the root of five takes the values of the four below, and the root stays; one at frame 4, which has no
-/// child, takes nothing.
+/// Of five frames of tenant 7, each kept with ten times its number: an abort at the root takes the values of the four
+/// below, 20 to 50, and the root stays; one at frame 4, which has no child, takes nothing.
 #[test]
 fn an_abort_at_the_root_of_five_leaves_it(rt: HostRuntime) {
     let mut table: FrameTable<u64> = table_of(&rt, rt.alloc(), 7, 5);
@@ -147,7 +150,8 @@ fn come_and_go<A: Allocator>(rt: &impl Abort, table: &mut FrameTable<u64, A>, se
     }
 }
 
-/// What is found then.
+/// After a round of coming and going the frames of tenants 300 and 44 that should be there are found, and so is the
+/// newest ready frame of tenant 300.
 fn found_after<A: Allocator>(rt: &impl Abort, table: &FrameTable<u64, A>, serial: u64) {
     holds(
         rt,
@@ -158,7 +162,7 @@ fn found_after<A: Allocator>(rt: &impl Abort, table: &FrameTable<u64, A>, serial
     holds(rt, table.newest_ready(300) == Some((name(300, serial), 0)));
 }
 
-/// Frames of both come and go far more often than there are places.
+/// Frames of tenants 300 and 44 come and go 398 times, far more often than there are places.
 fn many_come_and_go<A: Allocator>(rt: &impl Abort, table: &mut FrameTable<u64, A>) {
     add(rt, table, name(300, 1), None);
     add(rt, table, name(44, 1), None);
@@ -172,7 +176,7 @@ fn many_come_and_go<A: Allocator>(rt: &impl Abort, table: &mut FrameTable<u64, A
     );
 }
 
-/// The same in a table where each has four places. No list grows.
+/// Frames of two tenants, 300 and 44, come and go in a table where each has four places; no list grows.
 fn come_and_go_within_places<A: Allocator + Copy>(rt: &impl Abort, alloc: A, heap: &LocalHeap) {
     let mut table: FrameTable<u64, A> = table_of(rt, alloc, 300, 4);
     make_places(rt, &mut table, 44, 4);
@@ -181,8 +185,8 @@ fn come_and_go_within_places<A: Allocator + Copy>(rt: &impl Abort, alloc: A, hea
     holds(rt, heap.used() == used);
 }
 
-/// The oldest go first of one tenant and the newest first of another that shares its guess, so that lists move
-/// and guesses are wrong. No list grows.
+/// Of tenant 300 the oldest frames go first and of tenant 44, which shares its guess, the newest, so that lists move
+/// and guesses are wrong: all are found, in a heap of 65,536 bytes of which no more is taken.
 #[test]
 fn names_are_found_while_many_come_and_go(rt: HostRuntime) {
     let heap = heap_of(&rt, rt.alloc(), 1 << 16);
@@ -209,7 +213,8 @@ fn places<A: Allocator>(table: &FrameTable<u64, A>, one: u64, other: u64) -> (us
     (table.places(one), table.places(other), table.tenant_count())
 }
 
-/// The reservations once there is a table.
+/// How many of three steps are taken: the making of a frame table, which is done, and the reservations of tenants 7 and
+/// 3; a refused one changes nothing.
 fn reserve_both<A: Allocator + Copy>(rt: &impl Abort, table: &mut FrameTable<u64, A>) -> usize {
     if reserve(rt, table, 7, 4).is_err() {
         holds(rt, places(table, 7, 3) == (0, 0, 0));
@@ -243,7 +248,7 @@ fn raise_after_both<A: Allocator + Copy>(rt: &impl Abort, table: &mut FrameTable
     3
 }
 
-/// The two frames of tenant 1, whether or not the raise was taken.
+/// Both frames of tenant 1 are still there, whether or not its raise was taken.
 fn both_stay<A: Allocator>(rt: &impl Abort, table: &FrameTable<u64, A>) {
     let (root, child) = (name(1, 1), name(1, 2));
     holds(rt, table.frame_count(1) == 2 && table.has_child(root));
@@ -251,7 +256,7 @@ fn both_stay<A: Allocator>(rt: &impl Abort, table: &FrameTable<u64, A>) {
     holds(rt, table.find(child) == ready_under(root, 0, 20));
 }
 
-/// The places that came with a raise to 100 are filled.
+/// The 98 free places of tenant 1, after its raise to 100, are filled with frames; one more finds no place.
 fn fill<A: Allocator>(rt: &impl Abort, table: &mut FrameTable<u64, A>) {
     for serial in 3u64..101 {
         add(rt, table, name(1, serial), Some(name(1, 2)));

@@ -1,4 +1,4 @@
-//! Heaps with room for one unit more each time, from none on: each growth is refused in turn.
+//! For tests of memory: heaps with room for one unit more each time, from none on: each request for memory is refused in turn.
 ghost use Rattle.std.specs.Prelude.{◌<◌};
 
 use crate::tests::memory::halls::{self, BALLAST, UNIT};
@@ -26,12 +26,12 @@ pub enum Made {
 /// The number of steps where nothing is refused.
 pub const ALL: usize = 3;
 
-/// All steps, or none.
+/// How many steps were taken: all, or none where the first was refused.
 fn all_where(made: bool) -> usize {
     if made { ALL } else { 0 }
 }
 
-/// Makes a core.
+/// Makes a core in this heap; an error where its memory was refused.
 fn make_core(rt: &impl Abort, heap: &LocalHeap) -> Result<(), AllocError> {
     let _core = plain_core::made(heap, config_of(rt, 64, 64), Fan::new())?;
     Ok(())
@@ -72,7 +72,8 @@ fn steps_in(rt: &impl Abort, alloc: Global, units: usize, what: Made) -> usize
     taken
 }
 
-/// How often each step was refused before all were taken: never, where that didn't come.
+/// How often each step was refused in a heap of growing size before all steps were taken; never, where that didn't
+/// come.
 fn refusals(rt: &impl Abort, alloc: Global, what: Made) -> [u32; ALL] {
     let mut refused = [0u32; ALL];
     for units in 0..65536usize {
@@ -85,15 +86,16 @@ fn refusals(rt: &impl Abort, alloc: Global, what: Made) -> [u32; ALL] {
     [0; ALL]
 }
 
-/// Each step was refused so often at least.
+/// Fails the test unless each step was refused so often at least.
 pub fn are_refused(rt: &impl Abort, alloc: Global, what: Made, least: [u32; ALL]) {
     let refused = refusals(rt, alloc, what);
     holds(rt, refused[0] >= least[0]);
     holds(rt, refused[1] >= least[1] && refused[2] >= least[2]);
 }
 
-/// Heaps grow by units of 16 bytes. A region and a stack have two blocks of 17 words (17 units), the guesses of 16 places 64 bytes (4
-/// units), and a book has more than 16 bytes for each of 64 accounts. A tenant's first places are five growths: the removed values, the
+/// In heaps with 16 bytes more each time, each step of making something is refused so often at least. A region and a
+/// stack have two blocks of 17 words (17 units of 16 bytes), the guesses of 16 places 64 bytes (4 units), and a book
+/// has more than 16 bytes for each of 64 accounts. A tenant's first places are five requests: the removed values, the
 /// slots, their keys, their serials, the ready frames. More places, here 100, are six: the guesses too.
 #[test]
 fn each_growth_is_refused_in_turn(rt: HostRuntime) {
@@ -105,7 +107,8 @@ fn each_growth_is_refused_in_turn(rt: HostRuntime) {
     are_refused(&rt, rt.alloc(), Made::MorePlaces, [1, 101, 0]);
 }
 
-/// Each growth of `new` is refused in turn: a core has places for 64 tenants in three lists.
+/// In heaps with 16 bytes more each time, a new core is refused memory more than 192 times: it has places for 64
+/// tenants in three lists.
 #[test]
 fn each_growth_of_a_core_is_refused(rt: HostRuntime) {
     are_refused(&rt, rt.alloc(), Made::Core, [64 * 3 + 1, 0, 0]);

@@ -1,4 +1,4 @@
-//! A hall in one thread, driven step by step.
+//! Tests of a hall in one thread, driven step by step.
 ghost use Rattle.std.specs.Prelude.{◌≤◌};
 ghost use Rattle.jamboree_core.specs.Replies.{IsSearch};
 
@@ -35,7 +35,7 @@ fn offer<A: Allocator + Clone>(hall: &mut Hall<A>, step: &Step<Jamboree>) -> Ste
     hall.offer(step)
 }
 
-/// What became of a job.
+/// What became of a tenant's job in the hall.
 fn outcome<A: Allocator>(hall: &Hall<A>, tenant: u64, job: u64) -> Option<Outcome> {
     hall.outcome(tenant, job)
 }
@@ -45,7 +45,7 @@ fn counts<A: Allocator>(hall: &Hall<A>) -> (u128, u128) {
     (hall.count(), hall.gone())
 }
 
-/// A step is taken, and does this.
+/// Offers the hall a step, which must be taken and do this.
 fn does<A: Allocator + Clone>(
     rt: &impl Abort,
     hall: &mut Hall<A>,
@@ -77,7 +77,7 @@ fn asks<A: Allocator + Clone>(
     has_become(rt, hall, tenant, job, Outcome::Pending);
 }
 
-/// A job has become this.
+/// Fails the test unless this became of a tenant's job.
 fn has_become<A: Allocator>(
     rt: &impl Abort,
     hall: &Hall<A>,
@@ -110,7 +110,8 @@ fn leave<A: Allocator + Clone>(rt: &impl Abort, hall: &mut Hall<A>, tenant: u64,
     holds(rt, counts(hall) == (count, count));
 }
 
-/// The opening at depth 0, from the admission to the Leave.
+/// In a hall of 8 segments and 32 nodes, at grain 2, tenant 1's job of the opening to depth 0, from the admission to
+/// the Leave: seven steps are taken before the Leave.
 #[test]
 fn a_job_is_done(rt: HostRuntime) -> Result<(), Fail> {
     let mut hall = made(rt.alloc(), config_of(&rt, 8, 32), 2)?;
@@ -212,8 +213,9 @@ fn is_left<A: Allocator + Clone>(rt: &impl Abort, hall: &mut Hall<A>) {
     leave(rt, hall, 1, 4);
 }
 
-/// An admission in this heap, or the raise of a tenant with a job: 0 where not even the step before it is taken, 1 where
-/// it is refused for want of memory, and then taken once the ballast was given back, and else all steps.
+/// How many steps are taken in this heap by a hall's admission, or by the raise of a tenant with a job: 0 where not
+/// even what comes before it is had; 1 where it is refused for want of memory, and then taken once a block that the
+/// test held (`ballast`) was given back; else all.
 pub fn steps<A: Allocator + Copy>(rt: &impl Abort, alloc: A, raises: bool) -> usize {
     let Ok(ballast) = Vec::<u8, A>::with_capacity(alloc, BALLAST) else {
         return 0;
@@ -224,7 +226,8 @@ pub fn steps<A: Allocator + Copy>(rt: &impl Abort, alloc: A, raises: bool) -> us
     }
 }
 
-/// The same once there is a hall.
+/// How many steps of the admission or the raise are taken in a hall that was made: 0 where what comes before it isn't
+/// had, 1 where it is taken only once the block that the test held (`ballast`) was given back, else all.
 fn last_steps<A: Allocator + Copy>(
     rt: &impl Abort,
     ballast: Vec<u8, A>,
@@ -243,7 +246,8 @@ fn last_steps<A: Allocator + Copy>(
     if is_first { ALL } else { 1 }
 }
 
-/// Each growth of an admission is refused in turn: those of the journal's two lists, and of the core.
+/// In heaps with 32 bytes more each time, an admission (the second of three steps) is refused at least as often as the
+/// journal's two lists take such units: places of 8 bytes and long ones of 48.
 #[test]
 fn each_growth_of_an_admission_is_refused(rt: HostRuntime) {
     let journal = (16 + BESIDE_NODES) * PLACE + (1 + LONGS_BESIDE_NODES) * LONG_PLACE;
@@ -251,7 +255,8 @@ fn each_growth_of_an_admission_is_refused(rt: HostRuntime) {
     are_refused(&rt, rt.alloc(), Made::Admission, least);
 }
 
-/// Each growth of a raise is refused in turn: those of the journal's two lists, and of the core's places.
+/// In heaps with 32 bytes more each time, a raise to 3 nodes (the second of three steps) is refused at least as often
+/// as the journal's long places, of 48 bytes, take such units.
 #[test]
 fn each_growth_of_a_raise_is_refused(rt: HostRuntime) {
     let longs = (3 + LONGS_BESIDE_NODES + 1) * LONG_PLACE;
@@ -269,8 +274,8 @@ fn bytes_of_a_raise<A: Allocator + Copy>(rt: &impl Abort, alloc: A, heap: &Local
     heap.used().saturating_sub(before)
 }
 
-/// A journal grows by just the places of the nodes that came, and isn't doubled: 16 places and a long one for a node,
-/// and one of each for the raise. (Doubled, it would take more than 100,000 bytes.)
+/// A journal gets just the places of the nodes that came, and isn't doubled: 16 places of 8 bytes and a long one of 48
+/// for a node, and one of each for the raise, less than 512 bytes. (Doubled, it would take more than 100,000 bytes.)
 #[test]
 fn one_node_more_takes_one_node(rt: HostRuntime) {
     let heap = heap_of(&rt, rt.alloc(), 1 << 23);

@@ -1,4 +1,4 @@
-//! A root and its child in a stack of four segments.
+//! Tests of a cactus stack: a root and its child in a stack of four segments.
 ghost use Rattle.std.specs.Prelude.{◌≡◌, None, replicate};
 ghost use Rattle.serial_tests.specs.Pairs.{IsPair};
 
@@ -51,14 +51,14 @@ fn grow_root_no_further(rt: &impl Abort, stack: &mut Stack, pair: &Pair)
     holds(rt, refusal.number() == 1);
 }
 
-/// How many words the root has.
+/// How many words the root of the two nodes has.
 fn root_len(stack: &Stack, pair: &Pair) -> usize
     requires { IsPair stack.now pair.now.root pair.now.child 32 17 }
 {
     stack.own(pair.root).len()
 }
 
-/// The child is closed.
+/// Closes the child of the two nodes.
 fn close_child(stack: &mut Stack, pair: &Pair)
     requires { IsPair stack.old pair.now.root pair.now.child 32 17 }
 {
@@ -84,7 +84,7 @@ fn are_levels(sight: &Sight<'_>) -> bool {
         && sight.up(2).is_none()
 }
 
-/// The same of this stack.
+/// Whether the child sees its own 17 words and the root's 20 in this stack, and no more.
 fn sees_both(stack: &Stack, pair: &Pair) -> bool
     requires { IsPair stack.now pair.now.root pair.now.child 20 17 }
 {
@@ -113,6 +113,7 @@ fn show_grown_root(rt: &impl Abort, stack: &mut Stack, pair: &Pair)
     holds(rt, root_len(stack, pair) == 32);
 }
 
+/// A root and its child in 4 segments of 16 words: both grow, and with the child closed 2 segments are free.
 #[test]
 fn a_root_and_its_child_in_four_segments(rt: HostRuntime) -> Result<(), Fail> {
     let mut stack = Stack::new(rt.alloc(), 4)?;

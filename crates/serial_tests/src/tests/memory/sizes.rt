@@ -1,4 +1,4 @@
-//! Where there is room no growth is refused, whatever the size that is asked for.
+//! Tests of memory: where there is room no memory is refused, whatever the size that is asked for.
 ghost use Rattle.std.specs.Prelude.{◌≤◌};
 
 use crate::tests::memory::frames::{add, make_places, name, table_of};
@@ -21,7 +21,7 @@ fn make_region(rt: &impl Abort, alloc: Global, count: usize)
     holds(rt, region.free_count() == count);
 }
 
-/// Every number of segments that a tenant may have, and 4,096 more up to the greatest.
+/// Regions of 1 to 4,096 segments, as many as a tenant may have, and of 16 times as many, up to 65,536, can be made.
 #[test]
 fn regions_of_all_sizes(rt: HostRuntime) {
     for count in 1usize..4097 {
@@ -30,7 +30,7 @@ fn regions_of_all_sizes(rt: HostRuntime) {
     }
 }
 
-/// Makes a book.
+/// Makes a book of reservations of these totals, for which there must be memory.
 fn make_book(rt: &impl Abort, alloc: Global, segments: u32, nodes: u32)
     requires segments { (1 ≤ segments) × (segments ≤ 65536) }
     requires nodes { (1 ≤ nodes) × (nodes ≤ 4194304) }
@@ -38,7 +38,7 @@ fn make_book(rt: &impl Abort, alloc: Global, segments: u32, nodes: u32)
     let _book = Book::new(alloc, segments, nodes).expect(rt, "room for a book");
 }
 
-/// Every number of nodes that a tenant may have, and 65,536 more up to the greatest.
+/// Books of 1 to 65,536 nodes, as many as a tenant may have, and of 64 times as many, up to the greatest, can be made.
 #[test]
 fn books_of_all_sizes(rt: HostRuntime) {
     for count in 1u32..65537 {
@@ -56,9 +56,9 @@ fn used_after_a_raise(rt: &impl Abort, heap: &LocalHeap, places: usize) -> usize
     heap.used()
 }
 
-/// Any number of places, and a raise from there to the greatest. It makes as much room as is made at once, also for
-/// guesses where frames stand, of which a table of 64 would do for none of 4,096 frames; from 2,033 places on a list
-/// may grow to twice its length.
+/// A frame table with 1 to 4,095 places for a tenant is raised to 4,096 places, in a heap of 2 MiB. It then takes as
+/// many bytes as one made with 4,096 at once, its guesses where frames stand included (64 guesses would do for none of
+/// 4,096 frames); from 2,033 places on a list may grow to twice its length, and so take more.
 #[test]
 fn tables_of_all_sizes(rt: HostRuntime) {
     let heap = heap_of(&rt, rt.alloc(), 1 << 21);
@@ -80,7 +80,7 @@ fn fill(rt: &impl Abort, table: &mut FrameTable<u64, &LocalHeap>, tenant: u64, p
     }
 }
 
-/// The same where all places have frames when they are raised.
+/// How many bytes a table takes after its one tenant, all of whose places have frames, got more places.
 fn used_after_a_raise_of_frames(rt: &impl Abort, heap: &LocalHeap, places: usize) -> usize {
     let mut table: FrameTable<u64, &LocalHeap> = table_of(rt, heap, 7, places);
     fill(rt, &mut table, 7, places as u64);
@@ -88,7 +88,8 @@ fn used_after_a_raise_of_frames(rt: &impl Abort, heap: &LocalHeap, places: usize
     heap.used()
 }
 
-/// Places with frames are raised to no more than those without.
+/// A frame table whose places (eight sizes from 1 to 2,032) all have frames, raised to 4,096 places, takes just as many
+/// bytes as one made with 4,096 at once.
 #[test]
 fn full_tables_of_all_sizes(rt: HostRuntime) {
     let heap = heap_of(&rt, rt.alloc(), 1 << 21);

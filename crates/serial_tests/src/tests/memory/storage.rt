@@ -1,4 +1,5 @@
-//! What a core's store stands on: the examples at the heads of its crates, and what is made where an allocator gives.
+//! Tests of what a core's store stands on: the examples at the heads of its crates, and what is made where an allocator
+//! gives.
 ghost use Rattle.numbered_list.specs.Places.{AreRising};
 
 use crate::tests::memory::reserve_of;
@@ -11,7 +12,7 @@ use std::process::Abort;
 use std::test::Fail;
 use tenant_quota::{Book, QuotaRefusal};
 
-/// A segment is written, and given back.
+/// In a region of 4 segments one is taken, its word 3 is written and read as 7, and it is given back: 4 are free.
 #[test]
 fn segments_are_taken_written_and_given_back(rt: HostRuntime) -> Result<(), Fail> {
     let mut region = Region::new(rt.alloc(), 4)?;
@@ -44,8 +45,8 @@ fn has_both(sight: &Sight<'_>) -> bool {
     }
 }
 
-/// Of four segments the root takes two and the child one. The child's words are seen, and then the root's, which a write to the child
-/// leaves.
+/// Of a stack of four segments the root takes two (20 words) and the child one (16). The child's words are seen, and
+/// then the root's, which a write to the child leaves.
 #[test]
 fn a_child_sees_its_root(rt: HostRuntime) -> Result<(), Fail> {
     let mut stack = Stack::new(rt.alloc(), 4)?;
@@ -56,8 +57,10 @@ fn a_child_sees_its_root(rt: HostRuntime) -> Result<(), Fail> {
     Ok(())
 }
 
+/// Takes only what may cross threads: a call of it is a test that compiles or doesn't.
 fn may_cross_threads<T: Send + Sync>(_value: &T) {}
 
+/// A stack of 1 segment may be sent to another thread and be seen there.
 #[test]
 fn a_stack_may_cross_threads(rt: HostRuntime) -> Result<(), Fail> {
     may_cross_threads(&Stack::new(rt.alloc(), 1)?);
@@ -92,7 +95,7 @@ fn are_kept(rt: &impl Abort, list: &NumberedList<(u64, u32)>)
     }
 }
 
-/// Tenants 7 and 263 share a guess, as they differ by 256: both are found.
+/// In a list by number, 7 and 263 share a guess, as they differ by 256: both are found.
 #[test]
 fn a_tenant_is_found_whatever_is_guessed(rt: HostRuntime) -> Result<(), Fail> {
     let mut list = NumberedList::new(rt.alloc())?;
@@ -146,7 +149,7 @@ fn ticks(rt: &impl Abort, book: &mut Book, tenant: u64) -> Result<(), QuotaRefus
     book.tick(tenant)
 }
 
-/// So many segments come back that a tenant was charged.
+/// A tenant of the book gives back so many of the segments that it was charged.
 fn gives_back(rt: &impl Abort, book: &mut Book, tenant: u64, segments: u32) {
     let left = book.left(tenant).expect(rt, "the tenant is there");
     let reserved = book.reserved(tenant).expect(rt, "the tenant is there");
@@ -155,7 +158,7 @@ fn gives_back(rt: &impl Abort, book: &mut Book, tenant: u64, segments: u32) {
     book.give_back(tenant, segments);
 }
 
-/// A tenant that is there leaves.
+/// A tenant that is there leaves the book.
 fn releases(rt: &impl Abort, book: &mut Book, tenant: u64) {
     holds(rt, book.left(tenant).is_some());
     book.release(tenant);
@@ -181,7 +184,8 @@ fn use_up(rt: &impl Abort, book: &mut Book) {
     holds(rt, book.left(1) == Some(left_of(5, 7, 127)));
 }
 
-/// What the first is charged, the second has left. Once the second has left, there is room for a third.
+/// In a book of 8 segments and 32 nodes two tenants reserve 5 and 3 segments: what the first is charged leaves the
+/// second all it reserved (3 segments, 8 nodes, 128 steps). Once the second has left, there is room for a third.
 #[test]
 fn two_tenants_share_a_book(rt: HostRuntime) -> Result<(), Fail> {
     let mut book = Book::new(rt.alloc(), 8, 32)?;

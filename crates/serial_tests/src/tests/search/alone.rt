@@ -1,4 +1,4 @@
-//! Searches whose core has little memory, and how far a core goes.
+//! Tests of searches whose core has little memory, and of how far a core goes.
 ghost use Rattle.std.specs.Prelude.{◌≤◌};
 
 use super::{heap_of, holds, holds_at, left_of, opening};
@@ -70,8 +70,8 @@ fn has_grain(alloc: Global, grain: u8) -> Result<bool, AllocError>
     Ok(has_more && is_done_with(&near, NODES - 5, STEPS - 32))
 }
 
-/// To one ply more than the grain each of the four moves, which are equal, is computed by itself: five nodes and 32
-/// steps. To two plies more the moves have nodes of their own.
+/// At grains 0 to 6: to one ply more than the grain each of the opening's four moves, which are equal, is computed by
+/// itself, which takes five nodes and 32 steps; to two plies more the moves have nodes of their own.
 #[test]
 fn the_grain_is_the_one_that_is_asked(rt: HostRuntime) {
     for grain in 0..7 {
@@ -105,7 +105,8 @@ fn is_done_deep(alloc: Global, depth: u8, grain: u8) -> bool
     }
 }
 
-/// Deep searches are done by their core, which is that of 4,096 segments and 65,536 nodes, at each grain.
+/// Searches to depth 7 to 12 are done by a core of 4,096 segments and 65,536 nodes, at each grain from 0 to 6; a failed
+/// case is the depth times ten and the grain.
 #[test]
 fn deep_searches_are_done_by_a_core(rt: HostRuntime) {
     for depth in 7..13 {
@@ -117,7 +118,8 @@ fn deep_searches_are_done_by_a_core(rt: HostRuntime) {
     }
 }
 
-/// A search that needs more nodes than there are goes on until none is left: that of the opening to 11 plies.
+/// The search of the opening to 11 plies at grain 0 needs more nodes than there are: it goes on until none of 65,536 is
+/// left, and gives its 4,096 segments back.
 #[test]
 fn a_search_goes_on_to_its_last_node(rt: HostRuntime) {
     let found = solved(rt.alloc(), &opening(), 11, 0).expect(&rt, "there is memory");
@@ -140,8 +142,8 @@ fn is_done_within(rt: &impl Abort, alloc: Global, units: usize) -> Option<bool>
     is_done
 }
 
-/// In heaps with more and more room each growth of the core and of the admission is refused in turn, and all that was
-/// taken is given back. What is found is found by the core.
+/// In 320 heaps with more and more room each request for memory of the core and of the admission is refused in turn,
+/// more than 16 in all, and all that was taken is given back. What is found is found by the core.
 #[test]
 fn each_growth_is_refused_in_turn(rt: HostRuntime) {
     let (mut refused, mut done) = (0u32, 0u32);
@@ -168,7 +170,7 @@ fn calls_of(counted: &CountedAlloc<Global>, depth: u8) -> u64
     }
 }
 
-/// What a search takes of its allocator doesn't grow with it: the core takes its memory when it is made.
+/// How often a search calls its allocator is the same to depths 0 to 4: the core takes its memory when it is made.
 #[test]
 fn searches_take_no_memory(rt: HostRuntime) {
     let counted = CountedAlloc::new(rt.alloc());

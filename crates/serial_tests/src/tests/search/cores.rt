@@ -1,3 +1,4 @@
+//! Tests of lists of steps on a core of searches, and of the calls of the promises that run such lists.
 ghost use Rattle.std.specs.Prelude.{IfOk};
 ghost use Rattle.jamboree_core.specs.Replies.{AreSearches, IsSearch};
 ghost use Rattle.jamboree_rules.specs.declared.leaf.LeafAnswer.{LeafAnswer};
@@ -22,12 +23,12 @@ fn is_done_with(job: Option<&Job>, value: u64, choice: u64) -> bool {
     words.len() > 9 && words[8] == value && words[9] == choice
 }
 
-/// Totals of 64 segments and nodes.
+/// The totals of a core: 64 segments and 64 nodes.
 fn totals() -> Config {
     Config::new(64, 64).unwrap()
 }
 
-/// The procedure with grain 2.
+/// The search procedure with grain 2: frames with at most 2 plies left are computed at once.
 fn grain_2() -> Jamboree {
     Jamboree::new(2).unwrap()
 }
@@ -94,8 +95,9 @@ fn is_list_run(alloc: Global, core: &mut Core<Jamboree>) -> Result<bool, AllocEr
     Ok(answers.len() == 662 && taken(&answers) == 11)
 }
 
-/// The example at the head of the crate, and more: one answer each. The first seven are taken, and then four Submits, for
-/// which the tenant has segments.
+/// A core of 64 segments and nodes is offered the admission of tenant 7, a Submit of the opening to depth 0, the five
+/// steps that do it, and 655 Submits more: one answer each. The first seven are taken, and then four Submits, for which
+/// the tenant has segments; job 1 is worth 0 (1,000,000) without a choice (65).
 #[test]
 fn a_list_of_steps(rt: HostRuntime) {
     let mut core = Core::new(rt.alloc(), totals(), grain_2()).expect(&rt, "there is memory");
@@ -122,7 +124,7 @@ fn ran(alloc: Global, steps: &[Step<Jamboree>]) -> Option<After<Jamboree, Global
     run(alloc, grain_2(), totals(), steps).ok()
 }
 
-/// The same for any procedure.
+/// What the promise on one list of any steps comes to, by the search with grain 2.
 fn ran_any(alloc: Global, steps: &[Step<Jamboree>]) -> Option<After<Jamboree, Global>> {
     run_any(alloc, grain_2(), totals(), steps).ok()
 }
@@ -151,7 +153,8 @@ fn are_run(alloc: Global) -> Option<bool> {
     Some(is_run(&after) && is_run(&any) && is_run(&one) && is_run(&other))
 }
 
-/// The laws of lists run their lists to the end: where they always said that memory is wanting, they would promise nothing.
+/// The calls that promise laws of lists of steps do run a list of 127 steps to its end. If they always answered that
+/// memory is wanting, they would promise nothing.
 #[test]
 fn laws_of_lists_are_run(rt: HostRuntime) {
     holds(&rt, are_run(rt.alloc()) == Some(true));

@@ -1,4 +1,4 @@
-//! How many positions a search enters: no contract speaks of that.
+//! Tests of how many positions a serial search enters: no contract speaks of that.
 ghost use Rattle.std.specs.Prelude.{◌≤◌};
 
 use super::{holds, holds_at};
@@ -45,7 +45,7 @@ fn in_order(board: Board, depth: u8) -> Scored
     search_full(board, depth)
 }
 
-/// How many positions an ordered search enters from this one; as many as there are numbers where these are no board.
+/// How many positions an ordered search enters from the position with these discs; 2^64 - 1 where they are no board.
 fn entered(discs: Discs, depth: u8) -> u64
     requires { depth ≤ 12 }
 {
@@ -55,7 +55,7 @@ fn entered(discs: Discs, depth: u8) -> u64
     }
 }
 
-/// How many it enters from the first of them together.
+/// How many positions ordered searches enter from the first so many of the drawn positions, all together.
 fn entered_by(count: usize, depth: u8) -> u64
     requires { depth ≤ 12 }
 {
@@ -66,7 +66,8 @@ fn entered_by(count: usize, depth: u8) -> u64
     all
 }
 
-/// An ordered search enters at most 1.1 times as many positions as the peer.
+/// To depths 4, 6 and 8, an ordered search enters at most 1.1 times as many positions as a peer, whose numbers stand in
+/// `PEERS`.
 #[test]
 fn ordered_searches_enter_few(rt: HostRuntime) {
     for (depth, count, peers) in PEERS {
@@ -92,7 +93,8 @@ fn agree(discs: Discs, depth: u8) -> bool
     }
 }
 
-/// Below the depth at which choices are ordered both searches are the same, and enter the same positions.
+/// At depth 2 and, of another board, at 5, below the depth at which choices are ordered both searches are the same, and
+/// enter the same positions.
 #[test]
 fn short_searches_are_in_order(rt: HostRuntime) {
     let Some(board) = Board::new(DRAWN[0].0, DRAWN[0].1) else {

@@ -1,5 +1,5 @@
-//! The examples at the heads of the crates of the game, of its positions and of its lines, and the known numbers of
-//! positions after so many choices.
+//! Tests of the examples at the heads of the crates of the game, of its positions and of its lines, and of the known
+//! numbers of positions after so many choices.
 use super::{OPENING, holds, holds_at, opening};
 use arrayvec::ArrayVec;
 use jamboree_core::enough;
@@ -10,6 +10,8 @@ use othello_eval::{Valued, eval, final_value, plain};
 use othello_moves::{Choice, after, choice, choice_count, move_count, moves, over};
 use protocol::{push_move, push_value, split_at_space, word_number};
 
+/// The opening's board: 2 discs each, the cells of e4 (28), d4 (27) and d3 (19), the flips of d3, and no board of
+/// shared bits.
 #[test]
 fn board_example(rt: HostRuntime) {
     holds(&rt, OPENING.count() == (2, 2));
@@ -29,6 +31,7 @@ fn has_a_first_choice() -> bool {
     choice_count(OPENING) > 0 && matches!(choice(OPENING, 0), Choice::Square(19))
 }
 
+/// The opening has 4 legal moves: d3, c4, f5 and e6 (squares 19, 26, 37 and 44).
 #[test]
 fn moves_example(rt: HostRuntime) {
     let four: u64 = 1 << 19 | 1 << 26 | 1 << 37 | 1 << 44;
@@ -49,6 +52,8 @@ const LOST: Board = Board {
     opp: u64::MAX,
 };
 
+/// The opening is worth 0, and to depth 1 it is worth -3, by d3 (square 19); a game lost by all 64 discs is worth
+/// -128,000.
 #[test]
 fn eval_example(rt: HostRuntime) {
     holds(&rt, eval(OPENING) == 0);
@@ -68,6 +73,7 @@ fn leaves(board: Board, depth: u8) -> u32 {
     found
 }
 
+/// From the opening there are 4, 12, 56, 244, 1,396 and 8,200 positions after 1 to 6 choices, as is known.
 #[test]
 fn leaves_from_the_opening(rt: HostRuntime) {
     for (depth, found) in [(1, 4), (2, 12), (3, 56), (4, 244), (5, 1396), (6, 8200)] {
@@ -82,6 +88,7 @@ const FOUND: Scored = Scored {
     visited: 15,
 };
 
+/// The serial search of the opening to depth 2 finds -4, by d3 (square 19), after 15 positions.
 #[test]
 fn opening_at_depth_2(rt: HostRuntime) {
     holds(&rt, search(OPENING, 2, -INF, INF) == FOUND);
@@ -95,6 +102,8 @@ fn sufficing(board: Board, depth: u8, grain: u8) -> (u32, u32) {
     }
 }
 
+/// What suffices, in segments and nodes: 995 and 3,505 for the opening to depth 6 at grain 4, 19 and 33 to depth 0; 2
+/// and 2 for a finished game; and no reservation does for the opening to depth 12 at grain 0.
 #[test]
 fn what_suffices(rt: HostRuntime) {
     holds(&rt, sufficing(OPENING, 6, 4) == (995, 3505));
@@ -113,6 +122,7 @@ fn is_read() -> bool {
     }
 }
 
+/// The opening is read from its text, and written as the same text.
 #[test]
 fn opening_is_read_and_written(rt: HostRuntime) {
     holds(&rt, is_read());
@@ -127,11 +137,13 @@ fn is_split(line: &[u8], rest: &[u8]) -> bool {
     }
 }
 
+/// A line is split at its first space: `12` and `X-O`.
 #[test]
 fn words_are_read(rt: HostRuntime) {
     holds(&rt, is_split(b"12 X-O", b"X-O"));
 }
 
+/// The answer `-3 d3` is written: a value, a space and a move.
 #[test]
 fn an_answer_is_written(rt: HostRuntime) {
     let mut text: ArrayVec<u8, 32> = ArrayVec::new();

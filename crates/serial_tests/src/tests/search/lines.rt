@@ -1,5 +1,5 @@
-//! What no contract says: that input is read in blocks, that an error is answered at once, and that an answer is
-//! written before more is read.
+//! Tests of what no contract says of lines and their answers: that input is read in blocks, that an error is answered
+//! at once, and that an answer is written before more is read.
 use super::{given, holds, holds_at};
 use arrayvec::ArrayVec;
 use line_io::{
@@ -16,6 +16,7 @@ struct Echo {
 }
 
 impl Echo {
+    /// An answerer without a text yet.
     fn new() -> Echo {
         Echo {
             text: ArrayVec::new(),
@@ -28,6 +29,7 @@ impl LineAnswerer for Echo {
 
     ghost kept = { λ echo. echo.text.items };
 
+    /// The answer to a line of fewer than 16 bytes is the line, and to any other nothing; LF ends both.
     fn answer(&mut self, line: Line<'_>) {
         self.text.clear();
         if let Line::Whole(bytes) = line
@@ -38,12 +40,13 @@ impl LineAnswerer for Echo {
         self.text.push(b'\n');
     }
 
+    /// The text of the last answer.
     fn text(&self) -> &[u8] {
         self.text.as_slice()
     }
 }
 
-/// Whether all lines are echoed.
+/// Whether all lines of the source are echoed on the sink.
 fn echoes<S: Source, K: Sink>(source: &mut S, sink: &mut K) -> bool {
     answer_lines(source, sink, &mut Echo::new()).is_ok()
 }
@@ -55,6 +58,7 @@ fn is_echoed(alloc: Global, bytes: &[u8], answers: &[u8]) -> bool {
     echoes(&mut source, &mut sink) && sink.writer.as_slice() == answers
 }
 
+/// Two lines, the first ended by CR and LF, the last by nothing, are echoed with LF.
 #[test]
 fn lines_are_echoed(rt: HostRuntime) {
     holds(&rt, is_echoed(rt.alloc(), b"one\r\ntwo", b"one\ntwo\n"));
@@ -71,6 +75,7 @@ struct Failing {
 }
 
 impl Failing {
+    /// A stream whose first calls fail so many times by this error.
     fn new(error: ErrorKind, failures: u32) -> Failing {
         Failing {
             error,
@@ -80,6 +85,7 @@ impl Failing {
         }
     }
 
+    /// One call of the stream for so many bytes: it fails as long as failures are left.
     fn call(&mut self, bytes: usize) -> io::Result<usize> {
         self.calls = self.calls.saturating_add(1);
         self.bytes = bytes;
@@ -92,6 +98,7 @@ impl Failing {
 }
 
 impl Read for Failing {
+    /// Reads so many bytes as the block has, or fails.
     fn read(&mut self, buf: &mut [u8]) -> io::Result<usize> {
         let count = self.call(buf.len())?;
         Ok(count.min(buf.len()))
@@ -99,11 +106,13 @@ impl Read for Failing {
 }
 
 impl Write for Failing {
+    /// Takes all bytes, or fails.
     fn write(&mut self, buf: &[u8]) -> io::Result<usize> {
         let count = self.call(buf.len())?;
         Ok(count.min(buf.len()))
     }
 
+    /// Does nothing, as nothing is kept back.
     fn flush(&mut self) -> io::Result<()> {
         Ok(())
     }
@@ -145,6 +154,8 @@ fn is_written(failure: &Failure) -> bool {
         && is_called(&sink.writer, calls, 100)
 }
 
+/// A read asks for a whole block of 4,096 bytes and a write offers all 100; each error ends it at once, but an
+/// interruption is tried again, up to 65,535 times.
 #[test]
 fn whole_blocks_are_read_and_written_and_errors_answered_at_once(rt: HostRuntime) {
     let mut case = 0usize;
@@ -163,6 +174,7 @@ pub struct Ear {
 }
 
 impl Ear {
+    /// Nothing was asked and nothing answered yet.
     pub fn new() -> Ear {
         Ear {
             asked: Cell::new(0),
@@ -188,6 +200,7 @@ pub struct Asking<'a> {
 impl Source for Asking<'_> {
     ghost gives = { λ _ _ _. Unit {0} };
 
+    /// Gives the next line, and notes it as too early where the line before has no answer yet.
     fn fill(&mut self, block: &mut [u8]) -> Result<usize, ReadFailed> {
         let asked = self.ear.asked.get();
         if self.ear.answered.get() != asked || block.len() < 4096 {
@@ -211,6 +224,7 @@ pub struct Hearing<'a>(pub &'a Ear);
 impl Sink for Hearing<'_> {
     ghost takes = { λ _ _ _. Unit {0} };
 
+    /// Hears an answer, which must end with LF.
     fn put(&mut self, bytes: &[u8]) -> Result<usize, WriteFailed> {
         if bytes.last() != Some(&b'\n') {
             return Err(WriteFailed);
@@ -233,6 +247,7 @@ fn is_heard_to_its_end() -> bool {
     echoes(&mut source, &mut Hearing(&ear)) && ear.has_heard(3)
 }
 
+/// Each line's answer is heard before the next line is read.
 #[test]
 fn each_answer_is_written_before_more_is_read(rt: HostRuntime) {
     holds(&rt, is_heard_to_its_end());

@@ -1,4 +1,4 @@
-//! Sessions over memory, with an office of prepared replies.
+//! Tests of sessions over memory, with an office of prepared replies.
 mod tables;
 
 use super::lines::{Asking, Ear, Hearing};
@@ -23,6 +23,7 @@ struct Prepared {
 }
 
 impl Prepared {
+    /// An office with this one standing for all jobs, and 4 segments, 7 nodes and 123 steps left.
     fn new(standing: Standing) -> Prepared {
         Prepared {
             standing,
@@ -32,6 +33,7 @@ impl Prepared {
         }
     }
 
+    /// How a job that was asked stands: as prepared; `NoJob` for any other.
     fn told(&self, job: u64) -> Result<Standing, Refusal> {
         if job == 0 || job > self.jobs {
             return Err(Refusal::NoJob);
@@ -43,11 +45,13 @@ impl Prepared {
 impl Office for Prepared {
     ghost does = { λ _ _ _ _. Unit {0} };
 
+    /// A tenant comes, whatever it reserves.
     fn hello(&mut self, _reserve: Reserve) -> Result<(), Refusal> {
         self.here = true;
         Ok(())
     }
 
+    /// Raises what is left of the nodes; `Lower` where that is no more than before.
     fn reserve(&mut self, reserve: Reserve) -> Result<(), Refusal> {
         if reserve.nodes() <= self.left.nodes {
             return Err(Refusal::Lower);
@@ -56,29 +60,35 @@ impl Office for Prepared {
         Ok(())
     }
 
+    /// Gives the next job's number.
     fn ask(&mut self, _question: &Question) -> Result<u64, Refusal> {
         self.jobs = self.jobs.saturating_add(1);
         Ok(self.jobs)
     }
 
+    /// How the job stands: as prepared.
     fn get(&mut self, job: u64) -> Result<Standing, Refusal> {
         self.told(job)
     }
 
+    /// How the job stands: as prepared, as if it had ended.
     fn wait(&mut self, job: u64) -> Result<Standing, Refusal> {
         self.told(job)
     }
 
+    /// From now on all jobs stand as cancelled.
     fn cancel(&mut self, job: u64) -> Result<(), Refusal> {
         self.told(job)?;
         self.standing = Standing::Cancelled;
         Ok(())
     }
 
+    /// What is left, as prepared.
     fn quota(&mut self) -> Result<Left, Refusal> {
         Ok(self.left)
     }
 
+    /// Says that the tenant has no frames and no words.
     fn live(&mut self) -> Result<Live, Refusal> {
         Ok(Live {
             frames: 0,
@@ -86,6 +96,7 @@ impl Office for Prepared {
         })
     }
 
+    /// Notes that the tenant isn't there any more.
     fn leave(&mut self) {
         self.here = false;
     }
@@ -149,6 +160,7 @@ struct Blocks<'a> {
 impl Source for Blocks<'_> {
     ghost gives = { λ _ _ _. Unit {0} };
 
+    /// Gives the next block; after the last the end of the input, or a failed read.
     fn fill(&mut self, block: &mut [u8]) -> Result<usize, ReadFailed> {
         let blocks = self.blocks;
         match blocks.get(self.given) {
@@ -172,6 +184,7 @@ struct Narrow {
 }
 
 impl Write for Narrow {
+    /// Takes a part of the bytes while calls are left; then it fails, or takes nothing.
     fn write(&mut self, buf: &[u8]) -> io::Result<usize> {
         if self.calls == 0 {
             return if self.fails {
@@ -186,6 +199,7 @@ impl Write for Narrow {
         Ok(count)
     }
 
+    /// Does nothing, as nothing is kept back.
     fn flush(&mut self) -> io::Result<()> {
         Ok(())
     }
@@ -206,7 +220,7 @@ fn is_left<R: Wait>(
     result == end && !office.here && sink.writer.taken.as_slice() == due
 }
 
-/// These blocks, at whose end the source fails, or ends.
+/// A source of these blocks, at whose end it fails, or ends.
 fn blocks_of<'a>(blocks: &'a [&'a [u8]], fails: bool) -> Blocks<'a> {
     Blocks {
         blocks,
@@ -215,7 +229,7 @@ fn blocks_of<'a>(blocks: &'a [&'a [u8]], fails: bool) -> Blocks<'a> {
     }
 }
 
-/// So many bytes a call for so many calls; then the sink fails, or takes none.
+/// A sink that takes so many bytes a call for so many calls; then it fails, or takes none.
 fn narrow_of(alloc: Global, most: usize, calls: usize, fails: bool) -> Narrow {
     Narrow {
         taken: Vec::new(alloc),
@@ -290,7 +304,7 @@ enum Trial {
     Wire,
 }
 
-/// How many cases a trial has.
+/// How many cases this trial of a session has.
 fn cases(trial: &Trial) -> usize {
     match trial {
         Trial::Read(_) => 11,
@@ -300,7 +314,7 @@ fn cases(trial: &Trial) -> usize {
     }
 }
 
-/// Whether a case of it is as it should be.
+/// Whether one case of this trial of a session comes out as it should.
 fn is_so<R: Wait>(rt: &R, alloc: Global, trial: &Trial, case: usize) -> Result<bool, AllocError> {
     match trial {
         Trial::Read(fails) => reads(rt, alloc, case, *fails),
@@ -310,7 +324,8 @@ fn is_so<R: Wait>(rt: &R, alloc: Global, trial: &Trial, case: usize) -> Result<b
     }
 }
 
-/// Tries all its cases. The tests share this loop, since each loop takes the prover two seconds more.
+/// Tries all cases of this trial of a session, and fails the test at the first that comes out otherwise. The tests
+/// share this loop, since each loop takes the prover two seconds more.
 fn tries<R: Wait + Abort>(rt: &R, alloc: Global, trial: Trial) {
     for case in 0..cases(&trial) {
         let is_so = is_so(rt, alloc, &trial, case);
@@ -318,6 +333,7 @@ fn tries<R: Wait + Abort>(rt: &R, alloc: Global, trial: Trial) {
     }
 }
 
+/// A failed read ends a session with fault 1, and the answers to the lines before it are written.
 #[test]
 fn a_read_that_fails_leaves_the_answers_before_it(rt: HostRuntime) {
     tries(&rt, rt.alloc(), Trial::Read(true));
@@ -325,6 +341,7 @@ fn a_read_that_fails_leaves_the_answers_before_it(rt: HostRuntime) {
     holds(&rt, SessionFault::Read.number() == 1);
 }
 
+/// A failed write ends a session with fault 2, and a beginning of the answers is written.
 #[test]
 fn a_write_that_fails_leaves_a_beginning(rt: HostRuntime) {
     tries(&rt, rt.alloc(), Trial::Write(true));
@@ -332,12 +349,13 @@ fn a_write_that_fails_leaves_a_beginning(rt: HostRuntime) {
     holds(&rt, SessionFault::Write.number() == 2);
 }
 
-/// Where all lines come at once.
+/// Where all lines of a session come in one block, a failed write leaves whole answers alone.
 #[test]
 fn a_write_that_fails_leaves_whole_answers(rt: HostRuntime) {
     tries(&rt, rt.alloc(), Trial::Answer);
 }
 
+/// Each answer of a session is written before the next line is read.
 #[test]
 fn each_answer_is_written_before_more_is_read(rt: HostRuntime) {
     tries(&rt, rt.alloc(), Trial::Wire);

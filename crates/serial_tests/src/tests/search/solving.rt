@@ -1,4 +1,4 @@
-//! `solve` where memory is wanting.
+//! Tests of `solve` where memory is wanting.
 ghost use Rattle.std.specs.Prelude.{◌≤◌};
 
 use super::{given, heap_of, holds};
@@ -38,6 +38,7 @@ struct Crowded<'a> {
 impl Source for Crowded<'_> {
     ghost gives = { λ _ _ _. Unit {0} };
 
+    /// Gives the opening to depth 1 three times; while the first and the third are answered, most of the heap is taken.
     fn fill(&mut self, block: &mut [u8]) -> Result<usize, ReadFailed> {
         self.crowd = match self.calls {
             0 | 2 => Vec::with_capacity(self.heap, CROWD).ok(),
@@ -52,7 +53,7 @@ impl Source for Crowded<'_> {
     }
 }
 
-/// Whether the three lines are answered so in this heap.
+/// Whether `solve` answers the three lines by these answers in this heap.
 fn are_answered(alloc: Global, heap: &LocalHeap, answers: &[u8]) -> bool {
     let mut source = Crowded {
         heap,
@@ -63,7 +64,8 @@ fn are_answered(alloc: Global, heap: &LocalHeap, answers: &[u8]) -> bool {
     solves(heap, &mut source, &mut sink, 2).is_ok() && sink.writer.as_slice() == answers
 }
 
-/// A line whose growth is refused is answered by ERR 19, and the lines after it are answered.
+/// Of three lines of `solve` the first and the third are refused memory, and answered by ERR 19; the second is answered
+/// -3 d3, and at the end all of the heap is free.
 #[test]
 fn refused_growths_are_told(rt: HostRuntime) {
     let heap = heap_of(&rt, rt.alloc(), ROOM);
@@ -76,14 +78,15 @@ fn refused_growths_are_told(rt: HostRuntime) {
 const FAULTY: &[u8] =
     b"x Z\n13 Z\n1 Z\n5 ---------------------------------------------------------------- X\n";
 
-/// Whether they are answered so in this heap.
+/// Whether `solve` answers the four lines, three of which have a fault, by these answers in this heap.
 fn are_faults_told(alloc: Global, heap: &LocalHeap, answers: &[u8]) -> bool {
     let mut source = FromReader { reader: FAULTY };
     let mut sink = FromWriter::new(Vec::new(alloc));
     solve_bytes(heap, &mut source, &mut sink, 2).is_ok() && sink.writer.as_slice() == answers
 }
 
-/// Faults come before the memory of a search is asked for.
+/// In a heap of no byte, `solve` answers lines by their faults (23 a depth that is no number, 27 one over 12, 24 a
+/// short position) before it asks for a search's memory, for which the last line has ERR 19.
 #[test]
 fn faults_ask_for_no_memory(rt: HostRuntime) {
     let heap = heap_of(&rt, rt.alloc(), 0);

@@ -1,5 +1,5 @@
-//! Offices of a desk: no contract says that HELLO ever succeeds, nor what an office answers that has no tenant. It refuses
-//! by number, and one that has a tenant takes no other. Sessions ask neither of it.
+//! Tests of sessions' offices at a desk: no contract says that HELLO ever succeeds, nor what an office answers that has
+//! no tenant. It refuses by number, and one that has a tenant takes no other. Sessions ask neither of it.
 ghost use Rattle.std.specs.Prelude.{◌≡◌};
 
 use super::holds;
@@ -18,14 +18,15 @@ fn has_no_job<O: Office>(office: &mut O) -> bool {
         && matches!(office.cancel(1), Err(Refusal::NoJob))
 }
 
-/// Whether it has no tenant to reserve more for, nor one that has anything left or alive.
+/// Whether the office says, by number, that it has no tenant to reserve more for, nor one that has anything left or
+/// alive.
 fn has_no_tenant<O: Office>(office: &mut O, reserve: Reserve) -> bool {
     matches!(office.reserve(reserve), Err(Refusal::NoTenant))
         && matches!(office.quota(), Err(Refusal::NoTenant))
         && matches!(office.live(), Err(Refusal::NoTenant))
 }
 
-/// Whether it takes a tenant, and no other after it.
+/// Whether the office takes one tenant, and no other after it.
 fn takes_one<O: Office>(office: &mut O, reserve: Reserve) -> bool {
     office.hello(reserve).is_ok() && matches!(office.hello(reserve), Err(Refusal::OldTenant))
 }
@@ -43,7 +44,7 @@ fn is_new_office_as_it_says<L: DeskLedger, R: Wait>(
     answer
 }
 
-/// Whether the offices of a new desk are so.
+/// Whether an office at a new desk over this hall refuses all that has to do with a tenant, and then takes just one.
 fn is_new_desk_as_it_says<L: DeskLedger, R: Wait>(
     rt: &R,
     hall: Hall,
@@ -60,7 +61,8 @@ fn is_new_desk_as_it_says<L: DeskLedger, R: Wait>(
     is_new_office_as_it_says(rt, &desk, reserve)
 }
 
-/// The same with a blank of its own.
+/// Whether an office answers as it should before and after HELLO, at a new desk over this hall with a ledger of its
+/// own.
 fn are_offices_as_they_say<R: Wait>(
     rt: &R,
     hall: Hall,
@@ -70,6 +72,8 @@ fn are_offices_as_they_say<R: Wait>(
     is_new_desk_as_it_says::<Brand, R>(rt, hall, Blank::new(PARTS), opened, reserve)
 }
 
+/// A session's office at a desk of 8 segments and nodes refuses by number what it is asked without a tenant, and a
+/// second HELLO.
 #[test]
 fn an_office_has_one_tenant_and_says_where_it_has_none(rt: HostRuntime) {
     let reserve = Reserve::new(1, 1).unwrap();

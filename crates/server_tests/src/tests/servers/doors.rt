@@ -1,4 +1,4 @@
-//! What lies between a server and those who come: its listener, its descriptors, its threads.
+//! For tests of a server: what lies between it and those who come: its listener, its descriptors, its threads.
 ghost use Rattle.std.specs.Prelude.{◌≡◌};
 
 use super::{
@@ -123,8 +123,11 @@ impl Together {
 }
 
 impl Gate for Together {
+    /// Does nothing before a task.
     fn before(&self, _worker: Worker, _task: &Task) {}
 
+    /// A worker begins to compute a leaf: it counts itself, and notes where the other workers don't come to theirs in
+    /// time.
     fn inside(&self, _worker: Worker, _number: u64) {
         self.there.fetch_add(1, Ordering::SeqCst);
         if !self.are_there() {
@@ -183,7 +186,7 @@ enum Arrival {
     Closed,
 }
 
-/// How somebody is received who comes now.
+/// How somebody who comes to the server now is received.
 fn received<R: Net<Stream = TcpStream>>(rt: &R, address: SocketAddr) -> Arrival {
     match come(rt, address) {
         Some(stream) if is_alive(&stream) => Arrival::LetIn,
@@ -330,25 +333,27 @@ where
     content && is_whole(desk, served) && !gate.late.load(Ordering::SeqCst)
 }
 
-/// The listener is closed with the last connection, while its session lives.
+/// A server for 1 session closes its listener with the first connection, while that session lives: who comes then is
+/// refused.
 #[test]
 fn who_comes_too_late_is_refused(rt: HostRuntime) {
     holds(&rt, is_content(&rt, 0, Visit::Followed, 1, 1));
 }
 
-/// Who never reads its answers holds up nobody.
+/// Of 2 clients of a server with 1 worker, one that never reads its answers holds up nobody.
 #[test]
 fn a_silent_peer_holds_up_nobody(rt: HostRuntime) {
     holds(&rt, is_content(&rt, 0, Visit::Silent, 2, 1));
 }
 
-/// Four workers that were asked for run at once.
+/// A server with four workers, as were asked for, has all four at a computation at once.
 #[test]
 fn as_many_workers_run_as_were_asked(rt: HostRuntime) {
     holds(&rt, is_content(&rt, 0, Visit::Four, 1, 4));
 }
 
-/// Where all descriptors are used up, who comes is turned away and counts, and the sessions go on.
+/// Where all descriptors of a server for 4 sessions are used up, who comes is turned away and counts, and the sessions
+/// go on.
 #[test]
 fn descriptors_are_used_up(rt: HostRuntime) {
     holds(&rt, is_content(&rt, 0, Visit::Crowd, 4, 1));
@@ -370,10 +375,12 @@ impl<R: Net<Listener = TcpListener, Stream = TcpStream>> Net for Waiting<'_, R> 
 
     type Listener = TcpListener;
 
+    /// Binds a listener, as the runtime does.
     fn bind(&self, address: SocketAddr) -> io::Result<TcpListener> {
         self.rt.bind(address)
     }
 
+    /// Connects, and waits up to 5 seconds for the server to say something or to close.
     fn connect(&self, address: SocketAddr) -> io::Result<TcpStream> {
         let mut stream = self.rt.connect(address)?;
         stream.set_read_timeout(Some(Duration::from_secs(5)))?;

@@ -1,4 +1,5 @@
-//! Listeners that fail: by want of descriptors, for which there is a spare one, or of memory, or otherwise, which ends the server.
+//! Tests of a server's listeners that fail: by want of descriptors, for which there is a spare one, or of memory, or
+//! otherwise, which ends the server.
 ghost use Rattle.std.specs.Prelude.{◌≡◌};
 
 use super::doors::is_not_yet;
@@ -35,7 +36,7 @@ fn takes_bit(bits: &AtomicU64) -> bool {
     all % 2 == 1
 }
 
-/// A listener whose tries fail so.
+/// A listener whose tries to take a connection, or to be named twice, fail by this error so often.
 fn failing_by(listener: TcpListener, code: i32, tries: u64, names: u64) -> Failing {
     Failing {
         listener,
@@ -48,6 +49,7 @@ fn failing_by(listener: TcpListener, code: i32, tries: u64, names: u64) -> Faili
 impl OpenListener for Failing {
     type Stream = TcpStream;
 
+    /// Takes a connection, or fails by the error while tries of that are left.
     fn accept(&self) -> io::Result<(TcpStream, SocketAddr)> {
         if takes_bit(&self.tries) {
             return Err(Error::from_raw_os_error(self.code));
@@ -55,6 +57,7 @@ impl OpenListener for Failing {
         self.listener.accept()
     }
 
+    /// A second name of the listener, or a failure while tries of that are left.
     fn try_clone(&self) -> io::Result<Failing> {
         if takes_bit(&self.names) {
             return Err(Error::from(ErrorKind::Unsupported));
@@ -85,7 +88,7 @@ const TRIES: [Try; 10] = [
 /// A connection that was lost (103) before it could be taken is passed over, and so is an interruption (4).
 const LOST: [Try; 2] = [(103, 0b11, false, None), (4, 0b11, false, None)];
 
-/// Who comes through a door next.
+/// The next connection that comes through the server's door.
 fn next_of<R: Host>(rt: &R, door: &mut Door<Failing>) -> io::Result<Option<TcpStream>> {
     door.next(rt)
 }
@@ -112,6 +115,7 @@ where
     takes(rt, door, &one, error)
 }
 
+/// For each error of `accept`, by number: the server uses its spare descriptor, waits and goes on, or ends.
 #[test]
 fn each_error_of_a_listener(rt: HostRuntime) {
     for tried in &TRIES {
@@ -119,6 +123,7 @@ fn each_error_of_a_listener(rt: HostRuntime) {
     }
 }
 
+/// Connections that are lost before they are taken are passed over.
 #[test]
 fn lost_connections_are_passed_over(rt: HostRuntime) {
     for tried in &LOST {
@@ -142,20 +147,23 @@ where
         && matches!(next_of(rt, &mut door), Ok(Some(_)))
 }
 
-/// Every other try finds no descriptor left, and there is no second name at the second time: the second is taken by the spare
-/// descriptor that was made anew when the first was closed.
+/// A bit is set for each try that fails: of the tries to take a connection the first and the third (0b0101, from the
+/// right) find no descriptor, and of the second names of the listener the second (0b10) can't be had. The second client
+/// is taken by the spare descriptor that was made anew when the first was closed.
 #[test]
 fn a_spare_descriptor_is_had_again(rt: HostRuntime) {
     holds(&rt, is_second_taken(&rt, 0b0101, 0b10));
 }
 
-/// The try with the spare descriptor fails too, as another thread was quicker: the first is taken by one that was made anew then.
+/// Bits say which tries fail (the first three, the one with the spare descriptor too, as another thread was quicker)
+/// and which second name can't be had (the third): the client is taken by a spare descriptor that was made anew then.
 #[test]
 fn a_spare_descriptor_is_had_after_a_failure(rt: HostRuntime) {
     holds(&rt, is_second_taken(&rt, 0b111, 0b100));
 }
 
-/// There is no spare descriptor at first: the first is taken by one that was made while the door waited.
+/// Bits say which tries fail (the first two) and which second names can't be had (the first and the third): there is no
+/// spare descriptor at first, and the client is taken by one that was made while the door waited.
 #[test]
 fn a_spare_descriptor_is_had_in_need(rt: HostRuntime) {
     holds(&rt, is_second_taken(&rt, 0b11, 0b101));
@@ -192,12 +200,12 @@ fn a_listener_that_fails_ends_the_server(rt: HostRuntime) {
     holds(&rt, is_well(&rt, 0, Trial::Hasty));
 }
 
-/// Whether what a fault says begins so.
+/// Whether what the program says of a fault begins with this text.
 fn begins(alloc: Global, fault: ServeFault, text: &str) -> bool {
     matches!(format!(in alloc; "{fault}"), Ok(told) if told.as_str().starts_with(text))
 }
 
-/// What each fault says, and which fault of a pool is which of a server.
+/// What a server says of each of its faults, and which fault of a pool is which of a server.
 #[test]
 fn faults_of_a_server_are_told(rt: HostRuntime) {
     let alloc = rt.alloc();

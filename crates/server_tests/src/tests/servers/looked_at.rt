@@ -1,4 +1,5 @@
-//! Servers whose listener is the test's own: one that keeps hold of a connection that it gave, and one without an address.
+//! For tests of servers whose listener is the test's own: one that keeps hold of a connection that it gave, and one
+//! without an address.
 ghost use Rattle.std.specs.Prelude.{◌≡◌};
 
 use super::{
@@ -25,6 +26,7 @@ struct Keeping<'k> {
 impl OpenListener for Keeping<'_> {
     type Stream = TcpStream;
 
+    /// Takes a connection, and keeps a second name of it.
     fn accept(&self) -> io::Result<(TcpStream, SocketAddr)> {
         let (stream, address) = self.listener.accept()?;
         if let Some(mut last) = self.last.try_lock() {
@@ -33,6 +35,7 @@ impl OpenListener for Keeping<'_> {
         Ok((stream, address))
     }
 
+    /// The address at which the listener is bound.
     fn local_addr(&self) -> io::Result<SocketAddr> {
         self.listener.local_addr()
     }
@@ -104,6 +107,7 @@ pub(super) struct Unnamed {
 }
 
 impl AsRawFd for Unnamed {
+    /// The number of the listener's descriptor.
     fn as_raw_fd(&self) -> RawFd {
         self.listener.as_raw_fd()
     }
@@ -112,10 +116,12 @@ impl AsRawFd for Unnamed {
 impl OpenListener for Unnamed {
     type Stream = TcpStream;
 
+    /// Takes a connection, as the listener does.
     fn accept(&self) -> io::Result<(TcpStream, SocketAddr)> {
         self.listener.accept()
     }
 
+    /// Fails: this listener has no address.
     fn local_addr(&self) -> io::Result<SocketAddr> {
         Err(no_address())
     }
@@ -165,11 +171,13 @@ impl<R: Net<Listener = TcpListener, Stream = TcpStream>> Net for Nameless<'_, R>
 
     type Listener = Unnamed;
 
+    /// Binds a listener that will tell no address.
     fn bind(&self, address: SocketAddr) -> io::Result<Unnamed> {
         let listener = self.rt.bind(address)?;
         Ok(Unnamed { listener })
     }
 
+    /// Connects, as the runtime does.
     fn connect(&self, address: SocketAddr) -> io::Result<TcpStream> {
         self.rt.connect(address)
     }

@@ -1,4 +1,5 @@
-//! What the words of the command line ask for, the exit statuses, and where each text goes.
+//! Tests of the program `othello`: what the words of the command line ask for, the exit statuses, and where each text
+//! goes.
 mod clients;
 mod grains;
 mod served;
@@ -21,7 +22,7 @@ const LINE: &[u8] = b"2 ---------------------------OX------XO-------------------
 /// What writes into memory.
 type Memory = FromWriter<Vec<u8>>;
 
-/// A writer into memory.
+/// A writer that keeps in memory what is written.
 fn memory(alloc: Global) -> Memory {
     FromWriter::new(Vec::new(alloc))
 }
@@ -35,6 +36,7 @@ struct Keys {
 }
 
 impl Read for Keys {
+    /// Gives the next bytes that were typed, or fails by the error.
     fn read(&mut self, block: &mut [u8]) -> io::Result<usize> {
         if let Some(kind) = self.failure {
             return Err(Error::from(kind));
@@ -48,6 +50,7 @@ impl Read for Keys {
 }
 
 impl IsTerminal for Keys {
+    /// Whether these bytes are typed at a terminal, as the test says.
     fn is_terminal(&self) -> bool {
         self.is_terminal
     }
@@ -74,10 +77,12 @@ fn typed(bytes: &'static [u8], is_terminal: bool) -> FromReader<Keys> {
 struct Broken(ErrorKind);
 
 impl Write for Broken {
+    /// Fails by the error that the test chose.
     fn write(&mut self, _bytes: &[u8]) -> io::Result<usize> {
         Err(Error::from(self.0))
     }
 
+    /// Does nothing, as nothing is kept back.
     fn flush(&mut self) -> io::Result<()> {
         Ok(())
     }
@@ -113,7 +118,8 @@ where
     (status, sink, errors.writer)
 }
 
-/// The same with this input and this output.
+/// What comes of a command line with this input and this output: the exit status, the output and what is said on the
+/// errors.
 fn followed<S: ProgramInput + Drop, K: ProgramOutput, R>(
     rt: &R,
     alloc: Global,
@@ -191,6 +197,7 @@ where
     found == status && begins(&answers, output) && begins(&errors, error)
 }
 
+/// For each command line: what is written to the output and to the errors, and the exit status.
 #[test]
 fn each_text_has_its_place_and_status(rt: HostRuntime) {
     for text in &TEXTS {
@@ -257,6 +264,7 @@ where
         && (words.len() > 2 || spell(&sink.sink.writer, NUMBERS))
 }
 
+/// At a terminal each answer that is a fault is explained in words; else none is.
 #[test]
 fn faults_are_said_in_words_at_a_terminal(rt: HostRuntime) {
     for explaining in &EXPLAINING {
@@ -295,7 +303,7 @@ fn is_taken<K: Sink>(sink: &mut K, answer: &str) -> bool {
     matches!(sink.put(bytes), Ok(count) if count == bytes.len())
 }
 
-/// Whether this is said of an answer that is taken.
+/// Whether the program says this on the errors of an answer that is taken by the output.
 fn is_said_of(alloc: Global, answer: &str, said: &str) -> bool {
     let mut sink = explained(alloc, memory(alloc));
     is_taken(&mut sink, answer)
@@ -310,6 +318,8 @@ fn is_lost_in_silence(alloc: Global) -> bool {
     !is_taken(&mut sink, "ERR 27\n") && sink.is_closed() && sink.errors.writer.is_empty()
 }
 
+/// Of answers, faults alone are explained; and nothing is said of an answer that nobody got, since the output was
+/// closed.
 #[test]
 fn only_faults_are_said_in_words(rt: HostRuntime) {
     for (answer, said) in &ANSWERS {

@@ -1,4 +1,4 @@
-//! Tables of jobs, over TCP, and what jobs leave, at each grain and by one worker and by eight.
+//! Tests of the tables of jobs over TCP, and of what jobs leave, at each grain and by one worker and by eight.
 
 use super::doors::Visit;
 use super::{ANSWERED, ASK_0, ASK_1, Host, LAST, MOVES, PASSES, Row, SPENT, is_content};
@@ -45,6 +45,8 @@ where
     }
 }
 
+/// At grains 0, 2 and 6, by 1 and by 8 workers: the tables and answers of jobs; at grain 0, what jobs that were spent
+/// leave.
 #[test]
 fn jobs_are_told_at_each_grain(rt: HostRuntime) {
     are_told_at(&rt, &TABLES, &GRAINS);

@@ -1,3 +1,4 @@
+-- Rows of a session's TABLE lines: what the table of one ASK of the opening is, and that no other job has one.
 use Rattle.session.proofs.Common.{◌≡◌, Some, subst, digits, squares, IsTable, Asked, opening_board}
 use Rattle.session.proofs.rows.a_table_is_of_what_was_asked.Goals as goal
 

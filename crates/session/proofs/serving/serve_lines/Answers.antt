@@ -1,3 +1,5 @@
+-- A session is served line by line (`serve_lines`): each call that it makes of the office is one that its lines ask
+-- for, and its end is that of the talk.
 use Rattle.session.proofs.Common.{◌≡◌, ℕ, List, sym, rules, ◌∙◌, LineText, Handler, Ghosts, request, Turned}
 use Rattle.session.proofs.Served.{talk-session, chain-keeps, Session-office}
 use Rattle.session.proofs.serving.serve_lines.Goals as goal

@@ -1,3 +1,5 @@
+-- The text of a TABLE line (`texts::push_entries`): at each turn, the text so far and the entries still to come make
+-- the whole line.
 use Rattle.session.proofs.Common.{◌≡◌, ◌+◌, ◌*◌, ◌≤◌, ◌++◌, drop, length, entries_text}
 use Rattle.session.proofs.texts.push_entries.Given as goal
 

@@ -1,4 +1,5 @@
--- The tests in their order.
+-- The book of a site's customers says why a session isn't raised (`book::why_no_raise`): the first of its tests, in
+-- their order, that isn't passed.
 use Rattle.site_book.proofs.Common.{◌≡◌, false, refl, ap, sym, ◌∙◌, Grant, Own, Network, Guests, network_of, used, grants_without, is_no_raise, why_beyond}
 use Rattle.site_book.proofs.BookLemmas.{raise-is, found-held, removed-list}
 use Rattle.site_book.proofs.book.why_no_raise.Goals as goal

@@ -1,3 +1,5 @@
+-- A site's book lists its sessions for another plan (`coming::told_by`): the session that the loop is at is told to
+-- end exactly where it doesn't stay.
 use Rattle.site_book.proofs.Common.{◌≡◌, [], ◌∷◌, ◌++◌, length, ap, sym, ◌∙◌, arith, length-append, told_by, stays}
 use Rattle.site_book.proofs.ComingLemmas.{told-step, staying-length}
 use Rattle.site_book.proofs.coming.told_by.Goals as goal

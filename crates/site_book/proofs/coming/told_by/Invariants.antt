@@ -1,3 +1,5 @@
+-- A site's book lists its sessions for another plan (`coming::told_by`): at each turn, the sessions listed so far and
+-- what comes of those left make the whole list, which has room for them.
 use Rattle.site_book.proofs.Common.{◌≡◌, ◌+◌, ◌≤◌, ◌++◌, [], length, told_by}
 use Rattle.site_book.proofs.coming.told_by.Given as goal
 

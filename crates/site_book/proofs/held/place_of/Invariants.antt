@@ -1,3 +1,4 @@
+-- A site's book looks for a session's grant (`held::place_of`): at each turn, no grant passed so far is the session's.
 use Rattle.site_book.proofs.Common.{◌≡◌, ◌+◌, drop, grant_place}
 use Rattle.site_book.proofs.held.place_of.Given as goal
 

@@ -1,4 +1,5 @@
--- The grant at the place is one of the part, or it isn't.
+-- The book of a site's customers sums up what others have (`held::used_besides`): the grant at the place is one of the
+-- part, or it isn't.
 use Rattle.site_book.proofs.Common.{sym, ◌∙◌}
 use Rattle.site_book.proofs.BookLemmas.{own-within, own-less, other-same}
 use Rattle.site_book.proofs.held.used_besides.Goals as goal

@@ -1,3 +1,5 @@
+-- A site's book sums up what some grants have (`held::used_in`): at each turn, the sums so far and those of the grants
+-- left make the whole, and they are small enough for 64 bits.
 use Rattle.site_book.proofs.Common.{◌≡◌, ◌+◌, ◌*◌, ◌≤◌, drop, used}
 use Rattle.site_book.proofs.held.used_in.Given as goal
 

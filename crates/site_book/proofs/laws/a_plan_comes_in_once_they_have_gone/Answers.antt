@@ -1,3 +1,5 @@
+-- Of a site's book: another plan comes in once those have gone who were told to end, so the law
+-- `a_plan_comes_in_once_they_have_gone`.
 use Rattle.site_book.proofs.Common.{[], Told as those_told, remaining, told_by}
 use Rattle.site_book.proofs.Keepings.{kept-new, let-in}
 use Rattle.site_book.proofs.ComingLemmas.{left-kept}

@@ -1,3 +1,4 @@
+-- Of a site's book: what is out is what was opened and hasn't ended, so the law `all_comes_back`.
 use Rattle.site_book.proofs.Common.{ap, ◌∙◌, used, new_book, book_after_events}
 use Rattle.site_book.proofs.RunLemmas.{names-run, no-names}
 use Rattle.site_book.proofs.laws.all_comes_back.Goals as goal

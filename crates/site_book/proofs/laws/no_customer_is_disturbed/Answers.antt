@@ -1,3 +1,5 @@
+-- Of a site's book: the events of others, who share no budget with a customer, change none of its answers and grants,
+-- so the law `no_customer_is_disturbed`.
 use Rattle.site_book.proofs.Common.{sym, ap, Named, same_who, is_guest, BookOf, new_book}
 use Rattle.site_book.proofs.Isolation.{run-theirs, told-theirs, named-whole, guests-whole, guest-among}
 use Rattle.site_book.proofs.laws.no_customer_is_disturbed.Goals as goal

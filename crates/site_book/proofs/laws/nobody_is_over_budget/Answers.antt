@@ -1,3 +1,4 @@
+-- Of a site's book: after any events each customer is within its budget, so the law `nobody_is_over_budget`.
 use Rattle.site_book.proofs.Common.{new_book}
 use Rattle.site_book.proofs.Keepings.{kept-new, kept-few}
 use Rattle.site_book.proofs.RunLemmas.{kept-run, totals-run}

@@ -1,3 +1,4 @@
+-- Of a site's book: only an idle guest goes for one who comes, so the law `only_idle_guests_go_for_another`.
 use Rattle.site_book.proofs.Common.{idlest}
 use Rattle.site_book.proofs.ComingLemmas.{ends-idle, idlest-there, idle-parts}
 use Rattle.site_book.proofs.laws.only_idle_guests_go_for_another.Goals as goal

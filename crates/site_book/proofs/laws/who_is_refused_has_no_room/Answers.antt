@@ -1,3 +1,5 @@
+-- Of a site's book: who is refused would have no room even without those told to end, so the law
+-- `who_is_refused_has_no_room`.
 use Rattle.site_book.proofs.Common.{ap, ◌∙◌, sym, OverGuests, why_over}
 use Rattle.site_book.proofs.ComingLemmas.{refused-now, refused-then, refused-idle, nobody-idle}
 use Rattle.site_book.proofs.laws.who_is_refused_has_no_room.Goals as goal

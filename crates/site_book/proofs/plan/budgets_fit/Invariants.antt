@@ -1,3 +1,5 @@
+-- A site's plan tests whether its budgets are within the hall's totals (`plan::budgets_fit`): at each turn, the
+-- budgets still to come are within what is left exactly where all are within the totals.
 use Rattle.site_book.proofs.Common.{◌≡◌, length, is_amount_within, plus, sum_of}
 use Rattle.site_book.proofs.plan.budgets_fit.Given as goal
 

@@ -1,3 +1,5 @@
+-- A site's roll of sessions finds the idlest guest (`roll::idlest`): at each turn, the better of the one so far and
+-- the idlest of those left is the idlest of all.
 use Rattle.site_book.proofs.Common.{◌≡◌, drop, idler, idlest}
 use Rattle.site_book.proofs.roll.idlest.Given as goal
 

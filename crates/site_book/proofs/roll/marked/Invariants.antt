@@ -1,3 +1,5 @@
+-- A site's roll marks some of its sessions (`roll::marked`): at each turn, those listed so far and those left, marked,
+-- make the whole list, which has room for them.
 use Rattle.site_book.proofs.Common.{◌≡◌, ◌+◌, ◌≤◌, ◌++◌, length, marked_all}
 use Rattle.site_book.proofs.roll.marked.Given as goal
 

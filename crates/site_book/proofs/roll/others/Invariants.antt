@@ -1,3 +1,5 @@
+-- A site's roll drops one session (`roll::others`): at each turn, those kept so far and those of the rest that are to
+-- be kept are all but the first of this number.
 use Rattle.site_book.proofs.Common.{◌≡◌, ◌+◌, ◌≤◌, ◌++◌, length, without_present}
 use Rattle.std.proofs.Common.{if◌then◌else◌}
 use Rattle.site_book.proofs.roll.others.Given as goal

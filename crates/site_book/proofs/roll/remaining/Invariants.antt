@@ -1,3 +1,5 @@
+-- A site's book without the grants of those who go (`roll::remaining`): at each turn, the grants kept so far and those
+-- of the rest that stay are all that stay.
 use Rattle.site_book.proofs.Common.{◌≡◌, ◌+◌, ◌≤◌, ◌++◌, length, remaining}
 use Rattle.site_book.proofs.roll.remaining.Given as goal
 

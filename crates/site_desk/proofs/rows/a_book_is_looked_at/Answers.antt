@@ -1,3 +1,4 @@
+-- Answers for a row: a look at the book's history adds no event of who looks.
 use Rattle.site_desk.proofs.Common.{refl, ◌∷◌, [], Opens}
 use Rattle.site_book.specs.Rows.{ask}
 use Rattle.site_book.specs.declared.who.Who.TheVariants.{V4}

@@ -1,3 +1,4 @@
+-- Answers for a row: events that a book grants, and ones that it doesn't.
 use Rattle.site_desk.proofs.Common.{refl}
 use Rattle.site_desk.proofs.rows.events_are_granted.Goals as goal
 

@@ -1,3 +1,4 @@
+-- Answers for a row: the book at the end of a history, and one that isn't it.
 use Rattle.site_desk.proofs.Common.{refl, ap, BookOf}
 use Rattle.site_desk.proofs.RowLemmas.{other-plan}
 use Rattle.site_desk.proofs.rows.histories_of_a_book.Goals as goal

@@ -1,3 +1,4 @@
+-- Answers for a row: what some sessions may have and have, at the end of a history of the book.
 use Rattle.site_desk.proofs.Common.{◌∷◌, [], refl, Opens, Replans}
 use Rattle.site_book.specs.Rows.{ask, even, school}
 use Rattle.site_desk.proofs.rows.parts_at_a_time.Goals as goal

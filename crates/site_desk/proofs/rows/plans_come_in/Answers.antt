@@ -1,3 +1,4 @@
+-- Answers for a row: a plan that came in, and what isn't one.
 use Rattle.site_desk.proofs.Common.{◌≡◌, ◌∷◌, [], refl, sym, ◌∙◌, ap, subst, ℕ, List, Replans, BookEvent, PlanOf, Opens, book_at}
 use Rattle.site_book.specs.Rows.{ask, even, one_sided, school}
 use Rattle.site_book.specs.declared.who.Who.TheVariants.{Named}

@@ -1,3 +1,4 @@
+-- Answers for a row: a session that is open has its grant, and a book without it isn't one of the history.
 use Rattle.site_desk.proofs.Common.{refl}
 use Rattle.site_book.specs.Rows.{school}
 use Rattle.site_desk.proofs.Holding.{none_held}

@@ -1,3 +1,4 @@
+-- Answers for a row: what a new session's maker has seen, and what it can't have.
 use Rattle.site_desk.proofs.Common.{◌∷◌, [], refl, Opens}
 use Rattle.site_book.specs.Rows.{ask}
 use Rattle.site_book.specs.declared.who.Who.TheVariants.{V4}

@@ -1,3 +1,5 @@
+-- A site's desks are made, one of each stock (`stock::desks_of`): each has the hall and the book that the clauses name
+-- for its place.
 use Rattle.site_desk.proofs.Common.{◌≡◌, ◌+◌, length, subst, arith}
 use Rattle.site_desk.specs.Stocks.{IsStock, AreStocked, NamesOf}
 use Rattle.site_desk.proofs.Stocks.{last-of}

@@ -1,3 +1,5 @@
+-- A site's desks are made, one of each stock (`stock::desks_of`): at each turn, the desks so far have the numbers from
+-- 0 on, and there is room for the rest.
 use Rattle.std.specs.Prelude.{length}
 use Rattle.site_desk.specs.Stocks.{AreStocked}
 use Rattle.site_desk.proofs.stock.desks_of.Given as goal

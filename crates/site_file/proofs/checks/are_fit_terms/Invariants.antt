@@ -1,3 +1,5 @@
+-- A site's file is checked for rates that let no line pass (`checks::are_fit_terms`): at each turn, the rates of all
+-- customers so far let lines pass, so the rest decides.
 use Rattle.std.proofs.Common.{◌≡◌, drop}
 use Rattle.site_file.specs.Checks.{are_fit_terms}
 use Rattle.site_file.proofs.checks.are_fit_terms.Given as goal

@@ -1,3 +1,5 @@
+-- A site's file is checked for a customer without a key (`checks::first_keyless`): at each turn, all customers passed
+-- so far have a key.
 use Rattle.std.proofs.Common.{◌≡◌, drop}
 use Rattle.site_file.specs.Checks.{first_keyless}
 use Rattle.site_file.proofs.checks.first_keyless.Given as goal

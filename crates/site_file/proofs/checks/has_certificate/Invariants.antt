@@ -1,3 +1,5 @@
+-- A site's file is checked for a customer's certificate (`checks::has_certificate`): at each turn, no key passed so
+-- far is the customer's.
 use Rattle.std.proofs.Common.{◌≡◌, drop}
 use Rattle.site_file.specs.Checks.{has_certificate}
 use Rattle.site_file.proofs.checks.has_certificate.Given as goal

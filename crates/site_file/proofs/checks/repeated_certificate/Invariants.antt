@@ -1,3 +1,5 @@
+-- A site's file is checked for a certificate that stands twice (`checks::repeated_certificate`): at each turn, none
+-- passed so far stands twice.
 use Rattle.std.proofs.Common.{◌≡◌, drop}
 use Rattle.site_file.specs.Checks.{repeated_certificate}
 use Rattle.site_file.proofs.checks.repeated_certificate.Given as goal

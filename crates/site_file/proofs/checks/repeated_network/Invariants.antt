@@ -1,3 +1,5 @@
+-- A site's file is checked for a network that stands twice (`checks::repeated_network`): at each turn, none passed so
+-- far stands twice.
 use Rattle.std.proofs.Common.{◌≡◌, drop}
 use Rattle.site_file.specs.Checks.{repeated_network}
 use Rattle.site_file.proofs.checks.repeated_network.Given as goal

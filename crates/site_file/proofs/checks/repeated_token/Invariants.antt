@@ -1,3 +1,5 @@
+-- A site's file is checked for a token that stands twice (`checks::repeated_token`): at each turn, none passed so far
+-- stands twice.
 use Rattle.std.proofs.Common.{◌≡◌, drop}
 use Rattle.site_file.specs.Checks.{repeated_token}
 use Rattle.site_file.proofs.checks.repeated_token.Given as goal

@@ -1,3 +1,5 @@
+-- A site's file is searched for the key of a network (`checks::same_network`): at each turn, no key passed so far is
+-- of this network.
 use Rattle.std.proofs.Common.{◌≡◌, drop}
 use Rattle.site_file.specs.Checks.{same_network}
 use Rattle.site_file.proofs.checks.same_network.Given as goal

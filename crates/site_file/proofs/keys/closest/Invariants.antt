@@ -1,3 +1,5 @@
+-- A site finds the customer of an address (`keys::closest`): at each turn, the closest network so far or one of those
+-- left is the closest of all.
 use Rattle.std.proofs.Common.{◌≡◌, drop}
 use Rattle.site_file.specs.Keys.{closer, closest}
 use Rattle.site_file.proofs.keys.closest.Given as goal

@@ -1,3 +1,5 @@
+-- A site finds the customer of a token (`keys::customer_of_digest`): at each turn, no token passed so far has this
+-- digest.
 use Rattle.std.proofs.Common.{◌≡◌, drop}
 use Rattle.site_file.specs.Keys.{customer_of_digest}
 use Rattle.site_file.proofs.keys.customer_of_digest.Given as goal

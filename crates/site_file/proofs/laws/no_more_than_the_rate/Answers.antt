@@ -1,3 +1,4 @@
+-- Of a customer's lines at a site: no more pass than its rate allows, so the law `no_more_than_the_rate`.
 use Rattle.site_file.proofs.Sums.{all-lines}
 use Rattle.site_file.proofs.laws.no_more_than_the_rate.Goals as goal
 

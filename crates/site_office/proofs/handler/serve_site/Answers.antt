@@ -1,3 +1,5 @@
+-- A site's session is served line by line (`handler::serve_site`): each line is answered by one turn of the session,
+-- and the tenant has left at the end.
 use Rattle.site_office.proofs.Common.{◌≡◌, ℕ, List, sym, subst, rules, ◌∙◌, LineText, Ghosts, LeavesIf, SiteHandler, site_request, SiteTurned}
 use Rattle.site_office.specs.declared.access.AccessControl.{Ghosts as AccessControlGhosts}
 use Rattle.site_office.proofs.ChainLemmas.{chain-keeps}

@@ -1,3 +1,4 @@
+-- Of a site's session: no tenant stays after it, so the law `nobody_stays`.
 use Rattle.site_office.proofs.Common.{◌≡◌, ℕ, List, sym, ◌∙◌, LineText, Ghosts, SiteHandler, site_request, SiteTurned}
 use Rattle.site_office.specs.declared.access.AccessControl.{Ghosts as AccessControlGhosts}
 use Rattle.site_office.proofs.HandlerLemmas.{chain-holds, leaves, site-turned}

@@ -1,3 +1,4 @@
+-- Rows of a site's lines: PING, a HELLO with a token and a QUOTA, and which of them is answered beside the session.
 use Rattle.site_office.proofs.Common.{refl, digits, inl, inr, [], Quota, Hello, Welcome, Made}
 use Rattle.site_office.proofs.rows.what_is_beside_a_session.Goals as goal
 

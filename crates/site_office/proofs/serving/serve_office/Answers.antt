@@ -1,3 +1,4 @@
+-- Answers for serve_office: the lines of a connection are a session at the office's desk, and lines beside it.
 use Rattle.site_office.proofs.Common.{ap, ◌∙◌, is_some, at_site}
 use Rattle.site_office.proofs.SeatLemmas.{none-of, same-stays}
 use Rattle.site_office.proofs.SessionLemmas.{seen-site}

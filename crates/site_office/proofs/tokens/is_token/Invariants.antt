@@ -1,3 +1,5 @@
+-- A site's session reads a token (`tokens::is_token`): at each turn, all bytes so far may stand in one, so the rest
+-- decides.
 use Rattle.std.proofs.Common.{◌≡◌, drop}
 use Rattle.std.specs.List.{list_all}
 use Rattle.site_office.specs.Tokens.{is_token_byte}

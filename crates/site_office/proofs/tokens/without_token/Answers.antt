@@ -1,3 +1,5 @@
+-- A site's session drops the token of a line (`tokens::without_token`): the token and the space before it are no longer
+-- than the line, so what is cut off is there.
 use Rattle.site_office.proofs.Common.{◌<◌, length, arith}
 use Rattle.site_office.proofs.TokenLemmas.{token-short}
 use Rattle.site_office.proofs.tokens.without_token.Goals as goal

@@ -1,3 +1,5 @@
+-- A proxy's header is read field by field (`fields::field_of`): a field of this type that is met is the first of it,
+-- and after one of another type those left decide.
 use Rattle.std.proofs.Common.{◌≡◌, ◌-◌, ◌+◌, suc, length, sym, ◌∙◌, arith}
 use Rattle.site_rules.proofs.FieldLemmas.{field-found, field-next}
 use Rattle.site_rules.proofs.fields.field_of.Goals as goal

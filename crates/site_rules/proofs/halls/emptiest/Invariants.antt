@@ -1,3 +1,4 @@
+-- A guest's hall at a site is chosen (`halls::emptiest`): at each turn, the best so far and the halls left decide.
 use Rattle.std.proofs.Common.{◌≡◌, drop}
 use Rattle.site_rules.specs.Halls.{emptiest}
 use Rattle.site_rules.proofs.halls.emptiest.Given as goal

@@ -1,3 +1,5 @@
+-- A proxy's header of an IPv6 connection is read (`headers::v6_reading`): the address is the one that stands in its
+-- bytes.
 use Rattle.std.proofs.Common.{◌-◌, length, take, drop, sym, arith}
 use Rattle.site_rules.proofs.HeaderLemmas.{v6-long, part-all}
 use Rattle.site_rules.proofs.headers.v6_reading.Goals as goal

@@ -1,3 +1,5 @@
+-- A site's budgets are joined while a plan is replaced (`reloads::budgets_of_both`): the next customer's is the lesser
+-- of both plans'.
 use Rattle.std.proofs.Common.{◌+◌, ◌≤◌, ◌∙◌, ap, arith}
 use Rattle.site_book.specs.Plans.{budget_of}
 use Rattle.site_book.specs.declared.who.Who.TheVariants.{Named}

@@ -1,3 +1,4 @@
+-- A line of `solve` has a core of its own (`job::admit`): the core's one tenant is there, with all that the core has.
 use Rattle.solve_engine.proofs.Working.{begins}
 use Rattle.solve_engine.proofs.job.admit.Goals as goal
 

@@ -1,3 +1,5 @@
+-- The answer to a line of `solve` (`job::answer_in`): the job's reply, or the serial search's, is the minimax value
+-- and the best choice.
 use Rattle.solve_engine.proofs.Common.{◌∙◌, ap₂, rules, w32, to_z-of_z, SFits, minimax, best_choice}
 use Rattle.solve_engine.proofs.Asking.{asked-serves, outcome-to, outcome-there, reply-of, reply-cells}
 use Rattle.solve_engine.proofs.job.answer_in.Goals as goal

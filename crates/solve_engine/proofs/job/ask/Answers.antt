@@ -1,3 +1,4 @@
+-- The search of a line of `solve` is submitted (`job::ask`): right after the admission it can't be refused.
 use Rattle.solve_engine.proofs.Working.{submits-on}
 use Rattle.solve_engine.proofs.job.ask.Goals as goal
 

@@ -1,3 +1,5 @@
+-- A search of `solve` in a core of its own (`searching::search_within`): what the core's job or the serial search
+-- gives is the minimax value and the best choice.
 use Rattle.solve_engine.proofs.Common.{ℕ, ap, arith, subst, Jamboree, IsNewCore}
 use Rattle.solve_engine.proofs.searching.search_within.Goals as goal
 

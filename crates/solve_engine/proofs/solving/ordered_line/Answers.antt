@@ -1,3 +1,4 @@
+-- A line of `solve --ordered` (`solving::ordered_line`): its answer is the defined text.
 use Rattle.solve_engine.proofs.Common.{ap, ap₂, ◌∙◌, rules, w32, to_z-of_z, SFits, value_text, question_answer, solved}
 use Rattle.solve_engine.proofs.solving.ordered_line.Goals as goal
 

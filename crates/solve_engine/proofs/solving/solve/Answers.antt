@@ -1,3 +1,4 @@
+-- The command `solve` (`solving::solve`): what is written is the defined answers to the lines read.
 use Rattle.solve_engine.proofs.RefusalLemmas.{solved-run}
 use Rattle.solve_engine.proofs.solving.solve.Goals as goal
 

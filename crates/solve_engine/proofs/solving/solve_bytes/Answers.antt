@@ -1,3 +1,5 @@
+-- The command `solve` over readers and writers of std (`solving::solve_bytes`): with known bytes, the writer holds
+-- at Ok what it held, and then just their answers.
 use Rattle.solve_engine.proofs.Common.{Result, Ok, Err, OnOk, LineFault, ReadAnswer, WriteAnswer, solve_out_unless, SolvedRun}
 use Rattle.solve_engine.proofs.solving.solve_bytes.Goals as goal
 

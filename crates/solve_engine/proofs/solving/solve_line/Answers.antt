@@ -1,3 +1,5 @@
+-- A line of `solve` (`solving::solve_line`): its answer is the defined text, or that of fault 19 where memory was
+-- refused.
 use Rattle.solve_engine.proofs.Common.{ap, ap₂, ◌∙◌, true, false, rules, w32, to_z-of_z, SFits, value_text, error_text, question_answer, solved_unless}
 use Rattle.solve_engine.proofs.solving.solve_line.Goals as goal
 

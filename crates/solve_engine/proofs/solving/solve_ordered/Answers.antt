@@ -1,3 +1,5 @@
+-- The command `solve --ordered` (`solving::solve_ordered`): it takes no memory for searches, so what is written is the
+-- defined output itself.
 use Rattle.solve_engine.proofs.Common.{Run-function, solve_line}
 use Rattle.solve_engine.proofs.RefusalLemmas.{none-refused-run}
 use Rattle.solve_engine.proofs.solving.solve_ordered.Goals as goal

@@ -1,3 +1,4 @@
+-- The command `solve --visited` (`solving::solve_visited`): each answer has the defined value and move, and a number.
 use Rattle.solve_engine.proofs.Common.{Run-related, IsVisitedLine}
 use Rattle.solve_engine.proofs.solving.solve_visited.Goals as goal
 

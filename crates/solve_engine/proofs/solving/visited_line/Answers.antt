@@ -1,3 +1,4 @@
+-- A line of `solve --visited` (`solving::visited_line`): its answer has the defined value and move, and a number.
 use Rattle.solve_engine.proofs.Common.{ap, ap₂, ◌∙◌, rules, w32, to_z-of_z, SFits, visited_text, question_answer, solved_with_count}
 use Rattle.solve_engine.proofs.solving.visited_line.Goals as goal
 

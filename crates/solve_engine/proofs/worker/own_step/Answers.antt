@@ -1,3 +1,4 @@
+-- The one worker of `solve` (`worker::own_step`): what it offers is a worker's step or a Spend.
 use Rattle.solve_engine.proofs.Common.{IfSome, sym, subst, IsWork}
 use Rattle.solve_engine.proofs.Staying.{held-work}
 use Rattle.solve_engine.proofs.worker.own_step.Goals as goal

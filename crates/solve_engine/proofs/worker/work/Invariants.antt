@@ -1,3 +1,4 @@
+-- The one worker of `solve` (`worker::work`): at each turn, the core is still one of that tenant's job.
 use Rattle.solve_engine.proofs.Common.{Keeps}
 use Rattle.solve_engine.proofs.worker.work.Given as goal
 

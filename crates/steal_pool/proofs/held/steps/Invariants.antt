@@ -1,3 +1,5 @@
+-- A worker of a pool takes its steps under one lock (`held::steps`): at each turn, its ends are at the same deques as at
+-- the beginning, and its badge's share is greater by at most the turns so far.
 use Rattle.std.proofs.Common.{◌≡◌, ◌+◌, ◌≤◌}
 use Rattle.steal_pool.specs.task_deques.Deals.{posts}
 use Rattle.steal_pool.proofs.held.steps.Given as goal

@@ -1,3 +1,4 @@
+-- What a pool ends with (`pool::end_of`): its numbers of tasks are the sums over all deques that came back.
 use Rattle.std.proofs.Common.{sym, subst}
 use Rattle.steal_pool.specs.Ends.{AreTasksOf}
 use Rattle.steal_pool.proofs.pool.end_of.Goals as goal

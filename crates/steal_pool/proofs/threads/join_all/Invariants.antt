@@ -1,3 +1,5 @@
+-- A pool waits for its threads (`threads::join_all`): at each turn, the deque ends that came back and those promised
+-- by the threads left are all, and there is room for them.
 use Rattle.std.proofs.Common.{◌≡◌, ◌+◌, ◌≤◌, ◌++◌, map, length}
 use Rattle.std.specs.Vec.Iter.{into_iter_items, into_iter_len}
 use Rattle.steal_pool.specs.task_deques.Deals.{posts, posts_of, returned, returned_room}

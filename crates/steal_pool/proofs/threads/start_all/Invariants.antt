@@ -1,3 +1,5 @@
+-- A pool starts its threads (`threads::start_all`): at each turn, the ends promised by the threads started and those
+-- left to be dealt are all, and there is room for the handles.
 use Rattle.std.proofs.Common.{◌≡◌, ◌+◌, ◌≤◌, ◌++◌, map, vec_len, vec_capacity}
 use Rattle.std.specs.Vec.Iter.{into_iter_items, into_iter_len}
 use Rattle.steal_pool.specs.task_deques.Deals.{posts}

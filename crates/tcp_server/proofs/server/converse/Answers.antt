@@ -1,3 +1,4 @@
+-- Answers for converse: its tapes began blank, at the connection's socket.
 use Rattle.tcp_server.proofs.OnTapes.{from-blank}
 use Rattle.tcp_server.proofs.server.converse.Goals as goal
 

@@ -1,3 +1,4 @@
+-- Answers for serve_taped: a session over streams with tapes is one of the tapes.
 use Rattle.tcp_server.proofs.OnTapes.{on-tapes}
 use Rattle.tcp_server.proofs.server.serve_taped.Goals as goal
 

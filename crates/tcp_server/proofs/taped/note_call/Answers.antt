@@ -1,3 +1,4 @@
+-- Answers for note_call: the tape's one pass then knows one call more.
 use Rattle.std.proofs.Common.{refl, ◌∷◌, [], ◌++◌}
 use Rattle.atomic_table.specs.Table.{Act}
 use Rattle.tcp_server.proofs.taped.note_call.Goals as goal

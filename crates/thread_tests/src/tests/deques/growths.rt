@@ -1,4 +1,5 @@
-//! Each growth of a deal, and of the room for ends that come back, is refused in turn.
+//! Tests of the memory of a pool's task deques: each request for memory of a deal, and of the room for ends that come
+//! back, is refused in turn.
 ghost use Rattle.std.specs.Prelude.{◌<◌};
 
 use super::*;
@@ -55,8 +56,9 @@ fn is_returned<A: Allocator + Clone>(rt: &impl Abort, others: A, alloc: A) -> bo
     }
 }
 
-/// Which growth of this is refused in a heap, the first of which is 1; 0 where none is. What was had before it was
-/// given back, so that the calls are one less than twice the number of the growth.
+/// The number, from 1 on, of the request for memory that fails in this heap while deques are dealt or their ends come
+/// back; 0 where none fails. What was had before it was given back, so that the calls of the allocator are one less
+/// than twice this number.
 fn refused_at(rt: &impl Abort, ample: &LocalHeap, heap: &LocalHeap, growing: Growing) -> u64 {
     let others = CountedAlloc::new(ample);
     let counted = CountedAlloc::new(heap);
@@ -67,7 +69,8 @@ fn refused_at(rt: &impl Abort, ample: &LocalHeap, heap: &LocalHeap, growing: Gro
     if is_made { 0 } else { counted.calls() / 2 + 1 }
 }
 
-/// The same in a heap with room for so many units; and the heaps have got all.
+/// At which request for memory a deal or a return fails in a heap with room for so many units of 16 bytes; the heaps
+/// have then got all back.
 fn refused(rt: &impl Abort, alloc: Global, units: usize, growing: Growing) -> u64
     requires { units < 4096 }
 {
@@ -78,7 +81,7 @@ fn refused(rt: &impl Abort, alloc: Global, units: usize, growing: Growing) -> u6
     number
 }
 
-/// Each growth is refused in turn, so many of them.
+/// Each of so many requests for memory is refused once, in heaps that grow by one unit of 16 bytes each time.
 fn are_refused(rt: &impl Abort, alloc: Global, growing: Growing, many: u64) {
     let mut last = 0u64;
     for units in 0..4096usize {
@@ -93,14 +96,15 @@ fn are_refused(rt: &impl Abort, alloc: Global, growing: Growing, many: u64) {
     panic!(rt; "more is wanting")
 }
 
-/// Each growth of a deal to three workers is refused in turn: that of the list of owners, the three of
-/// each deque, those of the list of rows and of each row, and that of the list of ends.
+/// Each request for memory of a deal of deques to three workers is refused in turn, 15 in all: that of the list of
+/// owners, the three of each deque, those of the list of rows and of each row, and that of the list of ends.
 #[test]
 fn each_growth_of_a_deal_is_refused(rt: HostRuntime) {
     are_refused(&rt, rt.alloc(), Growing::Deal, 1 + 3 * 3 + 1 + 3 + 1);
 }
 
-/// Each growth of the room for ends that come back is refused in turn: that for owners, and that for rows.
+/// Each request for memory of the room for deques' ends that come back is refused in turn, 2 in all: that for owners,
+/// and that for rows.
 #[test]
 fn each_growth_of_a_return_is_refused(rt: HostRuntime) {
     are_refused(&rt, rt.alloc(), Growing::Return, 2);

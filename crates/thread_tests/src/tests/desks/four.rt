@@ -1,4 +1,4 @@
-//! Four threads that each hold a seat, and drive its job by a badge of their own.
+//! For tests of a desk: four threads that each hold a seat, and drive its job by a badge of their own.
 ghost use Rattle.std.specs.Prelude.{◌≡◌};
 
 use super::{FIRST_IS_DONE, SECOND_IS_CANCELLED, Said, Trial, try_out};
@@ -30,7 +30,8 @@ impl<L: DeskLedger, R: Wait + Abort> At<'_, L, R> {
     }
 }
 
-/// One stays in this thread, with this number, and one in another, with the next: their badges, joined.
+/// Two tenants with their workers at a desk, one in this thread, with this number, and one in another, with the next:
+/// their badges, joined.
 fn two_stay<L: DeskLedger + Send + Sync, R: Wait + Abort + Threads + Sync>(
     rt: &R,
     desk: &Desk<L>,
@@ -100,6 +101,7 @@ where
     holds(rt, ended.is_whole && ended.free == 32);
 }
 
+/// Four threads, each with a seat and a badge at one desk: each does the first job of its seat, and cancels the second.
 #[test]
 fn four_seats_in_four_threads(rt: HostRuntime) {
     try_out(&rt, rt.alloc(), Trial::Four);

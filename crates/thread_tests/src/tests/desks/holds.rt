@@ -1,4 +1,5 @@
-//! Calls of others while a worker holds the desk: each waits until the desk is let go, and tells what is there then.
+//! Tests of others' calls while a worker holds the desk: each waits until the desk is let go, and tells what is there
+//! then.
 use super::crowd;
 use super::waiting::{What, Who};
 use crate::tests::calls::At;
@@ -17,7 +18,7 @@ pub(super) enum Call {
     Quota,
 }
 
-/// What a failed test says of a call.
+/// The name of a call, for the text of a failed test.
 pub(super) fn name(call: Call) -> &'static str {
     match call {
         Call::Admit => "admit should be back, content:",
@@ -31,12 +32,12 @@ pub(super) fn name(call: Call) -> &'static str {
 }
 
 impl<L: DeskLedger, R: Wait> At<'_, L, R> {
-    /// Whether a tenant of one node finds room.
+    /// Whether a new tenant that reserves one node finds room at the desk.
     fn finds_room(&self) -> bool {
         self.admit(1, 1).is_ok()
     }
 
-    /// Whether there is a badge.
+    /// Whether the desk gives a badge.
     fn has_badge(&self) -> bool {
         self.badge().is_some()
     }
@@ -72,7 +73,8 @@ const CALLS: [Call; 7] = [
     Call::Quota,
 ];
 
-/// Who comes while a worker holds the desk waits until it is let go, and is told what is there then.
+/// For each call of a desk: one thread that calls while a worker holds the desk waits until it is let go, and is told
+/// what is there then.
 #[test]
 fn calls_wait_for_who_holds_the_desk(rt: HostRuntime) {
     for call in CALLS {

@@ -1,4 +1,4 @@
-//! Answers that come too late.
+//! Tests of a desk: answers of workers that come too late.
 ghost use Rattle.std.specs.Prelude.{◌≡◌};
 
 use super::{Said, Trial, root_of, try_out, worker_of};
@@ -78,7 +78,8 @@ pub(super) fn comes_late<L: DeskLedger, R: Wait + Abort>(
     holds(rt, ended.is_whole && ended.free == 32);
 }
 
-/// An answer is refused by 1 once its tenant has left, and by 2 once its job was cancelled. Its worker goes on.
+/// A worker's answer is refused by 1 (NoTenant) once its tenant has left, and by 2 (NoFrame) once its job was
+/// cancelled. Its worker goes on.
 #[test]
 fn late_answers_are_refused_by_number(rt: HostRuntime) {
     try_out(&rt, rt.alloc(), Trial::Late(true, 1));

@@ -1,5 +1,5 @@
-//! Threads that wait at a desk: each is counted when it comes and when it is back, and tells whether it found what it
-//! should.
+//! For tests of a desk: threads that wait there: each is counted when it comes and when it is back, and tells whether
+//! it found what it should.
 use super::holds::{Call, name};
 use super::wakes::opens;
 use super::{Said, crowd, root_of, worker_of};
@@ -59,7 +59,7 @@ pub(super) struct Watch {
     content: AtomicU64,
 }
 
-/// Nobody has come.
+/// What a test knows of so many threads that are to wait: none has come.
 fn watch_of(who: Who, many: u64, what: What) -> Watch {
     Watch {
         who,
@@ -80,17 +80,17 @@ fn title(who: Who) -> &'static str {
     }
 }
 
-/// So many of those who wait should be back, or back and content.
+/// Fails the test unless this is true, and says how many threads should be back, or content.
 fn should_be(rt: &impl Abort, watch: &Watch, is: bool, many: u64) {
     holds_of(rt, is, title(watch.who), many);
 }
 
-/// So many are back, and no more.
+/// Fails the test unless so many threads are back from waiting, and no more.
 pub(super) fn are_back(rt: &impl Abort, watch: &Watch, many: u64) {
     should_be(rt, watch, value(&watch.back) == many, many);
 }
 
-/// So many come back in time.
+/// Fails the test unless so many threads come back from waiting in time.
 pub(super) fn come_back<R: Abort + Clock>(rt: &R, watch: &Watch, many: u64) {
     should_be(rt, watch, comes(rt, &watch.back, many), many);
 }
@@ -135,7 +135,7 @@ fn is_shown(what: What, ready: Option<(FrameId, u8)>) -> bool {
 }
 
 impl<L: DeskLedger, R: Wait> At<'_, L, R> {
-    /// One waits, and tells whether it found what it should.
+    /// Waits at the desk as one of those who wait, and tells whether it found what it should.
     fn finds(&self, waiter: Waiter<L>, what: What) -> bool {
         match waiter {
             Waiter::Seat(seat, job) => self.wait(&seat, job) == end_by(what),
@@ -145,7 +145,7 @@ impl<L: DeskLedger, R: Wait> At<'_, L, R> {
     }
 }
 
-/// The same in a thread of its own, where it is counted.
+/// Waits at the desk in a thread of its own, and counts itself when it comes and when it is back.
 fn waits<L: DeskLedger, R: Wait>(rt: &R, desk: &Desk<L>, waiter: Waiter<L>, watch: &Watch) {
     let at = At { rt, desk };
     add(&watch.there);
@@ -181,7 +181,7 @@ impl<L: DeskLedger, R: Wait + Abort> At<'_, L, R> {
         seat
     }
 
-    /// One who is to wait.
+    /// One who is to wait at the desk: a seat, for its job or in a call, or a worker.
     fn waiter_of(&self, who: Who) -> Waiter<L> {
         match who {
             Who::Seat(depth) => Waiter::Seat(self.asked(1, 1, depth), 1),
@@ -200,7 +200,7 @@ impl<L: DeskLedger, R: Wait + Abort> At<'_, L, R> {
     }
 }
 
-/// One waits in a thread of its own.
+/// Starts a thread in which one waits at the desk.
 fn start<'s, E, L: DeskLedger + Send + Sync, R: Wait + Abort + Sync>(
     scope: &'s Scope<'s, E>,
     rt: &'s R,
@@ -226,7 +226,7 @@ where
     at.come(watch);
 }
 
-/// One waits at a desk that is held, until a child is opened and the desk is let go.
+/// A thread waits at a desk that is held, until a child is opened and the desk is let go.
 fn meet_held<'s, E, L, R>(scope: &'s Scope<'s, E>, rt: &'s R, desk: &'s Desk<L>, watch: &'s Watch)
 where
     L: DeskLedger + Send + Sync,
@@ -242,7 +242,7 @@ where
     held.release();
 }
 
-/// So many wait at a desk, and this comes to them: each is back, and has found what it should.
+/// So many threads wait at a desk, and then this happens to them: each is back, and has found what it should.
 pub(super) fn come_back_there<L, R>(rt: &R, desk: &Desk<L>, who: Who, many: u64, what: What)
 where
     L: DeskLedger + Send + Sync,
@@ -260,7 +260,7 @@ where
     should_be(rt, watch, are_content, many);
 }
 
-/// A seat that waits is woken where its job is spent.
+/// One seat that waits for its job of depth 7 is woken where the job is spent.
 #[test]
 fn a_spend_wakes_a_seat(rt: HostRuntime) {
     crowd(&rt, rt.alloc(), Who::Seat(7), 1, What::Spend);

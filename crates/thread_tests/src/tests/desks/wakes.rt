@@ -1,5 +1,5 @@
-//! What comes to those who wait at a desk, and several threads that wait at once: each is woken for what it waits for,
-//! and they sleep until then.
+//! Tests of what comes to those who wait at a desk, and of several threads that wait at once: each is woken for what it
+//! waits for, and they sleep until then.
 use super::waiting::{Watch, What, Who, are_back, come_back};
 use super::{Said, crowd, root_of, worker_of};
 use crate::tests::calls::{At, Turn, offer_held};
@@ -20,7 +20,7 @@ fn job_of(who: Who) -> u64 {
 }
 
 impl<L: DeskLedger, R: Wait + Abort> At<'_, L, R> {
-    /// A job of a tenant is finished.
+    /// A tenant's job is brought to its end by a worker.
     fn finish(&self, tenant: u64, job: u64) {
         let (mut badge, worker) = (self.badge_of(), worker_of(self.rt, 1));
         let done = self.compute(&mut badge, worker, root_of(tenant, job));
@@ -42,7 +42,7 @@ impl<L: DeskLedger, R: Wait + Abort> At<'_, L, R> {
         holds(self.rt, spent.is_ok());
     }
 
-    /// A new tenant's seat asks.
+    /// A new tenant comes and asks once.
     fn ask_once(&self) {
         let mut seat = self.seat_of(1, 1);
         self.talks(&mut seat, &[Said::Ask(0, Ok(1))]);
@@ -97,7 +97,7 @@ impl<L: DeskLedger, R: Wait + Abort + Clock + CpuClock> At<'_, L, R> {
         }
     }
 
-    /// So many seats ask one by one; a worker is back after each.
+    /// So many seats ask one by one; after each, one waiting worker is back.
     fn ask_all(&self, watch: &Watch, many: u64) {
         for done in 0..many {
             self.ask_once();
@@ -119,7 +119,7 @@ impl<L: DeskLedger, R: Wait + Abort + Clock + CpuClock> At<'_, L, R> {
         self.ask_all(watch, 1);
     }
 
-    /// What comes to those who wait; all come back.
+    /// What this test lets come to those who wait at the desk; all are back after it.
     pub(super) fn come(&self, watch: &Watch) {
         match watch.what {
             What::Finishes => self.finish_all(watch),
@@ -156,20 +156,20 @@ fn each_of_two_children_wakes_a_worker(rt: HostRuntime) {
     crowd(&rt, rt.alloc(), Who::Workers, 2, What::Children);
 }
 
-/// A worker that was woken for a frame which another took doesn't end.
+/// One worker that waits, and was woken for a frame which another took, waits on.
 #[test]
 fn who_is_woken_in_vain_waits_on(rt: HostRuntime) {
     crowd(&rt, rt.alloc(), Who::Workers, 1, What::InVain);
 }
 
-/// The closing wakes two seats, and two workers.
+/// The closing of a desk wakes two seats that wait there, and two workers.
 #[test]
 fn a_closing_wakes_all(rt: HostRuntime) {
     crowd(&rt, rt.alloc(), Who::Seats, 2, What::Closing);
     crowd(&rt, rt.alloc(), Who::Workers, 2, What::Closing);
 }
 
-/// Four seats, and four workers, sleep while they wait.
+/// Four seats, and four workers, that wait at a desk sleep, so they use no processor time.
 #[test]
 fn who_waits_sleeps(rt: HostRuntime) {
     crowd(&rt, rt.alloc(), Who::Seats, 4, What::Silence);

@@ -1,4 +1,5 @@
-//! Tasks are announced before they are done.
+//! Tests that a running pool's tasks are announced before they are done: to the test's gate, which workers call to be
+//! watched or held up.
 ghost use Rattle.std.specs.Prelude.{◌≡◌};
 
 use super::{Scenario, Table, play};
@@ -27,16 +28,19 @@ struct Announced {
 }
 
 impl Gate for Announced {
+    /// Counts a task that is announced, and waits until the test lets it go.
     fn before(&self, _worker: Worker, _task: &Task) {
         add(&self.count);
         set(&self.began);
         let _in_time = becomes_set(&self.let_go);
     }
 
+    /// Whether the pool takes this gate's calls for short ones, as the test says.
     fn is_brief(&self) -> bool {
         self.is_brief
     }
 
+    /// Does nothing at a computation.
     fn inside(&self, _worker: Worker, _number: u64) {}
 }
 
@@ -47,6 +51,8 @@ struct Untouched<'g> {
 }
 
 impl Scenario for Untouched<'_> {
+    /// Asks the opening to depth 1 with 8 segments and nodes; while the first task is announced only the root's segment
+    /// and node are used, and no step; then the job ends.
     fn play<L: DeskLedger, R: Wait>(&self, at: &At<'_, L, R>) -> Option<bool> {
         let mut seat = at.seat(8, 8)?;
         let began = at.asks(&mut seat, 1, 1) && becomes_set(&self.gate.began);
@@ -59,7 +65,8 @@ impl Scenario for Untouched<'_> {
     }
 }
 
-/// Whether one worker takes eight tasks from its deque, and a gate that is brief or isn't is told of nine.
+/// Whether one worker takes eight tasks from its deque, and the test's gate is told of nine, the root among them. The
+/// gate says whether its calls are brief.
 fn are_told<R: Threads + Wait + Sync>(rt: &R, alloc: Global, is_brief: bool) -> bool {
     let gate = Announced {
         is_brief,
@@ -74,8 +81,9 @@ fn are_told<R: Threads + Wait + Sync>(rt: &R, alloc: Global, is_brief: bool) -> 
     }
 }
 
-/// One worker is told of each task before it does it: of the root, which the hall had, and of each task
-/// that it takes from its deque, under the lock or not.
+/// A pool's one worker tells the test's gate of each task before it does it: of the root, which the hall had, and of
+/// the eight that it takes from its deque. So it does where the gate's calls are brief, and may be made under the lock,
+/// and where they aren't.
 #[test]
 fn each_task_is_announced(rt: HostRuntime) {
     holds(&rt, are_told(&rt, rt.alloc(), false));
@@ -91,6 +99,7 @@ struct Watched {
 }
 
 impl Gate for Watched {
+    /// Counts a task that is announced, and waits until the desk was looked at since.
     fn before(&self, _worker: Worker, _task: &Task) {
         let before = add(&self.announced);
         if !reaches(&self.looked, before.saturating_add(1)) {
@@ -98,6 +107,7 @@ impl Gate for Watched {
         }
     }
 
+    /// Does nothing at a computation.
     fn inside(&self, _worker: Worker, _number: u64) {}
 }
 
@@ -107,7 +117,7 @@ struct Watching<'g> {
     gate: &'g Watched,
 }
 
-/// Looks at the desk, within a limit, until a seat's first job has ended; after each look the gate is told.
+/// Looks at the desk, within a limit, until a seat's first job has ended; after each look the test's gate is told.
 fn look<L: DeskLedger, R: Wait>(at: &At<'_, L, R>, seat: &Seat<L>, gate: &Watched) {
     for _ in 0..MOST_TURNS {
         let announced = value(&gate.announced);
@@ -121,6 +131,7 @@ fn look<L: DeskLedger, R: Wait>(at: &At<'_, L, R>, seat: &Seat<L>, gate: &Watche
 }
 
 impl Scenario for Watching<'_> {
+    /// Asks the opening to depth 1, and looks at the desk until the job is done.
     fn play<L: DeskLedger, R: Wait>(&self, at: &At<'_, L, R>) -> Option<bool> {
         let mut seat = at.seat(8, 8)?;
         let asked = at.asks(&mut seat, 1, 1);
@@ -131,7 +142,7 @@ impl Scenario for Watching<'_> {
     }
 }
 
-/// A gate that isn't brief waits outside all locks: meanwhile others use the desk.
+/// A gate that waits before each task of a pool's one worker waits outside all locks: meanwhile others use the desk.
 #[test]
 fn a_gate_that_waits_holds_up_its_worker_alone(rt: HostRuntime) {
     let gate = Watched {

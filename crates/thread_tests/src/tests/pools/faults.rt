@@ -1,4 +1,4 @@
-//! Pools that can't begin.
+//! Tests of pools of workers that can't begin.
 ghost use Rattle.std.specs.Prelude.{◌≡◌};
 
 use super::run_sized;
@@ -13,7 +13,7 @@ use std::sync::ledger::Blank;
 use std::thread::Threads;
 use steal_pool::{BeginFault, NotRun, OpenGate, PoolFault, PoolSizes};
 
-/// The usual sizes of a pool of four.
+/// The usual sizes of a pool of four workers.
 fn four() -> PoolSizes {
     PoolSizes::usual(Worker::new(4).unwrap())
 }
@@ -41,7 +41,8 @@ fn found_of<L: DeskLedger + Send + Sync, R: Threads + Wait + Sync>(
     }
 }
 
-/// The same at a new desk of 64 segments, all of which are free at its end.
+/// Why a pool of these sizes didn't run at a new desk, and how often it was announced to have begun. All 64 segments of
+/// the desk are free at its end; None where they aren't, or the pool ran.
 fn found_at<L: DeskLedger + Send + Sync, R: Threads + Wait + Sync>(
     rt: &R,
     alloc: Global,
@@ -66,7 +67,8 @@ fn found_at<L: DeskLedger + Send + Sync, R: Threads + Wait + Sync>(
     }
 }
 
-/// The same with a blank of its own.
+/// Why a pool of these sizes didn't run, and how often its beginning was announced, at a new desk with a ledger of its
+/// own.
 fn tried<R: Threads + Wait + Sync>(
     rt: &R,
     alloc: Global,
@@ -88,7 +90,7 @@ where
     tried(rt, alloc, sizes, true) == Some((NotRun { fault, ended }, 0))
 }
 
-/// Each growth of a pool's start that can't be had: that of the deques, of the room for ends that come
+/// Each request for memory of a pool's start that can't be had: that of the deques, of the room for ends that come
 /// back, and of the room for threads. The desk is closed, the fault is 1, no thread was started, and nothing is said.
 #[test]
 fn a_pool_without_memory_does_not_begin(rt: HostRuntime) {
@@ -125,7 +127,7 @@ fn a_beginning_that_cannot_be_said(rt: HostRuntime) {
     holds(&rt, found == Some((NotRun { fault, ended }, 1)));
 }
 
-/// What a fault says.
+/// For each fault of a pool: its number and its words.
 #[test]
 fn faults_of_a_pool_are_told(rt: HostRuntime) {
     let alloc = rt.alloc();

@@ -1,4 +1,4 @@
-//! Jobs of several seats.
+//! Tests of a running pool: jobs of several seats.
 ghost use Rattle.std.specs.Prelude.{◌≡◌};
 
 use super::{Scenario, Table, play};
@@ -13,6 +13,7 @@ use steal_pool::OpenGate;
 struct Foreign;
 
 impl Scenario for Foreign {
+    /// Two seats ask three positions each, and each is told of its own, twice.
     fn play<L: DeskLedger, R: Wait>(&self, at: &At<'_, L, R>) -> Option<bool> {
         let mut one = at.seat(64, 512)?;
         let mut two = at.seat(64, 512)?;
@@ -39,7 +40,8 @@ fn are_three_found<L: DeskLedger, R: Wait>(at: &At<'_, L, R>, seat: &Seat<L>) ->
         && at.is_found(seat, 3, &all_white(), 12)
 }
 
-/// Each job is answered for its own position, whichever seat asked it.
+/// By 1, 2 and 8 workers, at grain 0 with 128 segments: each job is answered for its own position, whichever of two
+/// seats asked it.
 #[test]
 fn replies_are_to_their_positions(rt: HostRuntime) {
     for workers in [1u8, 2, 8] {
@@ -56,6 +58,7 @@ struct Four {
 }
 
 impl Scenario for Four {
+    /// Four seats ask the opening to this depth, and each has its own reply.
     fn play<L: DeskLedger, R: Wait>(&self, at: &At<'_, L, R>) -> Option<bool> {
         let depth = self.depth;
         let mut one = at.seat(256, 4_096)?;
@@ -74,8 +77,8 @@ impl Scenario for Four {
     }
 }
 
-/// Four seats' jobs end with one same reply, the serial search's, whatever the number of workers; what
-/// was pushed is what was taken and left, and the joined badge has all steps.
+/// By 1, 2, 8 and 32 workers, at grain 2: four seats' jobs to depth 4 end with one same reply, the serial search's;
+/// what was pushed is what was taken and left, and the joined badge has all steps.
 #[test]
 fn any_number_of_workers(rt: HostRuntime) {
     for workers in [1u8, 2, 8, 32] {
@@ -86,7 +89,8 @@ fn any_number_of_workers(rt: HostRuntime) {
     }
 }
 
-/// Where no push finds room, the frames are found in the hall.
+/// In a pool of 2 workers whose deques have room for 0 tasks, so that no push finds room, the frames are found in the
+/// hall, and four jobs to depth 3 end.
 #[test]
 fn no_room_for_tasks(rt: HostRuntime) {
     let mut table = Table::of(&Four { depth: 3 }, &OpenGate, 2, 1, 1_024);
@@ -95,7 +99,7 @@ fn no_room_for_tasks(rt: HostRuntime) {
     holds(&rt, played.pushed == 0);
 }
 
-/// No worker is lost: 200 pools of 8 workers each end.
+/// No worker is lost: 200 pools of 8 workers each, with four jobs to depth 2 at grain 0, end.
 #[test]
 fn two_hundred_pools_end(rt: HostRuntime) {
     let table = Table::of(&Four { depth: 2 }, &OpenGate, 8, 0, 1_024);

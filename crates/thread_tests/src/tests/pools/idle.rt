@@ -1,4 +1,4 @@
-//! A pool with nothing to do.
+//! Tests of a pool of workers with nothing to do.
 ghost use Rattle.std.specs.Prelude.{◌≡◌};
 
 use super::{Scenario, Table, play};
@@ -17,6 +17,8 @@ struct Silence<'c, C> {
 }
 
 impl<C: Clock + CpuClock> Scenario for Silence<'_, C> {
+    /// After 100 milliseconds without a job the pool takes less than 50 milliseconds of processor time in a second;
+    /// then a job is done all the same.
     fn play<L: DeskLedger, R: Wait>(&self, at: &At<'_, L, R>) -> Option<bool> {
         let mut seat = at.seat(8, 8)?;
         pass(self.clock, 100);

@@ -1,4 +1,4 @@
-//! Many short jobs: none of many workers is lost, and each has room on its stack.
+//! Tests of a pool with many short jobs: none of many workers is lost, and each has room on its stack.
 ghost use Rattle.std.specs.Prelude.{◌≡◌};
 
 use super::{Scenario, Table, play};
@@ -41,8 +41,11 @@ fn written(number: u64) -> u64 {
 }
 
 impl Gate for AllCome {
+    /// Does nothing before a task.
     fn before(&self, _worker: Worker, _task: &Task) {}
 
+    /// From a signal on: writes and reads half a megabyte of the worker's stack, and waits within a limit until as many
+    /// computations as workers have begun.
     fn inside(&self, _worker: Worker, number: u64) {
         if !is_set(&self.is_said) {
             return;
@@ -72,6 +75,8 @@ struct Many<'g> {
 }
 
 impl Scenario for Many<'_> {
+    /// Eight seats ask many short jobs each; then one asks a job for each worker, and all workers are in a computation
+    /// at once.
     fn play<L: DeskLedger, R: Wait>(&self, at: &At<'_, L, R>) -> Option<bool> {
         for _ in 0..8 {
             if !sits(at, 256, JOBS)? {

@@ -1,4 +1,5 @@
-//! Computations at the same time, and answers that come too late.
+//! Tests of a pool's computations at the same time, and of answers that come too late. The test's gate, which workers
+//! call, holds a computation up until it is let go on.
 ghost use Rattle.std.specs.Prelude.{◌≡◌};
 
 use super::{Scenario, Table, play};
@@ -36,8 +37,10 @@ fn gate_holding(number: u64, by_later: bool) -> HoldingGate {
 }
 
 impl Gate for HoldingGate {
+    /// Does nothing before a task.
     fn before(&self, _worker: Worker, _task: &Task) {}
 
+    /// Holds the computation of one number until the test, or a later computation, lets it go.
     fn inside(&self, _worker: Worker, number: u64) {
         if number > self.number && self.by_later {
             set(&self.let_go);
@@ -56,6 +59,7 @@ impl Gate for HoldingGate {
 struct TwoJobs;
 
 impl Scenario for TwoJobs {
+    /// One seat asks two jobs, which both end.
     fn play<L: DeskLedger, R: Wait>(&self, at: &At<'_, L, R>) -> Option<bool> {
         let mut seat = at.seat(8, 8)?;
         let asked = at.asks_many(&mut seat, 2);
@@ -78,7 +82,7 @@ fn overlaps<S: Scenario, R: Threads + Wait + Sync>(
     is_well && !is_set(&gate.late)
 }
 
-/// Whether it does with two workers, and with eight.
+/// Whether the scenario's computations overlap with two workers, and with eight.
 fn overlaps_with_two_and_eight<S: Scenario, R: Threads + Wait + Sync>(
     rt: &R,
     alloc: Global,
@@ -88,7 +92,7 @@ fn overlaps_with_two_and_eight<S: Scenario, R: Threads + Wait + Sync>(
     overlaps(rt, alloc, scenario, number, 2) && overlaps(rt, alloc, scenario, number, 8)
 }
 
-/// The first computation of a pool goes on only once the second was begun.
+/// With 2 and with 8 workers, the first computation of a pool goes on only once the second was begun.
 #[test]
 fn two_computations_overlap(rt: HostRuntime) {
     holds(
@@ -104,6 +108,7 @@ struct OneJob<'c, C> {
 }
 
 impl<C: Clock> Scenario for OneJob<'_, C> {
+    /// Lets 100 milliseconds pass without a job; then a seat asks for one and has its reply.
     fn play<L: DeskLedger, R: Wait>(&self, at: &At<'_, L, R>) -> Option<bool> {
         let mut seat = at.seat(16, 16)?;
         pass(self.clock, 100);
@@ -113,8 +118,8 @@ impl<C: Clock> Scenario for OneJob<'_, C> {
     }
 }
 
-/// A worker's step that makes a frame ready wakes a worker that sleeps: while the job's second
-/// computation waits, another worker begins the third.
+/// With 2 and with 8 workers: a worker's step that makes a frame ready wakes a worker that sleeps; while the job's
+/// second computation waits, another worker begins the third.
 #[test]
 fn a_ready_frame_wakes_a_worker(rt: HostRuntime) {
     holds(
@@ -132,6 +137,7 @@ struct Late<'g> {
 }
 
 impl Scenario for Late<'_> {
+    /// A seat leaves while its job is computed, and the answer comes too late; another seat's job ends.
     fn play<L: DeskLedger, R: Wait>(&self, at: &At<'_, L, R>) -> Option<bool> {
         let first = at.seat(4, 4)?;
         let second = at.seat(4, 4)?;

@@ -1,4 +1,4 @@
-//! One worker, counted.
+//! Tests of a pool with one worker, whose tasks and steps are counted.
 ghost use Rattle.std.specs.Prelude.{◌≡◌};
 
 use super::{Scenario, Table, play};
@@ -13,6 +13,7 @@ use steal_pool::OpenGate;
 struct OneJob;
 
 impl Scenario for OneJob {
+    /// One job of the opening to depth 1: of 8 nodes 5 are used, and of 128 steps 36.
     fn play<L: DeskLedger, R: Wait>(&self, at: &At<'_, L, R>) -> Option<bool> {
         let mut seat = at.seat(8, 8)?;
         let is_replied = at.has_reply(&mut seat, 1);
@@ -22,7 +23,8 @@ impl Scenario for OneJob {
     }
 }
 
-/// One worker, the opening to depth 1 at grain 0: 36 steps, 8 tasks pushed and taken; all is back.
+/// A pool of one worker does the opening to depth 1 at grain 0, with 8 segments: 36 steps, 8 tasks pushed and taken;
+/// none is left.
 #[test]
 fn one_worker_counted(rt: HostRuntime) {
     let table = Table::of(&OneJob, &OpenGate, 1, 0, 8);

@@ -1,4 +1,5 @@
-//! Searches at the same time: a short one is over before a long one that began earlier.
+//! Tests of searches at the same time in a pool: a short one is over before a long one that began earlier. The test's
+//! gate, which workers call, notes when computations begin and end.
 ghost use Rattle.std.specs.Prelude.{◌≡◌};
 
 use super::{Scenario, Table, play};
@@ -36,7 +37,7 @@ struct Long<'c, C> {
     is_late: AtomicBool,
 }
 
-/// A gate of which nothing has begun.
+/// A gate that has seen no computation begin.
 fn gate_of<C>(clock: &C) -> Long<'_, C> {
     Long {
         clock,
@@ -60,7 +61,7 @@ impl<C: Clock + CpuClock> Long<'_, C> {
         comes(self.clock, &self.over, SHORT)
     }
 
-    /// A short search is over.
+    /// Counts one more short search that is over.
     fn count(&self) {
         if add(&self.over) == SHORT - 1 {
             keep(&self.over_at, nanos(self.clock.process_cpu_time()));
@@ -77,7 +78,7 @@ impl<C: Clock + CpuClock> Long<'_, C> {
     }
 }
 
-/// The nanoseconds of a time, or 0.
+/// A time in nanoseconds, or 0 where it can't be had.
 fn nanos(time: io::Result<Duration>) -> u64 {
     match time {
         Ok(time) => u64::try_from(time.as_nanos()).unwrap_or(0),
@@ -86,8 +87,10 @@ fn nanos(time: io::Result<Duration>) -> u64 {
 }
 
 impl<C: Clock + CpuClock> Gate for Long<'_, C> {
+    /// Does nothing before a task.
     fn before(&self, _worker: Worker, _task: &Task) {}
 
+    /// Notes when the long computation, the first, begins, and what processor time its worker had used.
     fn inside(&self, _worker: Worker, number: u64) {
         if number == 1 {
             keep(&self.before, nanos(self.clock.thread_cpu_time()));
@@ -95,6 +98,8 @@ impl<C: Clock + CpuClock> Gate for Long<'_, C> {
         }
     }
 
+    /// Counts short computations that end. At the end of the long one it notes whether they were over well before, and
+    /// waits for them up to ten seconds.
     fn after(&self, _worker: Worker, number: u64) {
         if number > 1 {
             self.count();
@@ -123,6 +128,7 @@ struct Beside<'g, 'c, C> {
 }
 
 impl<C: Clock + CpuClock> Scenario for Beside<'_, '_, C> {
+    /// A long job is begun, and short ones asked after it are over before it.
     fn play<L: DeskLedger, R: Wait>(&self, at: &At<'_, L, R>) -> Option<bool> {
         let mut long = at.seat(64, 512)?;
         let mut short = at.seat(64, 64)?;
@@ -135,7 +141,8 @@ impl<C: Clock + CpuClock> Scenario for Beside<'_, '_, C> {
     }
 }
 
-/// One try: whether all was as it should be, and whether the short ones were over before the long one.
+/// One try of a long search beside short ones: whether all was as it should be, and whether the short ones were over
+/// before the long one.
 fn tried<R: Threads + Wait + Clock + CpuClock + Sync>(rt: &R, alloc: Global) -> (bool, bool) {
     let gate = gate_of(rt);
     let scenario = Beside { gate: &gate };

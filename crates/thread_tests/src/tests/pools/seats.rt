@@ -1,4 +1,4 @@
-//! What the scenarios say at a desk.
+//! For tests of pools: what the scenarios say at a desk.
 use crate::tests::calls::{At, Found, opening};
 use crate::tests::signs::MOST_TURNS;
 use desk::{DeskLedger, Seat};
@@ -14,7 +14,7 @@ fn sought(position: &Position, depth: u8) -> Found {
 }
 
 impl<L: DeskLedger, R: Wait> At<'_, L, R> {
-    /// A seat, if the desk gives one.
+    /// A new seat with so many segments and nodes, if the desk gives one.
     pub fn seat(&self, segments: u32, nodes: u32) -> Option<Seat<L>> {
         self.admit(segments, nodes).ok()
     }

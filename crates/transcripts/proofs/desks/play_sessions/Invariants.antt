@@ -1,3 +1,5 @@
+-- A text of sessions is played (`desks::play_sessions`): the names that the clauses use for its new desk, ledger,
+-- history and hall.
 use Rattle.transcripts.proofs.desks.play_sessions.Given as goal
 
 abbrev pub ghosts-play_at-L-Ledger : goal.ghosts-play_at-L-Ledger

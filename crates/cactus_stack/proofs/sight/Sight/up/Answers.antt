@@ -1,3 +1,5 @@
+-- What a node of a stack sees (`Sight::up`): going up one parent for each level ends at that level's words, or at None
+-- above the root.
 use Rattle.cactus_stack.proofs.Common.{◌≡◌, ◌+◌, suc, [], Some, None, sym, ◌∙◌, arith, slice_get-get_or, node_parent}
 use Rattle.cactus_stack.proofs.LawFacts.{sight-step, no-sight}
 use Rattle.cactus_stack.proofs.sight.Sight.up.Goals as goal

@@ -1,3 +1,4 @@
+-- What a node of a stack sees (`Sight::up`): at each turn, the node reached sees what is left of the levels.
 use Rattle.cactus_stack.proofs.Common.{drop, Some, IsSight}
 use Rattle.cactus_stack.proofs.sight.Sight.up.Given as goal
 

@@ -1,3 +1,4 @@
+-- A stack closes a node (`Stack::close`): without it the other nodes are stored as before.
 use Rattle.cactus_stack.proofs.Common.{[], ◌∷◌, refl, ◌∙◌}
 use Rattle.cactus_stack.proofs.LawFacts.{alone}
 use Rattle.cactus_stack.proofs.Steps.{closed, depths-stay}

@@ -1,3 +1,5 @@
+-- A stack closes all nodes of a list (`Stack::close_all`): each is open when its turn comes, and at the end just these
+-- are gone.
 use Rattle.cactus_stack.proofs.Common.{◌≡◌, ◌+◌, ◌<◌, suc, length, take, refl, ◌∙◌, arith, take_all}
 use Rattle.cactus_stack.proofs.LawFacts.{without-more, still-there}
 use Rattle.cactus_stack.proofs.Steps.{closed, depths-stay}

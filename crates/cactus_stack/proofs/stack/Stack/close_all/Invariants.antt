@@ -1,3 +1,5 @@
+-- A stack closes all nodes of a list (`Stack::close_all`): at each turn, those passed are gone, the others are stored,
+-- and no depth has changed.
 use Rattle.cactus_stack.proofs.Common.{◌≡◌, ℕ, take, without, place_at, nodes_from, AreStored}
 use Rattle.cactus_stack.proofs.stack.Stack.close_all.Given as goal
 

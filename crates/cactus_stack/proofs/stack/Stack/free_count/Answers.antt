@@ -1,3 +1,4 @@
+-- A stack tells its free segments (`Stack::free_count`): all but what its open nodes take.
 use Rattle.cactus_stack.proofs.Steps.{all-taken}
 use Rattle.cactus_stack.proofs.stack.Stack.free_count.Goals as goal
 

@@ -1,3 +1,5 @@
+-- A stack makes a node longer (`Stack::grow`): the node's words are followed by zeros, all others stay; it is refused
+-- exactly where too few segments are free.
 use Rattle.cactus_stack.proofs.Common.{◌+◌, ◌++◌, replicate, refl, arith, node_words, with_node_words, with_len}
 use Rattle.cactus_stack.proofs.Content.{charge-some}
 use Rattle.cactus_stack.proofs.Steps.{IsRead, Shows, is-read, free-is, grown}

@@ -1,3 +1,4 @@
+-- A new stack (`Stack::new`): it has no node, and all its segments are free.
 use Rattle.cactus_stack.proofs.Steps.{none-at-first, stack-at-first}
 use Rattle.cactus_stack.proofs.stack.Stack.new.Goals as goal
 

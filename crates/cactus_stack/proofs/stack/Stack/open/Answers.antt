@@ -1,3 +1,5 @@
+-- A stack opens a node (`Stack::open`): it has the words and then zeros, under a number that was unused; it is refused
+-- exactly where too few segments are free.
 use Rattle.cactus_stack.proofs.Common.{◌≡◌, ◌+◌, Some, refl, sym, ap, ◌∙◌, arith, set, padded, IsUnused, with_node, IsUnder, Place}
 use Rattle.cactus_stack.proofs.Steps.{Shows, is-read, depth-in_limits, free-is, opened}
 use Rattle.cactus_stack.proofs.stack.Stack.open.Goals.{in-Some, in-None, After-index_mut}

@@ -1,3 +1,4 @@
+-- A stack shows what a node sees (`Stack::sight`): the node's own words, and those of each parent above it.
 use Rattle.cactus_stack.proofs.Steps.{is-read, sight-of}
 use Rattle.cactus_stack.proofs.stack.Stack.sight.Goals as goal
 

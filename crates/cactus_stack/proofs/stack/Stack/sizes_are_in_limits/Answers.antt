@@ -1,3 +1,4 @@
+-- A stack's sizes (`Stack::sizes_are_in_limits`): each open node has 1 to 128 words, as the stack keeps it so.
 use Rattle.cactus_stack.proofs.Common.{arith}
 use Rattle.cactus_stack.proofs.Steps.{kept-node}
 use Rattle.cactus_stack.proofs.stack.Stack.sizes_are_in_limits.Goals as goal

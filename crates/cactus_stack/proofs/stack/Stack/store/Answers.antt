@@ -1,3 +1,5 @@
+-- A stack writes one word of a node (`Stack::store`): the word stands at its place, in the segment that holds it, and
+-- nothing else changes.
 use Rattle.cactus_stack.proofs.Common.{◌≡◌, suc, ◌<◌, ◌∙◌, ◌/◌, Some, get_or, arith, chain, len_at}
 use Rattle.cactus_stack.proofs.Content.{front-of-sound, place-of-sound, place-is_taken}
 use Rattle.cactus_stack.proofs.Steps.{kept-node, stored-word}

@@ -1,3 +1,4 @@
+-- A read of a stack (`StackView::own`): the words are those that the node's chain of segments holds.
 use Rattle.cactus_stack.proofs.Common.{◌≡◌, ℕ, get_or, sym, ap, ◌∙◌, len_at, words_in_chain, Place}
 use Rattle.cactus_stack.proofs.Steps.{is-read}
 use Rattle.cactus_stack.proofs.view.StackView.own.Goals as goal

@@ -1,3 +1,4 @@
+-- A read of a stack (`StackView::parent`): the node's place names the parent that it was opened under.
 use Rattle.cactus_stack.proofs.Common.{sym, ap, ◌∙◌, parent_of_node, Place}
 use Rattle.cactus_stack.proofs.Steps.{is-read}
 use Rattle.cactus_stack.proofs.view.StackView.parent.Goals as goal

@@ -1,3 +1,5 @@
+-- The words of one node of a stack (`Words::get`): the word at a place is read from the segment that has it, and
+-- beyond the end there is none.
 use Rattle.cactus_stack.proofs.Common.{sym, arith, ◌<◌, ◌∙◌}
 use Rattle.cactus_stack.proofs.Content.{front-of-sound, place-of-sound, place-is_taken, word-of-sound}
 use Rattle.cactus_stack.proofs.words.Words.get.Goals as goal

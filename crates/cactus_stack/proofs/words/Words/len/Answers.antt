@@ -1,3 +1,4 @@
+-- The words of one node of a stack (`Words::len`): their number is that of the node's words.
 use Rattle.cactus_stack.proofs.Common.{sym}
 use Rattle.cactus_stack.proofs.Content.{length-words_in}
 use Rattle.cactus_stack.proofs.words.Words.len.Goals as goal

@@ -1,3 +1,4 @@
+-- The words of one node of a stack (`Words::segment`): the sixteen words from that place on, or as many as are left.
 use Rattle.cactus_stack.proofs.Common.{arith, ◌<◌, ◌∙◌, charge}
 use Rattle.cactus_stack.proofs.Content.{front-of-block, place-of-block, block-is_taken, words-of-block}
 use Rattle.cactus_stack.proofs.words.Words.segment.Goals as goal

@@ -1,3 +1,4 @@
+-- The command line of `othello` (`commands::flag_in`): a flag counts as given exactly where its value is `true`.
 use Rattle.std.proofs.Common.{ap, false, ◌∙◌, codes, Option}
 use Rattle.std.specs.Str.{bytes_eq}
 use Rattle.std.specs.Option.{option_map_or}

@@ -1,3 +1,4 @@
+-- The command line of `othello` (`options::solve_of`): the options of `solve` are those that its words give.
 use Rattle.std.proofs.Common.{rules}
 use Rattle.commands.proofs.command_line.options.solve_of.Goals as goal
 

@@ -1,3 +1,4 @@
+-- Rows of the command line: words with a fault, and which fault each has, by computing the definition.
 use Rattle.std.proofs.Common.{refl}
 use Rattle.clap.proofs.OnLiterals.{clap_on_literals}
 use Rattle.commands.proofs.command_line.rows.faults_are_found.Goals as goal

@@ -1,3 +1,4 @@
+-- Rows of the command line: `--ordered` stands alone, by computing the definition.
 use Rattle.std.proofs.Common.{refl}
 use Rattle.clap.proofs.OnLiterals.{clap_on_literals}
 use Rattle.commands.proofs.command_line.rows.ordered_is_asked.Goals as goal

@@ -1,3 +1,5 @@
+-- A tenant is admitted under the desk's lock (`LockedHall::admit`): the seat knows its Admit as the end of the
+-- history, and the shares of seats, badges and the spare one still add up.
 use Rattle.desk.proofs.Common.{rules}
 use Rattle.desk.proofs.locked_hall.LockedHall.admit.Goals as goal
 

@@ -1,3 +1,5 @@
+-- A seat asks for a search under the desk's lock (`LockedHall::ask`): what the seat then knows of the history is true,
+-- and the shares still add up.
 use Rattle.desk.proofs.Common.{rules, ◌∙◌}
 use Rattle.desk.proofs.Noting.{asked-share, tallied}
 use Rattle.desk.proofs.locked_hall.LockedHall.ask.Goals as goal

@@ -1,3 +1,4 @@
+-- A new badge for a worker at the desk (`LockedHall::badge`): it has share 0 and one part of the spare share.
 use Rattle.desk.proofs.Common.{rules}
 use Rattle.desk.proofs.locked_hall.LockedHall.badge.Goals as goal
 

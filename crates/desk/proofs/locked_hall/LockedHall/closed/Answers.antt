@@ -1,3 +1,5 @@
+-- The desk gives its hall back at the end (`LockedHall::closed`): the hall has come by the history; and the share that
+-- comes with it, if one does, has all parts of the ledger, so that the count is right.
 use Rattle.desk.proofs.Common.{rules, sym, ap, subst, HallOf, IsComeBy}
 use Rattle.desk.proofs.Owners.{Entries}
 use Rattle.desk.proofs.Coming.{at-end}

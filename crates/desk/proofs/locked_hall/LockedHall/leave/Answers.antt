@@ -1,3 +1,5 @@
+-- A seat leaves under the desk's lock (`LockedHall::leave`): its tenant's Leave ends the history, and its share goes
+-- to the spare one.
 use Rattle.desk.proofs.Common.{rules, ap}
 use Rattle.desk.proofs.Noting.{left-as}
 use Rattle.desk.proofs.locked_hall.LockedHall.leave.Goals as goal

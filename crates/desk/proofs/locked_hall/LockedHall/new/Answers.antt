@@ -1,3 +1,5 @@
+-- A hall is put under a desk's lock (`LockedHall::new`): with a new ledger and a new history the invariant of what
+-- lies there holds.
 use Rattle.desk.proofs.Common.{rules, sym, subst, HallOf, HasCome}
 use Rattle.desk.proofs.locked_hall.LockedHall.new.Goals as goal
 

@@ -1,3 +1,5 @@
+-- A worker offers a step under the desk's lock (`LockedHall::offer`): the history and the ledger still count each step
+-- once.
 use Rattle.desk.proofs.Common.{rules, ◌∙◌}
 use Rattle.desk.proofs.Noting.{tallied}
 use Rattle.desk.proofs.locked_hall.LockedHall.offer.Goals as goal

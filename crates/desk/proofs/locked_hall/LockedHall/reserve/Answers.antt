@@ -1,3 +1,5 @@
+-- A seat reserves more under the desk's lock (`LockedHall::reserve`): what the seat then knows of the history is true,
+-- and the shares still add up.
 use Rattle.desk.proofs.Common.{rules, ◌∙◌}
 use Rattle.desk.proofs.Noting.{same-share, tallied}
 use Rattle.desk.proofs.locked_hall.LockedHall.reserve.Goals as goal

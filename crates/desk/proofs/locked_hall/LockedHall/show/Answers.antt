@@ -1,3 +1,5 @@
+-- A seat looks at the history under the desk's lock (`LockedHall::show`): the hall is where the history that it sees
+-- leads to.
 use Rattle.desk.proofs.locked_hall.LockedHall.show.Goals as goal
 
 pub returns-clause-core : goal.returns-clause-core

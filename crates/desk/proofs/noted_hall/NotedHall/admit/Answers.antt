@@ -1,3 +1,5 @@
+-- A hall with its history admits a tenant (`NotedHall::admit`): the history ends with the Admit, which is all that the
+-- new seat has made.
 use Rattle.desk.proofs.Common.{rules, ◌≡◌, ◌<◌, ◌++◌, ◌∷◌, [], List, sym, ap, ◌∙◌, subst, refl, arith, length, Admit, tenant_in-new, Known, HasCome, IsSeated}
 use Rattle.desk.proofs.Owners.{Step}
 use Rattle.desk.proofs.Coming.{come-admitted, new-unused}

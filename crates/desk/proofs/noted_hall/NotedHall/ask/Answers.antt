@@ -1,3 +1,5 @@
+-- A hall with its history takes an ask (`NotedHall::ask`): taken, the history ends with just this Submit; refused, it
+-- is for one of the reasons told.
 use Rattle.desk.proofs.Common.{rules, Contains, IfErr, ask_refusals}
 use Rattle.desk.proofs.Refused.{ask-refused}
 use Rattle.desk.proofs.noted_hall.NotedHall.ask.Goals as goal

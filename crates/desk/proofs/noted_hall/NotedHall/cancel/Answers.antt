@@ -1,3 +1,5 @@
+-- A hall with its history takes a cancel (`NotedHall::cancel`): taken, the history ends with just this Cancel;
+-- refused, it is for one of the reasons told.
 use Rattle.desk.proofs.Common.{rules, Contains, IfErr, cancel_refusals}
 use Rattle.desk.proofs.Refused.{cancel-refused}
 use Rattle.desk.proofs.noted_hall.NotedHall.cancel.Goals as goal

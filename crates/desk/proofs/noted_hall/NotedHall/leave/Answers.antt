@@ -1,3 +1,5 @@
+-- A hall with its history lets a seat leave (`NotedHall::leave`): the history ends with the tenant's Leave, the last
+-- of the seat's own steps.
 use Rattle.desk.proofs.Common.{subst, refl, Leave, IsDecided, IsMoved, IsToldOf}
 use Rattle.desk.proofs.noted_hall.NotedHall.leave.Goals as goal
 

@@ -1,3 +1,4 @@
+-- A hall gets a new history (`NotedHall::new`): it has come by it from itself, by no step.
 use Rattle.desk.proofs.Common.{refl, ap}
 use Rattle.desk.proofs.Coming.{come-begun}
 use Rattle.desk.proofs.noted_hall.NotedHall.new.Goals as goal

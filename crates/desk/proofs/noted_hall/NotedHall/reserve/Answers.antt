@@ -1,3 +1,5 @@
+-- A hall with its history raises a reservation (`NotedHall::reserve`): taken, the history ends with just this
+-- AdmitMore; refused, it is for one of the reasons told.
 use Rattle.desk.proofs.Common.{rules, Contains, IfErr, reserve_refusals}
 use Rattle.desk.proofs.Refused.{reserve-refused}
 use Rattle.desk.proofs.noted_hall.NotedHall.reserve.Goals as goal

@@ -1,3 +1,5 @@
+-- A hall with its history shows it to a seat (`NotedHall::show`): what the seat sees is all of it, and its own steps
+-- are those that it made.
 use Rattle.desk.proofs.Common.{◌≡◌, ◌<◌, ap, sym, ◌∙◌, subst, jamboree, HasCome, SeatCoreOf}
 use Rattle.desk.proofs.Judged.{Rights, Headlines}
 use Rattle.desk.proofs.Coming.{looks}

@@ -1,3 +1,5 @@
+-- A hall with its history is offered a step of a maker (`NotedHall::take`): taken, it is the history's new end and the
+-- maker's own; refused, hall and history stay. The maker has then seen all of the history.
 use Rattle.desk.proofs.Common.{◌≡◌, ℕ, ◌≤◌, List, sym, ap, ◌∙◌, subst, refl, arith, OnOk, Ok, Err, Result, DidOf, Leaf, Refusal, tenant_of, Known, HasCome, own as own_by, newest_after, with_taken, IsTrueTo}
 use Rattle.desk.proofs.Coming.{come-offered, leave-taken, no-leave-taken, told}
 use Rattle.desk.proofs.Judged.{newest-stays}

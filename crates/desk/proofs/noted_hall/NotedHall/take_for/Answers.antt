@@ -1,3 +1,5 @@
+-- A hall with its history is offered a seat's step (`NotedHall::take_for`): the seat's share, the count of its taken
+-- steps, goes up where it is taken.
 use Rattle.desk.proofs.Noting.{seat-counts}
 use Rattle.desk.proofs.noted_hall.NotedHall.take_for.Goals as goal
 

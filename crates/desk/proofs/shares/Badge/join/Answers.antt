@@ -1,3 +1,5 @@
+-- Two workers' badges of a desk are joined (`Badge::join`): the new one has the sums of their shares and parts, and
+-- the first one's maker.
 use Rattle.desk.proofs.Common.{rules}
 use Rattle.desk.proofs.shares.Badge.join.Goals as goal
 

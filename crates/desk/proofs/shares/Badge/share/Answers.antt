@@ -1,3 +1,4 @@
+-- A worker's badge at a desk (`Badge::share`): its share is the number that its clauses call so.
 use Rattle.desk.proofs.Common.{rules}
 use Rattle.desk.proofs.shares.Badge.share.Goals as goal
 

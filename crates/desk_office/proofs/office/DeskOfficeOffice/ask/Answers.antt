@@ -1,3 +1,5 @@
+-- A server's session asks for a search (`ask` of `DeskOffice`): the call is one of an office at its desk, by the
+-- question of its line.
 use Rattle.desk_office.proofs.Common.{OfficeOf}
 use Rattle.desk_office.proofs.TurnLemmas.{ask-turn}
 use Rattle.desk_office.proofs.office.DeskOfficeOffice.ask.Goals as goal

@@ -1,3 +1,4 @@
+-- A server's session cancels a job (`cancel` of `DeskOffice`): the call is one of an office at its desk.
 use Rattle.desk_office.proofs.Common.{OfficeOf}
 use Rattle.desk_office.proofs.TurnLemmas.{cancel-turn}
 use Rattle.desk_office.proofs.office.DeskOfficeOffice.cancel.Goals as goal

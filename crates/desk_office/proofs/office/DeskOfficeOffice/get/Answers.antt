@@ -1,3 +1,4 @@
+-- A server's session asks how a job stands (`get` of `DeskOffice`): the call is one of an office at its desk.
 use Rattle.desk_office.proofs.Common.{OfficeOf}
 use Rattle.desk_office.proofs.TurnLemmas.{get-turn}
 use Rattle.desk_office.proofs.office.DeskOfficeOffice.get.Goals as goal

@@ -1,3 +1,4 @@
+-- A server's session reserves more (`reserve` of `DeskOffice`): the call is one of an office at its desk.
 use Rattle.desk_office.proofs.Common.{OfficeOf}
 use Rattle.desk_office.proofs.TurnLemmas.{reserve-turn}
 use Rattle.desk_office.proofs.office.DeskOfficeOffice.reserve.Goals as goal

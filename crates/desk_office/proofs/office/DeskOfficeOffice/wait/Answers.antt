@@ -1,3 +1,4 @@
+-- A server's session waits for a job (`wait` of `DeskOffice`): the call is one of an office at its desk.
 use Rattle.desk_office.proofs.Common.{OfficeOf}
 use Rattle.desk_office.proofs.TurnLemmas.{wait-turn}
 use Rattle.desk_office.proofs.office.DeskOfficeOffice.wait.Goals as goal

@@ -1,3 +1,5 @@
+-- A new line of those who share (`ShareLine::new`): at each turn, the places made so far are free, and there is room
+-- for 64.
 use Rattle.fair_share.proofs.Common.{◌≡◌, ◌≤◌, replicate, vec_capacity, free_account}
 use Rattle.fair_share.proofs.line.ShareLine.new.Given as goal
 

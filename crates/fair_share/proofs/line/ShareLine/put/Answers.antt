@@ -1,3 +1,5 @@
+-- A line of those who share gets another account (`ShareLine::put`): the names beside the accounts still agree with
+-- them.
 use Rattle.fair_share.proofs.Common.{rules, ◌≡◌, ◌∙◌, length-set}
 use Rattle.std.proofs.Common.{slice_index_or}
 use Rattle.fair_share.proofs.NameLemmas.{names-put, names-stay}

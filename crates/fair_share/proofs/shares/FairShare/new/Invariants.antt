@@ -1,3 +1,5 @@
+-- A pool that nobody shares yet (`FairShare::new`): at each turn, the customers so far were served nothing, and there
+-- is room for the rest.
 use Rattle.fair_share.proofs.Common.{◌≡◌, ◌≤◌, replicate, vec_capacity}
 use Rattle.fair_share.proofs.shares.FairShare.new.Given as goal
 

@@ -1,3 +1,5 @@
+-- The frame table aborts below a frame (`SlotStore::cut`): after its two passes just the slots below the frame are
+-- gone, their values are appended, and the store is sound.
 use Rattle.frame_table.proofs.Common.{refl, slots_in, Leaves}
 use Rattle.frame_table.proofs.Cutting.{cut-store, cut-slots}
 use Rattle.frame_table.proofs.Aborts.{leaves-early, none-early, keys-early}

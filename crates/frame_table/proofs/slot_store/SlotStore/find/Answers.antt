@@ -1,3 +1,5 @@
+-- The frame table finds a frame's slot by serial (`SlotStore::find`): where the guessed key was right, the slot is the
+-- one of that serial.
 use Rattle.std.proofs.Common.{sym}
 use Rattle.frame_table.proofs.Keys.{are-keys, key-found, seen-at}
 use Rattle.frame_table.proofs.slot_store.SlotStore.find.Goals as goal

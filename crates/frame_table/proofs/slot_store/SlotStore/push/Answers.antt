@@ -1,4 +1,4 @@
--- A slot more: the parent counts it, and the store stays sound.
+-- The frame table gets a slot more (`SlotStore::push`): the parent counts it, and the store stays sound.
 use Rattle.frame_table.proofs.Common.{[], refl}
 use Rattle.frame_table.proofs.Keys.{re-keyed}
 use Rattle.frame_table.proofs.SlotStores.{slots_in-length, push-store, push-slots}

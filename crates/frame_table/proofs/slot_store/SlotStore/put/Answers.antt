@@ -1,3 +1,5 @@
+-- The frame table writes over one frame's slot (`SlotStore::put`): the slot at that place is replaced, no other
+-- changes, and the store stays sound.
 use Rattle.std.proofs.Common.{[], refl}
 use Rattle.frame_table.proofs.SlotStores.{slots_in-length, slot-read, kept-read}
 use Rattle.frame_table.proofs.Keys.{are-keys, put-store, put-slots}

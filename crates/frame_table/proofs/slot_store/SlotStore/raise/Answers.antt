@@ -1,4 +1,4 @@
--- More places: the slots stay, whichever step is refused memory.
+-- The frame table gets more places for slots (`SlotStore::raise`): the slots stay, whichever step is refused memory.
 use Rattle.std.proofs.Common.{◌≤◌, length, ap, arith}
 use Rattle.frame_table.proofs.SlotStores.{roomy-store, roomy-same, roomy-len}
 use Rattle.frame_table.proofs.Keys.{are-keys}

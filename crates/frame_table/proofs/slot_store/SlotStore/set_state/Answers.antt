@@ -1,3 +1,5 @@
+-- The frame table changes the state of one frame (`SlotStore::set_state`), whether its key was guessed or searched
+-- for: that slot alone changes, the old state is returned, and the store stays sound.
 use Rattle.frame_table.proofs.Keys.{key-searched, state-store, state-changes}
 use Rattle.frame_table.proofs.slot_store.SlotStore.set_state.Goals as goal
 

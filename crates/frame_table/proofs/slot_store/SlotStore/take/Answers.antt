@@ -1,4 +1,4 @@
--- A slot less: what is left is sound, and the parent counts one child less.
+-- The frame table loses a slot (`SlotStore::take`): what is left is sound, and the parent counts one child less.
 use Rattle.frame_table.proofs.Keys.{are-keys, re-keyed}
 use Rattle.frame_table.proofs.Cutting.{has-taken, taken-slots, taken-store, taken-knows, taken-rises, taken-read}
 use Rattle.frame_table.proofs.Common.{refl}

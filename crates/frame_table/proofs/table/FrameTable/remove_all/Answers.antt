@@ -1,4 +1,5 @@
--- A tenant's tree without frames in its place, and the others as they were.
+-- The frame table loses all frames of a tenant (`FrameTable::remove_all`): its tree stands without a frame, with as many
+-- places as before, and the others are as they were.
 use Rattle.std.proofs.Common.{refl, ◌∙◌, arith}
 use Rattle.frame_table.proofs.Tenants.{has-tree, new-sound, here-now, new-keeps}
 use Rattle.frame_table.proofs.table.FrameTable.remove_all.Goals as goal

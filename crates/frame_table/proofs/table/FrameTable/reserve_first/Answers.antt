@@ -1,4 +1,4 @@
--- The first places of a tenant: a tree without frames more.
+-- A tenant comes to the frame table (`FrameTable::reserve_first`): there is one more tree, without a frame.
 use Rattle.frame_table.proofs.Common.{◌<◌, [], length, arith, length-inserted, owner_of_tree}
 use Rattle.frame_table.proofs.Tenants.{reserve-sound, reserve-here, more-room}
 use Rattle.numbered_list.proofs.Edits.{said-inserted-other}

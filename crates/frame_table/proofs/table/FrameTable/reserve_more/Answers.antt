@@ -1,4 +1,5 @@
--- More places of a tenant: the tree in its place, or as it was where memory is refused.
+-- A tenant gets more places in the frame table (`FrameTable::reserve_more`): its tree has them, or is as it was where
+-- memory is refused.
 use Rattle.frame_table.proofs.Common.{Result, Ok, Err, OnErr, arith, refl, length-with, owner_of_tree}
 use Rattle.frame_table.proofs.Tenants.{has-tree, here-now, raised-keeps, raised-sound, unraised, unraised-sound}
 use Rattle.frame_table.proofs.table.FrameTable.reserve_more.Goals as goal

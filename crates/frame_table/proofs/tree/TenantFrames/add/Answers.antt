@@ -1,4 +1,5 @@
--- A frame more: its slot, its serial and its ready frame.
+-- One tenant's tree in the frame table gets a frame (`TenantFrames::add`): its slot, its serial, and its entry among
+-- the ready ones.
 use Rattle.frame_table.proofs.Changes.{keeps-added}
 use Rattle.frame_table.proofs.Common.{[], frames_from, length-append, new_frame, ◌∷◌}
 use Rattle.frame_table.proofs.Finds.{keeps-view, kept-length}

@@ -1,3 +1,5 @@
+-- One tenant's tree in the frame table (`TenantFrames::exceeds_all`): comparing with the last slot is enough, as the
+-- slots stand by rising serial.
 use Rattle.frame_table.proofs.Common.{length, lt-ltb, ltb-true, ◌+◌, ◌-◌, ◌≡◌}
 use Rattle.frame_table.proofs.Finds.{below-last-at, last-below}
 use Rattle.frame_table.proofs.Common.{arith}

@@ -1,4 +1,4 @@
--- What is told of a frame is what its slot keeps.
+-- One tenant's tree in the frame table (`TenantFrames::find`): what is told of a frame is what its slot keeps.
 use Rattle.frame_table.proofs.Finds.{kept-found}
 use Rattle.frame_table.proofs.Common.{arith}
 use Rattle.frame_table.proofs.tree.TenantFrames.find.Goals as goal

@@ -1,4 +1,5 @@
--- A leaf less: its slot, its serial and its ready frame.
+-- One tenant's tree in the frame table loses a leaf (`TenantFrames::remove`): its slot, its serial, and its entry
+-- among the ready ones.
 use Rattle.frame_table.proofs.Changes.{count-without}
 use Rattle.frame_table.proofs.Common.{ap}
 use Rattle.frame_table.proofs.Changes.{keeps-left, left-counted}

@@ -1,4 +1,5 @@
--- An abort: at a leaf nothing goes, else slots, serials and ready frames are cut.
+-- An abort in one tenant's tree of the frame table (`TenantFrames::remove_under`): at a leaf nothing goes, else slots,
+-- serials and ready frames are cut.
 use Rattle.frame_table.proofs.Aborts.{CutsReady, childless-serial, cut-length, cut-ready, leaf-aborted, leaf-none-under}
 use Rattle.frame_table.proofs.Changes.{cleared, keeps-cut, keeps-cut-at, keeps-gone}
 use Rattle.frame_table.proofs.Common.{IsSeenAt, [], append-nil, children_of, frames_from, kept_slots, length-set, recounted, set, sym, ◌∙◌, ◌≡◌}

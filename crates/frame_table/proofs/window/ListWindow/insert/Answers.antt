@@ -1,3 +1,5 @@
+-- The frame table's list with free places at both ends (`ListWindow::insert`): the element stands at its place, those
+-- before and behind it in their order; the reserved place is enough.
 use Rattle.frame_table.proofs.Common.{IsOk, not, refl, sym, ap, ◌∙◌, arith, false≢true, length-drop}
 use Rattle.frame_table.proofs.Places.{inserted-back}
 use Rattle.frame_table.proofs.window.ListWindow.insert.Goals as goal

@@ -1,3 +1,5 @@
+-- The frame table's list with free places at both ends (`ListWindow::remove_near_front`): the element is gone after
+-- those before it were moved one place on.
 use Rattle.frame_table.proofs.Common.{◌≡◌, ◌+◌, refl, copy_within}
 use Rattle.frame_table.proofs.Places.{removed-front, place-within}
 use Rattle.frame_table.proofs.window.ListWindow.remove_near_front.Goals as goal

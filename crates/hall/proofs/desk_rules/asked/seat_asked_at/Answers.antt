@@ -1,3 +1,5 @@
+-- The desk's list of what a seat asked for (`seat_asked_at`): job 1 is the first entry, and a number of 0 or above the
+-- length has none.
 use Rattle.std.proofs.Common.{sym, arith}
 use Rattle.hall.proofs.DeskRules.Asking.{at-zero, at-past, at-read}
 use Rattle.hall.proofs.desk_rules.asked.seat_asked_at.Goals as goal

@@ -1,4 +1,5 @@
--- What the core would refuse is refused.
+-- The hall admits a tenant or raises one (`Hall::admit`): what the core would refuse is refused, before any memory is
+-- taken.
 use Rattle.hall.proofs.Common.{sym, rules}
 use Rattle.hall.proofs.Halls.{refused}
 use Rattle.hall.proofs.hall.Hall.admit.Goals as goal

@@ -1,4 +1,4 @@
--- A taken step goes on in its tenant's journal.
+-- The hall does a step that is no admission and no Leave (`Hall::go_on`): taken, it goes on in its tenant's journal.
 use Rattle.hall.proofs.Common.{◌≡◌, ℕ, ◌+◌, true, Option, None, ap, sym, subst, ◌∙◌, rules, is_ok, false≢true, Refusal, DidOf, CoreState, AreNumbersGiven, Leaf, IsSearch, Quota, is_appended, raise_in, HallOf, IsHall}
 use Rattle.std.specs.Prelude.{Result, Ok, Err}
 use Rattle.hall.proofs.Lists.{IsAllowed}

@@ -1,3 +1,5 @@
+-- The hall does a tenant's Leave (`Hall::leave`): the tenant's own journal is taken out, and its steps are counted as
+-- gone; or the step is refused, and nothing changes.
 use Rattle.hall.proofs.Common.{◌≡◌, ℕ, ◌+◌, [], length, sym, ◌∙◌, ap, refl, rules, journal_in, owner_of_journal, said-found}
 use Rattle.hall.proofs.Lists.{steps_of}
 use Rattle.hall.proofs.Halls.{leaves-off}

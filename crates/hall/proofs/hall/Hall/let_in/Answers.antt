@@ -1,4 +1,5 @@
--- The new journal stands behind all others, as its tenant is the newest.
+-- The hall admits a tenant that the core doesn't refuse (`Hall::let_in`): the new journal stands behind all others, as
+-- its tenant is the newest.
 use Rattle.hall.proofs.Common.{◌≡◌, ℕ, ◌+◌, [], ◌∷◌, ◌++◌, sym, ◌∙◌, ap, arith, admitted_journal}
 use Rattle.hall.proofs.Halls.{admitted, is-free, is-last}
 use Rattle.hall.proofs.hall.Hall.let_in.Given.{Over}

@@ -1,3 +1,4 @@
+-- A new hall (`Hall::new`): one without a tenant keeps the hall's invariant.
 use Rattle.hall.proofs.Halls.{empty-kept}
 use Rattle.hall.proofs.hall.Hall.new.Goals as goal
 

@@ -1,3 +1,5 @@
+-- The hall is offered a step (`Hall::offer`): jobs that have ended stay as they are, and BadAct isn't told of a step
+-- that submits nothing.
 use Rattle.hall.proofs.Halls.{ended-stays, none-bad}
 use Rattle.hall.proofs.hall.Hall.offer.Goals as goal
 

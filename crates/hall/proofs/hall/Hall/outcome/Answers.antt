@@ -1,3 +1,4 @@
+-- The hall tells what became of a job (`Hall::outcome`): its reply is to what the tenant's journal says was asked for.
 use Rattle.hall.proofs.Halls.{served, answered}
 use Rattle.hall.proofs.hall.Hall.outcome.Goals as goal
 

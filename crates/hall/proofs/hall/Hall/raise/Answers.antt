@@ -1,4 +1,4 @@
--- A raise that was taken goes on in its tenant's journal.
+-- The hall raises a tenant's reservation (`Hall::raise`): taken, the step goes on in its tenant's journal.
 use Rattle.hall.proofs.Common.{◌≡◌, ℕ, ◌+◌, true, refl, ap, sym, ◌∙◌, rules, OnOk, is_ok, false≢true, Quota, IsWithinLimits, Refusal, DidOf, AdmitMore, CoreState, AreNumbersGiven, Leaf, HallOf, IsHall}
 use Rattle.std.specs.Prelude.{Result, Ok, Err}
 use Rattle.hall.proofs.Halls.{IsStepOf, on-ok, GoesOn, goes-on, is-ready}

@@ -1,4 +1,5 @@
--- There is room for all entries that the journal has, and for the new ones; the long one stands for the step.
+-- A tenant's journal in the hall gets an AdmitMore (`Journal::raise`): there is room for all entries that it has and
+-- for the new ones; the long one stands for the step.
 use Rattle.hall.proofs.Common.{◌≡◌, ◌+◌, ◌*◌, List, [], ◌∷◌, ◌++◌, Result, Ok, Err, false, length-append, refl, ap, ◌∙◌, arith, is_err, true≢false, AdmitMore, JournalEntry, Long, Raised, JournalOf, longer, raise_count}
 use Rattle.std.proofs.Common.{OnOk}
 use Rattle.hall.proofs.Lists.{raise-more}
@@ -7,7 +8,7 @@ use Rattle.hall.proofs.journal.Journal.raise.Given.{Over}
 use Rattle.hall.proofs.journal.Journal.raise.Goals.{After-push_reserved, After-push_reserved-2}
 use Rattle.hall.proofs.journal.Journal.raise.Goals as goal
 
--- what a growth that wasn't refused made
+-- what a request for memory that was granted made
 got : {T E P : Type 0} (answer : Result T E) → is_err answer ≡ false → OnOk answer P → P
 got (Ok value) made it = it
 got (Err error) made it = absurd (true≢false made)

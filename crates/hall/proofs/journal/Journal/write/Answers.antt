@@ -1,4 +1,5 @@
--- There is room for the entry, which stands for the step.
+-- A tenant's journal in the hall gets a step (`Journal::write`): there is room for the entry, which stands for the
+-- step.
 use Rattle.hall.proofs.Common.{None, ap, sym, ◌∙◌, arith, JournalOf, raise_count}
 use Rattle.hall.proofs.Lists.{counted-after}
 use Rattle.hall.proofs.Entries.{has-room, written-short, long_count-more}

@@ -1,4 +1,5 @@
--- There is room for both entries, and the long one stands for the step.
+-- A tenant's journal in the hall gets a step with a long entry (`Journal::write_long`): there is room for both
+-- entries, and the long one stands for the step.
 use Rattle.hall.proofs.Common.{length-append, arith, Long}
 use Rattle.hall.proofs.Lists.{counted-after}
 use Rattle.hall.proofs.Entries.{has-room, has-long-room, written-long, long_count-more}

@@ -1,3 +1,5 @@
+-- The view of a search's frame (`FrameView::has_choice`): while choices are searched, the frame's count of choices is
+-- its board's.
 use Rattle.jamboree.proofs.Common.{inl, inr, ⊎_elim, ap, arith, nat_tests, frame-told, phase_number, frame_in}
 use Rattle.jamboree.proofs.frame.FrameView.has_choice.Goals as goal
 

@@ -1,3 +1,4 @@
+-- The search as a procedure (`Jamboree::is_fitting_root`): it says yes exactly to the words of a search's root.
 use Rattle.jamboree.proofs.Common.{ℕ, [], sym, subst, padded, Neither, AreFitting, IsRoot}
 use Rattle.jamboree.proofs.procedure.JamboreeProcedure.is_fitting_root.Goals as goal
 

@@ -1,3 +1,5 @@
+-- A reply to a search (`Reply::bound`): the entry of this number is a true bound of its choice, and the best choice's
+-- is exact.
 use Rattle.jamboree.proofs.Common.{cells, best_choice, IsTrueBound, IsExactIfBest, table_of}
 use Rattle.jamboree.proofs.ReplyLemmas.{bound-of, bound-holds}
 use Rattle.jamboree.proofs.reply.Reply.bound.Goals as goal

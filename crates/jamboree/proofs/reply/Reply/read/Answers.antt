@@ -1,3 +1,5 @@
+-- A reply to a search (`Reply::read`): the words that a job kept of its root have the form of one, and what is read
+-- from them is the true reply.
 use Rattle.jamboree.proofs.Common.{take, sym, ◌∙◌, ap, subst, arith, length-drop, choices, minimax, best_choice, entered, IsTable, Frame, board, frame_of, are_entries, bounds_of, decoded, bounds_by, greatest_depth}
 use Rattle.std.proofs.Common.{◌≡◌, ◌≤◌, ℕ, List, length}
 use Rattle.jamboree.proofs.ActLemmas.{best-wide}

@@ -1,3 +1,5 @@
+-- The head of a search's frame (`Head::leaf`): the leaf has the head's board, depth and window, or is the empty board
+-- to depth 0.
 use Rattle.jamboree.proofs.Common.{sym, ◌∙◌, arith, ints, score_of, leaf-told, leaf-is}
 use Rattle.std.proofs.Common.{◌<ℤ◌, refl}
 use Rattle.jamboree.proofs.ViewLemmas.{word-high, as-wide}

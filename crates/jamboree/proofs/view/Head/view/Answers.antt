@@ -1,3 +1,5 @@
+-- The head of a search's frame (`Head::view`): its words are scores within range, so the typed view keeps its
+-- invariant.
 use Rattle.jamboree.proofs.Common.{arith}
 use Rattle.jamboree.proofs.ViewLemmas.{ranged, alpha-low, below-beta, beta-high, best-low, best-high}
 use Rattle.jamboree.proofs.view.Head.view.Goals as goal

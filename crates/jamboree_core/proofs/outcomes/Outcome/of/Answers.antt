@@ -1,3 +1,4 @@
+-- What became of a search's job (`Outcome::of`): of one that is done, the reply read from its words.
 use Rattle.jamboree_core.proofs.Common.{refl, ◌∙◌, ap, slice_index, frame_of, bounds_of}
 use Rattle.std.specs.Prelude.{ℕ, List}
 use Rattle.jamboree_core.proofs.outcomes.Outcome.of.Goals as goal

@@ -1,3 +1,5 @@
+-- A search's leaf is computed (`LeafAnswer::compute`): the score and the choice that the serial search finds are a
+-- right answer to the leaf.
 use Rattle.jamboree_rules.proofs.Common.{to_z, of_z, w32, arith, ints, Choice, IsWithin, IsBound}
 use Rattle.std.proofs.Common.{◌≡◌, ◌<ℤ◌, ◌≤ℤ◌, pos, negsuc, ℤ, Option}
 use Rattle.jamboree_rules.proofs.leaf.LeafAnswer.compute.Goals as goal

@@ -1,3 +1,5 @@
+-- A list of choices by class (`Classed::is_empty`): it is empty exactly where no square of any class and no pass is
+-- left.
 use Rattle.leaf_search.proofs.Common.{refl, sym, ◌∙◌, arith, false≢true, not-true}
 use Rattle.leaf_search.proofs.ClassLemmas.{nothing-left, all-zero}
 use Rattle.leaf_search.proofs.classes.Classed.is_empty.Goals as goal

@@ -1,3 +1,4 @@
+-- A list of choices by class (`Classed::new`): it has all choices of the board, first those of the class.
 use Rattle.leaf_search.proofs.Common.{sym, ap, ◌∙◌, subst, arith, bit_and, bit_not, w64, filter, squares, is_legal, cells, bits_of, sequence, classed, ne_eqb, IsPermutation}
 use Rattle.othello_moves.proofs.BitLemmas.{choices-words, choices-pass}
 use Rattle.leaf_search.proofs.ClassLemmas.{classed-rearranges}

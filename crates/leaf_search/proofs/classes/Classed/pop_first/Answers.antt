@@ -1,3 +1,5 @@
+-- A list of choices by class (`Classed::pop_first`): what it takes is the first choice left, and the rest stay in
+-- order.
 use Rattle.leaf_search.proofs.Common.{sym, ◌∙◌, rules, arith}
 use Rattle.leaf_search.proofs.ClassLemmas.{classed-first, classed-second, classed-third, classed-pass, classed-none}
 use Rattle.leaf_search.proofs.classes.Classed.pop_first.Goals as goal

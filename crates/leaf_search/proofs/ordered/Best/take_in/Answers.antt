@@ -1,3 +1,5 @@
+-- The best of the choices tried (`Best::take_in`): a score above the best, or above what the window asked for, replaces
+-- the choice; else it is kept.
 use Rattle.leaf_search.proofs.Common.{arith, ints, clamps}
 use Rattle.leaf_search.proofs.ordered.Best.take_in.Goals as goal
 

@@ -1,3 +1,5 @@
+-- A window for a child (`Window::of_child`): from -beta to the negated greater of alpha and best, which stays a
+-- window.
 use Rattle.leaf_search.proofs.Common.{arith, ints, clamps}
 use Rattle.leaf_search.proofs.window.Window.of_child.Goals as goal
 

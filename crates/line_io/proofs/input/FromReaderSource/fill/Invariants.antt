@@ -1,3 +1,4 @@
+-- A reader of std as a source (`fill` of `FromReader`): at each turn, a read that was interrupted has taken nothing.
 use Rattle.line_io.proofs.Common.{Keeps}
 use Rattle.line_io.proofs.input.FromReaderSource.fill.Given as goal
 

@@ -1,3 +1,4 @@
+-- A writer of std as a sink (`put` of `FromWriter`): at each turn, a write that was interrupted has written nothing.
 use Rattle.line_io.proofs.Common.{Keeps}
 use Rattle.line_io.proofs.output.FromWriterSink.put.Given as goal
 

@@ -1,4 +1,4 @@
--- What stands at the guessed place is the thing of the number.
+-- The index of a list by number (`TenantIndex::find`): what stands at the guessed place is the thing of the number.
 use Rattle.std.proofs.Common.{ap, sym, ◌∙◌}
 use Rattle.numbered_list.proofs.Places.{find_by_number-found}
 use Rattle.numbered_list.proofs.index.TenantIndex.find.Goals as goal

@@ -1,4 +1,5 @@
--- The places from here on are still to be put down.
+-- The index of a list by number makes its guesses anew (`TenantIndex::guess_anew`): the places from here on are still
+-- to be put down.
 use Rattle.std.proofs.Common.{◌≡◌, drop, length}
 use Rattle.numbered_list.specs.Guesses.{with_places}
 use Rattle.numbered_list.proofs.index.TenantIndex.guess_anew.Given as goal

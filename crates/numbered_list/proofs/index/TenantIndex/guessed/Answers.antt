@@ -1,4 +1,4 @@
--- Where the guess is right, it is the place.
+-- The index of a list by number (`TenantIndex::guessed`): where the guess is right, it is the place.
 use Rattle.std.proofs.Common.{ap, sym, ◌∙◌}
 use Rattle.numbered_list.proofs.Places.{count_below-found}
 use Rattle.numbered_list.proofs.index.TenantIndex.guessed.Goals as goal

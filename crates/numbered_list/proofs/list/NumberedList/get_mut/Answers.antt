@@ -1,4 +1,5 @@
--- The place is that of the thing of the number, and what is written there takes its place.
+-- A list of things by number (`NumberedList::get_mut`): the place is that of the number's thing, and what is written
+-- there takes its place.
 use Rattle.std.proofs.Common.{arith, refl}
 use Rattle.numbered_list.specs.Places.{IsAt}
 use Rattle.numbered_list.proofs.Edits.{place-read, at-within, at-thing, at-put}

@@ -1,4 +1,4 @@
--- What stands at the guessed place is the thing of the number.
+-- A list of things by number (`NumberedList::guessed`): what stands at the guessed place is the thing of the number.
 use Rattle.std.proofs.Common.{ap, ◌∙◌}
 use Rattle.numbered_list.proofs.Places.{find_by_number-found}
 use Rattle.numbered_list.proofs.list.NumberedList.guessed.Goals as goal

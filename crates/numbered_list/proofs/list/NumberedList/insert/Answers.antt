@@ -1,4 +1,4 @@
--- The new thing comes to its place, for which there is memory.
+-- A list of things by number (`NumberedList::insert`): the new thing comes to its place, for which there is memory.
 use Rattle.std.proofs.Common.{◌<◌, length, IsOk, arith}
 use Rattle.numbered_list.proofs.Edits.{inserted-read}
 use Rattle.numbered_list.proofs.list.NumberedList.insert.Goals as goal

@@ -1,4 +1,4 @@
--- The thing at the place of the number goes.
+-- A list of things by number (`NumberedList::remove`): the thing at the place of the number goes.
 use Rattle.std.proofs.Common.{◌∙◌, arith}
 use Rattle.numbered_list.specs.Places.{IsAt}
 use Rattle.numbered_list.proofs.Edits.{place-read, at-within, at-thing, at-removed}

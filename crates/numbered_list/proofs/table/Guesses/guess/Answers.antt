@@ -1,3 +1,4 @@
+-- A list's guesses of places (`Guesses::guess`): what is guessed is what was put down last in the number's entry.
 use Rattle.std.proofs.Common.{◌<◌, length, arith}
 use Rattle.numbered_list.proofs.Places.{masked, guessed}
 use Rattle.numbered_list.proofs.table.Guesses.guess.Goals as goal

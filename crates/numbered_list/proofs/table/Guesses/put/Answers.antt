@@ -1,3 +1,5 @@
+-- A list's guesses of places (`Guesses::put`): the number's entry then has the place, and a place below 2^32 is
+-- guessed as it is.
 use Rattle.std.proofs.Common.{◌<◌, length, arith, refl}
 use Rattle.numbered_list.proofs.Places.{masked, low-bits, found-again}
 use Rattle.numbered_list.proofs.table.Guesses.put.Goals as goal

@@ -1,3 +1,4 @@
+-- A board after a disc is set (`Board::play`): no square has two discs, and the board is that of the rules.
 use Rattle.othello_board.proofs.Common.{◌≡◌, ◌<◌, ◌*◌, ◌%◌, ◌^◌, ◌∷◌, arith, bit_or, one_shl, or_lt, mod_below, flips, cells}
 use Rattle.othello_board.proofs.PlayLemmas.{play-disjoint, played-cells_of, bit_at-made}
 use Rattle.othello_board.proofs.boards.Board.play.Goals as goal

@@ -1,3 +1,4 @@
+-- The discs of a position's text (`discs::with_bit`): the bit of this square is set and no other changes.
 use Rattle.othello_board.proofs.PositionText.Common.{w64, bit_at_set_same, bit_at_set_other}
 use Rattle.othello_board.proofs.position_text.discs.with_bit.Goals as goal
 

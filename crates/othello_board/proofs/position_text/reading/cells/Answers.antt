@@ -1,3 +1,5 @@
+-- A position's text is read (`reading::cells`): the next byte gives its square's mark (a disc or a blank), or is
+-- the first that spells none.
 use Rattle.othello_board.proofs.PositionText.Common.{refl, sym, ◌∙◌}
 use Rattle.othello_board.proofs.PositionText.ReadingLemmas.{one-more, held-spelled}
 use Rattle.othello_board.proofs.position_text.reading.cells.Goals as goal

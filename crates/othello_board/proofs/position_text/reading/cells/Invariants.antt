@@ -1,3 +1,4 @@
+-- A position's text is read (`reading::cells`): at each turn, the discs are those of the cells read so far.
 use Rattle.othello_board.proofs.PositionText.Common.{HoldsFirst}
 use Rattle.othello_board.proofs.position_text.reading.cells.Given as goal
 

@@ -1,3 +1,4 @@
+-- A position's text is read (`reading::read`): what is read is the position that it spells, or its first fault.
 use Rattle.othello_board.proofs.PositionText.Common.{◌∙◌, refl, sym, arith}
 use Rattle.othello_board.proofs.PositionText.Readings.{spells-seen, ok-exactly}
 use Rattle.othello_board.proofs.position_text.reading.read.Goals as goal

@@ -1,3 +1,5 @@
+-- A position is written as text (`writing::write`): the text has a byte for each cell and the side, and spells the
+-- position.
 use Rattle.othello_board.proofs.PositionText.Common.{arith, refl}
 use Rattle.othello_board.proofs.PositionText.WrittenText.{writes-none, writes-all, is-written, written-spells}
 use Rattle.othello_board.proofs.position_text.writing.write.Goals as goal

@@ -1,3 +1,4 @@
+-- A position is written as text (`writing::write`): at each turn, the text spells the squares passed so far.
 use Rattle.othello_board.proofs.PositionText.WrittenText.{WritesFirst}
 use Rattle.othello_board.proofs.position_text.writing.write.Given as goal
 

@@ -1,3 +1,4 @@
+-- A board with its weighed discs (`Weighed::after`): the choice's square is legal, so the board may be played.
 use Rattle.othello_eval.proofs.Common.{subst, Contains, cells, choices, contained-allowed}
 use Rattle.othello_eval.proofs.weighed.Weighed.after.Goals as goal
 

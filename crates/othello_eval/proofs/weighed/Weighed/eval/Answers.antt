@@ -1,3 +1,5 @@
+-- A board with its weighed discs is evaluated (`Weighed::eval`): the sums fit in 32 bits, and the result is the
+-- evaluation.
 use Rattle.othello_eval.proofs.Common.{◌≡◌, ◌≤◌, ◌<◌, ◌^◌, ℕ, List, length, filter, count_ones, sym, ap, ap₂, ◌∙◌, pos, ◌+ℤ◌, ◌-ℤ◌, ◌*ℤ◌, subst, arith, Cell, squares, exchanged, is_legal, cells, bits_of, legal_squares, legal_squares-fit, length-in_order, weights, discs_value, eval, IsWithin}
 use Rattle.othello_eval.proofs.ValueLemmas.{eval-within, known-within, small-fits, difference-fits, mobility-fits, eval-fits, eval-is}
 use Rattle.othello_eval.proofs.weighed.Weighed.eval.Goals as goal

@@ -1,3 +1,4 @@
+-- A board with its weighed discs is played (`Weighed::play`): the kept sum is that of the new board's discs.
 use Rattle.othello_eval.proofs.Common.{arith, ints, cells}
 use Rattle.othello_eval.proofs.ValueLemmas.{known-within, known-bits, after-move}
 use Rattle.othello_eval.proofs.weighed.Weighed.play.Goals as goal

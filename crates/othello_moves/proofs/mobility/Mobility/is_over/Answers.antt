@@ -1,3 +1,4 @@
+-- Both players' legal squares, kept (`Mobility::is_over`): the game is over exactly where neither has one.
 use Rattle.othello_moves.proofs.Common.{bit_or, arith, eqb-true, eq-eqb, cells}
 use Rattle.othello_moves.proofs.BitLemmas.{over-exactly}
 use Rattle.othello_moves.proofs.mobility.Mobility.is_over.Goals as goal

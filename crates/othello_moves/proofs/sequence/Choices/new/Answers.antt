@@ -1,3 +1,4 @@
+-- A board's choices, one after another (`Choices::new`): all of them are left.
 use Rattle.othello_moves.proofs.Common.{sym, ap, ◌∙◌, bit_and, arith, filter, squares, is_legal, cells, bits_of, sequence}
 use Rattle.std.proofs.Common.{ne_eqb}
 use Rattle.othello_moves.proofs.BitLemmas.{choices-words, choices-pass}

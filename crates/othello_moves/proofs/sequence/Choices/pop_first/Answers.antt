@@ -1,3 +1,5 @@
+-- A board's choices, one after another (`Choices::pop_first`): the first left is taken, corners before others and a
+-- pass alone.
 use Rattle.othello_moves.proofs.Common.{sym, ◌∙◌, rules, arith}
 use Rattle.othello_moves.proofs.BitLemmas.{sequence-first, sequence-second, sequence-pass, sequence-none, taken-first, taken-none}
 use Rattle.othello_moves.proofs.sequence.Choices.pop_first.Goals as goal

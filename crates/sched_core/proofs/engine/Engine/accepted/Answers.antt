@@ -1,3 +1,5 @@
+-- The core judges an Answer (`Engine::accepted`): it is refused exactly where the definition of the step refuses it,
+-- by the same number.
 use Rattle.sched_core.proofs.Common.{not, ◌≡◌, refl, sym, arith, err_from_is_err_and, Answer, words_under}
 use Rattle.sched_core.proofs.Deciding.{passed-on, lost, answer-told}
 use Rattle.sched_core.proofs.engine.Engine.accepted.Goals as goal

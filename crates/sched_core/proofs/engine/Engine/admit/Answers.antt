@@ -1,3 +1,5 @@
+-- The core admits a tenant (`Engine::admit`): what is left in the store is what the definition of an Admit gives, or
+-- memory was refused.
 use Rattle.sched_core.proofs.TakenStep.{step_result-admission}
 use Rattle.sched_core.proofs.Beginning.{admit-taken}
 use Rattle.sched_core.proofs.engine.Engine.admit.Goals as goal

@@ -1,3 +1,5 @@
+-- The core raises a reservation (`Engine::admit_more`): what is left in the store is what the definition of an
+-- AdmitMore gives, or memory was refused.
 use Rattle.sched_core.proofs.TakenStep.{step_result-admission}
 use Rattle.sched_core.proofs.Beginning.{raise-going, raise-taken}
 use Rattle.sched_core.proofs.engine.Engine.admit_more.Goals as goal

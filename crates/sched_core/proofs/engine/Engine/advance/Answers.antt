@@ -1,3 +1,5 @@
+-- The core does an Advance (`Engine::advance`): the running frame's next act is done as the procedure says, a step is
+-- counted, and the outcome is the definition's.
 use Rattle.sched_core.proofs.Common.{refl, err_from_is_err_and}
 use Rattle.sched_core.proofs.Deciding.{root-is, advance-told}
 use Rattle.sched_core.proofs.TakenStep.{step_result-refused}

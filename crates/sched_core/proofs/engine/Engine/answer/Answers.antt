@@ -1,3 +1,5 @@
+-- The core does an Answer (`Engine::answer`): the computing frame stores what the procedure makes of it and runs
+-- again, and the outcome is the definition's.
 use Rattle.sched_core.proofs.Common.{not-false, refl, found-serial}
 use Rattle.sched_core.proofs.TakenStep.{step_result-taken, then-run, step-left}
 use Rattle.sched_core.proofs.Ending.{with-named}

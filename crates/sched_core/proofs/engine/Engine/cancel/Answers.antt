@@ -1,3 +1,4 @@
+-- The core does a Cancel (`Engine::cancel`): the live job's root is there, and the outcome is the definition's.
 use Rattle.sched_core.proofs.Common.{refl, Cancelled as CancelledJob, ended}
 use Rattle.sched_core.proofs.TakenStep.{begins, then-changed, step_result-taken}
 use Rattle.sched_core.proofs.Ending.{cancel-going, cancel-root}

@@ -1,3 +1,5 @@
+-- The core does a Finish (`Engine::finish`): a step is left to be counted, and the outcome, the job done with the
+-- first words of its root, is the definition's.
 use Rattle.sched_core.proofs.Common.{◌≡◌, refl, ◌∙◌, Done, kept_words, ended, counted, found-serial}
 use Rattle.sched_core.proofs.TakenStep.{step_result-taken, begins, then-changed, step-left}
 use Rattle.sched_core.proofs.Ending.{finish-going, named-words}

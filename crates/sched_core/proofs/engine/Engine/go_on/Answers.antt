@@ -1,3 +1,5 @@
+-- The core does what follows an act's stores (`Engine::go_on`): going on, growing, spawning, computing, waiting or
+-- returning each leave the tenant as the definition says.
 use Rattle.sched_core.proofs.Common.{inl, inr, sym, found-there}
 use Rattle.sched_core.proofs.Acting.{go-came, grow-came, spawn-came, compute-came, waits-came, wait-came, return-came, held-by-runner}
 use Rattle.sched_core.proofs.engine.Engine.go_on.Goals as goal

@@ -1,3 +1,5 @@
+-- The core does an Inlet (`Engine::inlet`): the returned child is taken out, its parent's words are stored, and the
+-- outcome is the definition's.
 use Rattle.sched_core.proofs.Common.{◌≡◌, true, false, refl, sym, ◌∙◌, err_from_is_err_and, words_under}
 use Rattle.sched_core.proofs.TakenStep.{step_result-refused}
 use Rattle.sched_core.proofs.Parents.{parent-there, inlet-told}

@@ -1,3 +1,5 @@
+-- The core tests whether a frame's job may be given up (`Engine::is_spendable`): the answer is that of the definition
+-- for a frame that runs.
 use Rattle.sched_core.proofs.Common.{sym, ◌∙◌}
 use Rattle.sched_core.proofs.Deciding.{spend-running, seen-words, seen-child}
 use Rattle.sched_core.proofs.engine.Engine.is_spendable.Goals as goal

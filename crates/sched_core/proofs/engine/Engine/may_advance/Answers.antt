@@ -1,3 +1,4 @@
+-- The core judges an Advance (`Engine::may_advance`): its refusal, or none, is that of the step's definition.
 use Rattle.sched_core.proofs.Common.{◌∙◌, ap, refl}
 use Rattle.sched_core.proofs.Deciding.{advance-told}
 use Rattle.sched_core.proofs.engine.Engine.may_advance.Goals as goal

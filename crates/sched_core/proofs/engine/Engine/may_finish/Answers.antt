@@ -1,3 +1,5 @@
+-- The core judges a Finish (`Engine::may_finish`): its refusal, or none, is that of the step's definition, also where
+-- the frame isn't there.
 use Rattle.sched_core.proofs.Deciding.{finish-decided}
 use Rattle.sched_core.proofs.Common.{refl, arith, err_from_is_err_and, Finish}
 use Rattle.sched_core.proofs.Deciding.{passed-on, lost}

@@ -1,3 +1,4 @@
+-- The core judges an Inlet (`Engine::may_inlet`): its refusal, or none, is that of the step's definition.
 use Rattle.sched_core.proofs.Parents.{parent-there, inlet-told}
 use Rattle.sched_core.proofs.engine.Engine.may_inlet.Goals as goal
 

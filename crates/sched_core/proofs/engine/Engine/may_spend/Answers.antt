@@ -1,3 +1,5 @@
+-- The core judges a Spend (`Engine::may_spend`): where the frame isn't there, the refusal is the one that the step's
+-- definition gives.
 use Rattle.sched_core.proofs.Common.{refl, err_from_is_err_and, Spend}
 use Rattle.sched_core.proofs.Deciding.{passed-on, lost}
 use Rattle.sched_core.proofs.engine.Engine.may_spend.Goals as goal

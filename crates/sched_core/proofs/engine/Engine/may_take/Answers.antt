@@ -1,3 +1,5 @@
+-- The core judges a Take (`Engine::may_take`): its refusal, or none, is that of the step's definition, also where the
+-- frame isn't there.
 use Rattle.sched_core.proofs.Common.{refl, err_from_is_err_and, Take}
 use Rattle.sched_core.proofs.Deciding.{passed-on, lost, take-decided}
 use Rattle.sched_core.proofs.engine.Engine.may_take.Goals as goal

@@ -1,3 +1,5 @@
+-- The core tells why it would refuse a step (`Engine::refusal`): for an AdmitMore it is the refusal that the test
+-- gave.
 use Rattle.sched_core.proofs.Common.{◌≡◌, Result, Ok, Err, refl, ◌∙◌, result_err, Refusal, refusal_in}
 use Rattle.sched_core.proofs.engine.Engine.refusal.Goals as goal
 

@@ -1,3 +1,5 @@
+-- The core looks up a returned frame for an Inlet (`Engine::returned`): where it isn't there, the refusal is the one
+-- that the step's definition gives.
 use Rattle.sched_core.proofs.Common.{refl, err_from_is_err_and, Inlet}
 use Rattle.sched_core.proofs.Deciding.{told-on, lost}
 use Rattle.sched_core.proofs.engine.Engine.returned.Goals as goal

@@ -1,3 +1,5 @@
+-- The core lets a worker run a frame (`Engine::run`): the worker held no other, a step is counted, and the tenant is
+-- as the definition says.
 use Rattle.sched_core.proofs.Common.{arith}
 use Rattle.sched_core.proofs.TakenStep.{left-still}
 use Rattle.sched_core.proofs.engine.Engine.run.Goals as goal

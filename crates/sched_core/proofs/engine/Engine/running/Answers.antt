@@ -1,3 +1,5 @@
+-- The core looks up a frame for an Advance (`Engine::running`): where it isn't there, the refusal is the one that the
+-- step's definition gives.
 use Rattle.sched_core.proofs.Common.{refl, err_from_is_err_and, Advance}
 use Rattle.sched_core.proofs.Deciding.{told-on, lost}
 use Rattle.sched_core.proofs.engine.Engine.running.Goals as goal

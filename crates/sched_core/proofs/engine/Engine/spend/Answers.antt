@@ -1,3 +1,5 @@
+-- The core does a Spend (`Engine::spend`): the frame's root is there, its job is ended as spent, and the outcome is
+-- the definition's.
 use Rattle.sched_core.proofs.Common.{◌≡◌, refl, root_of, Spent as SpentJob, on_tenant, ended}
 use Rattle.sched_core.proofs.TakenStep.{step_result-taken, begins, then-changed}
 use Rattle.sched_core.proofs.Ending.{spend-going, spend-root}

@@ -1,3 +1,5 @@
+-- The core does a Steal (`Engine::steal`): the tenant has a step left, the frame runs by the worker, and the outcome
+-- is the definition's.
 use Rattle.sched_core.proofs.Common.{refl, err_from_is_err_and, found-serial}
 use Rattle.sched_core.proofs.TakenStep.{step_result-taken, step_result-refused, steal-going, begins, then-run, step-left}
 use Rattle.sched_core.proofs.engine.Engine.steal.Goals as goal

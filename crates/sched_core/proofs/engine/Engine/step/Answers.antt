@@ -1,3 +1,4 @@
+-- The core does any step (`Engine::step`): each kind, done by its own function, is one step by the definitions.
 use Rattle.sched_core.proofs.Common.{refl}
 use Rattle.sched_core.proofs.Stepping.{one-step, one-admission}
 use Rattle.sched_core.proofs.engine.Engine.step.Goals as goal

@@ -1,3 +1,5 @@
+-- The core does a Submit (`Engine::submit`): the new root is there, the list of jobs has room, and the outcome is the
+-- definition's.
 use Rattle.sched_core.proofs.Common.{◌≡◌, ◌+◌, refl, arith, err_from_is_err_and, Live, with_job, shaped-in}
 use Rattle.sched_core.proofs.TakenStep.{step_result-refused, step_result-taken, then-changed}
 use Rattle.sched_core.proofs.Ending.{with-there}

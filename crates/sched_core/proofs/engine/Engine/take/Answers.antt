@@ -1,3 +1,5 @@
+-- The core does a Take (`Engine::take`): the tenant has a step left, the frame runs by the worker, and the outcome is
+-- the definition's.
 use Rattle.sched_core.proofs.Common.{refl, found-serial}
 use Rattle.sched_core.proofs.TakenStep.{step_result-taken, take-going, begins, then-run, step-left}
 use Rattle.sched_core.proofs.engine.Engine.take.Goals as goal

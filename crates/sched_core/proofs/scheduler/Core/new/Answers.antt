@@ -1,3 +1,4 @@
+-- A new core (`Core::new`): one without a tenant keeps all that a core keeps true.
 use Rattle.sched_core.proofs.Fitting.{nobody-kept}
 use Rattle.sched_core.proofs.scheduler.Core.new.Goals as goal
 

@@ -1,3 +1,4 @@
+-- A core tells a tenant's newest ready frame (`Core::newest_ready`): it is the ready one of the greatest serial.
 use Rattle.sched_core.proofs.Showing.{newest-of}
 use Rattle.sched_core.proofs.scheduler.Core.newest_ready.Goals as goal
 

@@ -1,3 +1,5 @@
+-- A core does a list of steps (`Core::run`): each answer is that of the definitions, one after the other, so the
+-- headline holds of the list.
 use Rattle.sched_core.proofs.Common.{append-nil}
 use Rattle.sched_core.proofs.Common.{arith, take_more}
 use Rattle.sched_core.proofs.Stepping.{runs-on, runs-out, fits-on}

@@ -1,3 +1,5 @@
+-- A core does a list of steps (`Core::run`): at each turn, the core is what the steps so far lead to, and there is
+-- room for the answers to come.
 use Rattle.sched_core.proofs.Common.{◌≡◌, ◌+◌, ◌≤◌, length, take, vec_len, vec_capacity}
 use Rattle.sched_core.proofs.Stepping.{IsRunning}
 use Rattle.sched_core.proofs.scheduler.Core.run.Given as goal

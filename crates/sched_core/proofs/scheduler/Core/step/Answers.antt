@@ -1,3 +1,4 @@
+-- A core does one step (`Core::step`): what a core keeps true, also that its frames fit, holds before and after it.
 use Rattle.sched_core.proofs.Stepping.{kept-still, fits-still, stays-on-err}
 use Rattle.sched_core.proofs.Fitting.{kept-fitting}
 use Rattle.sched_core.proofs.scheduler.Core.step.Goals as goal

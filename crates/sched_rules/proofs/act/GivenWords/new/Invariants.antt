@@ -1,4 +1,5 @@
--- the words taken so far are the first of those that are given
+-- The words of a new frame (`GivenWords::new`): at each turn, those taken so far are the first of those that are
+-- given.
 use Rattle.std.proofs.Common.{◌≡◌, take}
 use Rattle.sched_rules.proofs.act.GivenWords.new.Given as goal
 

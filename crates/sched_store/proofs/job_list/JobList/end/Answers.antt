@@ -1,3 +1,5 @@
+-- A tenant's jobs in the core's store (`JobList::end`): the live job of this root is replaced by how it ended; where
+-- there is none the list stays.
 use Rattle.sched_store.proofs.Jobs.{none-number_from}
 use Rattle.sched_store.proofs.Jobs.{ended-none}
 use Rattle.sched_store.proofs.Jobs.{ended-from}

@@ -1,4 +1,5 @@
--- The proof of `Store::abort`: what the search leaves.
+-- The core's store aborts below a frame (`Store::abort`): just the frames below it go, with their nodes, and what they
+-- were charged is free again.
 use Rattle.sched_store.proofs.Common.{arith, without_under, parts_of, aborted, tree-aborted, sym, node_words}
 use Rattle.frame_table.proofs.TreeValues.{aborted-map_values}
 use Rattle.sched_store.proofs.Removing.{stays, with_parts, abort-closes, abort-gone, AreFreed, nodes-free, gone-step, abort-count}

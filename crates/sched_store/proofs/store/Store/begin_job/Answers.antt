@@ -1,3 +1,5 @@
+-- The core's store begins a job (`Store::begin_job`): the tenant's list has one job more, all else stays, and the
+-- store is sound.
 use Rattle.sched_store.proofs.Common.{◌++◌, ◌∷◌, [], ◌∙◌, Live, parts_of}
 use Rattle.sched_store.proofs.Jobs.{jobs-found as job_list-jobs}
 use Rattle.sched_store.proofs.Lookups.{jobs-found, job_lists-rise}

@@ -1,3 +1,5 @@
+-- The core's store ends a job (`Store::end_job`): it is replaced in its tenant's list by how it ended, no frame goes,
+-- and the store is sound.
 use Rattle.sched_store.proofs.Common.{with_ended, parts_of}
 use Rattle.sched_store.proofs.Lookups.{job_lists-rise}
 use Rattle.sched_store.proofs.Steps.{JobsPut, there-account-in, has-job_list, jobs-put}

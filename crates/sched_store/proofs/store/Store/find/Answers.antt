@@ -1,4 +1,4 @@
--- The proof of `Store::find`: what the search leaves.
+-- The core's store looks a frame up (`Store::find`): its state and its parent are those of the tenant's tree.
 use Rattle.sched_store.proofs.Common.{sym, ◌∙◌}
 use Rattle.sched_store.proofs.Lookups.{frame-found, no-frame-found, tree-found}
 use Rattle.sched_store.proofs.Removing.{child-or-root}

@@ -1,3 +1,5 @@
+-- The core's store makes a frame longer (`Store::grow`): its words are followed by zeros, its tenant is charged the
+-- segments, which it had left, and nobody else is touched.
 use Rattle.sched_store.proofs.Common.{◌≤◌, ◌++◌, length, replicate, arith, ap, ◌∙◌, growth_charge, parts_of, shared_of, words_under}
 use Rattle.sched_store.proofs.Lookups.{there-has}
 use Rattle.sched_store.proofs.Steps.{book-left}

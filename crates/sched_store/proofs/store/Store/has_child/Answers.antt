@@ -1,4 +1,4 @@
--- The proof of `Store::has_child`: what the search leaves.
+-- The core's store tells whether a frame has a child (`Store::has_child`): as the tenant's tree says.
 use Rattle.sched_store.proofs.Removing.{child-shown}
 use Rattle.sched_store.proofs.store.Store.has_child.Goals as goal
 

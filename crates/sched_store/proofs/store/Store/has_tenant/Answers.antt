@@ -1,3 +1,4 @@
+-- The core's store tells whether a tenant is there (`Store::has_tenant`): exactly where its book has an account of it.
 use Rattle.sched_store.proofs.Common.{◌≡◌, Option, Some, None, is_some, option_map, refl, sym, ◌∙◌, left_in, account_of, Account, parts_of}
 use Rattle.sched_store.proofs.Lookups.{tenant-there, known-found, rising-found}
 use Rattle.sched_store.proofs.store.Store.has_tenant.Goals as goal

@@ -1,3 +1,5 @@
+-- A worker gets a frame in the core's store (`Store::hold`): the frame runs or computes by this worker, the worker's
+-- place names it, and the store is sound.
 use Rattle.sched_store.proofs.Common.{◌≡◌, length, Some, set, parts_of}
 use Rattle.sched_store.proofs.Lookups.{there-frame, there-has}
 use Rattle.sched_store.proofs.States.{StateSet, held-set}

@@ -1,4 +1,5 @@
--- The proof of `Store::is_beyond`: what the search leaves.
+-- The core's store tests a raised reservation (`Store::is_beyond`): by its book's totals, as the core's definition
+-- says.
 use Rattle.sched_store.proofs.Common.{arith, parts_of}
 use Rattle.sched_store.proofs.Lookups.{beyond-found}
 use Rattle.sched_store.proofs.store.Store.is_beyond.Goals as goal

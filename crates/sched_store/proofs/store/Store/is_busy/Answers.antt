@@ -1,3 +1,5 @@
+-- The core's store tells whether a worker is busy (`Store::is_busy`): a look at the frame that its place names decides
+-- it, as it can have no other.
 use Rattle.sched_store.proofs.Common.{◌∙◌, parts_of}
 use Rattle.sched_store.proofs.Lookups.{rising-found}
 use Rattle.sched_store.proofs.States.{busy-place, busy-nothing}

@@ -1,4 +1,5 @@
--- The proof of `Store::is_full`: what the search leaves.
+-- The core's store tests an admission (`Store::is_full`): by its book's totals and places, as the core's definition
+-- says.
 use Rattle.sched_store.proofs.Common.{arith, parts_of}
 use Rattle.sched_store.proofs.Lookups.{full-found}
 use Rattle.sched_store.proofs.store.Store.is_full.Goals as goal

@@ -1,4 +1,4 @@
--- The proof of `Store::is_held_by`: what the search leaves.
+-- The core's store tests whether a worker runs or computes a frame (`Store::is_held_by`): as the frame's state says.
 use Rattle.sched_store.proofs.Common.{arith, refl, sym, ◌∙◌}
 use Rattle.sched_store.proofs.Lookups.{found, nothing-found}
 use Rattle.sched_store.proofs.store.Store.is_held_by.Goals as goal

@@ -1,3 +1,5 @@
+-- The core's store finds a tenant's list of jobs (`Store::job_list`): it is that tenant's, and None is answered
+-- exactly where the tenant isn't there.
 use Rattle.sched_store.proofs.Jobs.{found-jobs, none-found}
 use Rattle.sched_store.proofs.Lookups.{jobs-found, job_lists-rise}
 use Rattle.sched_store.proofs.store.Store.job_list.Goals as goal

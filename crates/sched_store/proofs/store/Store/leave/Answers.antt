@@ -1,4 +1,4 @@
--- The proof of `Store::leave`: what the search leaves.
+-- A tenant leaves the core's store (`Store::leave`): everything of it goes, and nothing of any other tenant.
 use Rattle.sched_store.proofs.Common.{arith, refl, Account, parts_of}
 use Rattle.sched_store.proofs.Steps.{there-account-in, has-job_list}
 use Rattle.sched_store.proofs.Lookups.{job_lists-rise}

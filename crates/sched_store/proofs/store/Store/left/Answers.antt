@@ -1,3 +1,5 @@
+-- The core's store tells what a tenant has left (`Store::left`): what its book says is what is left of the tenant's
+-- reservation.
 use Rattle.sched_store.proofs.Common.{sym, ◌∙◌, parts_of}
 use Rattle.sched_store.proofs.Lookups.{left-found, left-free}
 use Rattle.sched_store.proofs.store.Store.left.Goals as goal

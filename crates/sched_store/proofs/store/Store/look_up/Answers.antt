@@ -1,4 +1,4 @@
--- The proof of `Store::look_up`: what the search leaves.
+-- The core's store looks a frame up with its words (`Store::look_up`): all that it tells is that frame's.
 use Rattle.sched_store.proofs.Common.{arith, parts_of}
 use Rattle.sched_store.proofs.Lookups.{found as entry-found, frame-found, no-frame-found, tree-found, rising-found, sight-found, entry-open}
 use Rattle.sched_store.proofs.Removing.{child-or-root}

@@ -1,4 +1,4 @@
--- The proof of `Store::new`: what the search leaves.
+-- A new store of a core (`Store::new`): it has no tenant, and keeps what a store keeps.
 use Rattle.sched_store.proofs.Common.{arith}
 use Rattle.sched_store.proofs.Admitting.{new-stored}
 use Rattle.sched_store.proofs.store.Store.new.Goals as goal

@@ -1,3 +1,5 @@
+-- The core's store tells the greatest number of all tenants so far (`Store::newest`), also of those that left: no tenant
+-- has a greater one, and the tenants stand by rising numbers.
 use Rattle.sched_store.proofs.Common.{parts_of}
 use Rattle.sched_store.proofs.Lookups.{known-found, rising-found}
 use Rattle.sched_store.proofs.store.Store.newest.Goals as goal

@@ -1,4 +1,5 @@
--- The proof of `Store::open`: what the search leaves.
+-- The core's store opens a frame (`Store::open`): the tenant's tree has it with its words, its account is charged, and
+-- nobody else is touched.
 use Rattle.sched_store.proofs.Common.{◌≤◌, refl, arith, charge, parts_of}
 use Rattle.sched_store.proofs.Steps.{book-left}
 use Rattle.sched_store.proofs.Words.{has-free}

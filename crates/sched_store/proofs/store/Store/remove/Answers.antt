@@ -1,4 +1,5 @@
--- The proof of `Store::remove`: what the search leaves.
+-- The core's store removes a frame without a child (`Store::remove`): it goes with its node, and what it was charged
+-- is free again.
 use Rattle.frame_table.proofs.TreeValues.{frames_without-map_values}
 use Rattle.sched_store.proofs.Common.{arith, without_frame, frames_without, parts_of, tree-without, sym, node_words}
 use Rattle.sched_store.proofs.Lookups.{there-has}

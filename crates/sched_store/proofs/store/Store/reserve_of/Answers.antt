@@ -1,3 +1,4 @@
+-- The core's store tells a tenant's reservation (`Store::reserve_of`): the one in the account is the tenant's.
 use Rattle.sched_store.proofs.Common.{◌≡◌, Option, Some, None, option_map, refl, ap, sym, ◌∙◌, account_of, Account, Tenant, parts_of, Parts, tenant_from}
 use Rattle.sched_store.proofs.Lookups.{tenant-found}
 use Rattle.sched_store.proofs.store.Store.reserve_of.Goals as goal

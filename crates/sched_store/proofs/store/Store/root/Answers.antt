@@ -1,4 +1,4 @@
--- The proof of `Store::root`: what the search leaves.
+-- The core's store tells a frame's root (`Store::root`): the first frame of its path.
 use Rattle.sched_store.proofs.Lookups.{there-has}
 use Rattle.sched_store.proofs.Removing.{path-shown}
 use Rattle.sched_store.proofs.store.Store.root.Goals as goal

@@ -1,4 +1,4 @@
--- The proof of `Store::sight`: what the search leaves.
+-- The core's store shows what a frame sees (`Store::sight`): its own words and those of the frames above it.
 use Rattle.sched_store.proofs.Lookups.{sight-found, entry-open, there-not-missing}
 use Rattle.sched_store.proofs.store.Store.sight.Goals as goal
 

@@ -1,4 +1,4 @@
--- The proof of `Store::words`: what the search leaves.
+-- The core's store shows a frame's words (`Store::words`): those of its own node.
 use Rattle.sched_store.proofs.Common.{arith, refl}
 use Rattle.sched_store.proofs.Lookups.{entry-open, found, nothing-found}
 use Rattle.sched_store.proofs.store.Store.words.Goals as goal

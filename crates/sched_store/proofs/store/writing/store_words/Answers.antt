@@ -1,4 +1,5 @@
--- The proof of `writing::store_words`: what the search leaves.
+-- The core's store writes words of a node (`writing::store_words`): each stands at its place, and no other node
+-- changes.
 use Rattle.std.proofs.lemmas.List.{set-set}
 use Rattle.sched_store.proofs.Common.{arith, drop_all}
 use Rattle.sched_store.proofs.Words.{first-store, outside-set, words-same, words-stay}

@@ -1,4 +1,4 @@
--- A `&` to the cells reaches what lies in each place.
+-- The owner of a region's memory (`Cells`): a `&` to it reaches what lies in each place.
 use Rattle.segment_region.proofs.Common.{[], ◌++◌, Incl-trans, meet_⊑_left, RattleType, RawPtr, Laws, copy_shared, field_copy, of_Lends}
 use Rattle.core.specs.contracts.marker.PhantomData as mark
 use Rattle.segment_region.specs.contracts.cells.Cells as cells

@@ -1,3 +1,4 @@
+-- The owner of a region's memory (`Cells`) may be sent to another thread where the values in it may.
 use Rattle.segment_region.proofs.Common.{RattleType, IsSend, the_row}
 use Rattle.segment_region.proofs.Threads.{cells-move}
 

@@ -1,4 +1,5 @@
--- `get` goes to a place by its byte, and shows what the `&` to the cells lends there.
+-- The owner of a region's memory (`Cells::get`): it goes to a place by its byte, and shows what the `&` to the cells
+-- lends there.
 use Rattle.segment_region.proofs.Common.{◌≡◌, refl, subst, ◌+◌, ◌*◌, ◌<◌, ◌^◌, List, [], ◌∷◌, ◌++◌, length, get_or, Ura, full_share, Fn, named, w64, inst_fn, Val, vptr, vint, SProp, ent, never, id⊢, ftrue, fat, flft, Memory, Routine, Calls, Loops, WpFn, Logic, ◌⊑◌, Fun, fact, Item, ⋆, ‵, raw, ◌⊛◌, at_ret, ◌$◌, ◌∵◌, !, qed, by, move, keep, drop, use1, split, join, rewrite, fsplit, fjoin, feq_i, feq_l, flt_l, suffices, frame, done, whole, sub, stop, fld, bin, size_lit, of_opd, addr, first, blocks, exec, returns, enter, alloc_all, pass_all, free_all, look_at, take_at, give_at, get, get_in, through, sets, sets_last, env, owns, hidden_shr, layout, Ptr, in_a_block, Bor, ShrRef, plain, types_at, RefOf, usize, yes, no, hide, unhide, nothing, heard, says, Stays, stay_dropped, walk_of, ends_at, Goes-dropped, None, Some, proved_at, El, R, args, el_x, times_below, one_below, after, word, word-Good, place_lent, places_lent}
 use mathlib.Core.Path.{sym, ◌∙◌}
 use native.Mathlib.Omega.{arith}

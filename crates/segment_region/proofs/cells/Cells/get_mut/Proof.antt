@@ -1,4 +1,4 @@
--- `get_mut` lends one place on, and the cells end with what is left in it.
+-- The owner of a region's memory (`Cells::get_mut`): it lends one place on, and the cells end with what is left in it.
 use Rattle.segment_region.proofs.Common.{◌≡◌, refl, subst, ℕ, ◌+◌, ◌*◌, ◌<◌, ◌^◌, List, [], ◌∷◌, ◌++◌, length, get_or, length-set, Ura, full_share, Fn, named, w64, inst_fn, Val, vptr, vint, SProp, ent, sep, never, id⊢, Fml, GName, ftrue, fsep, fat, flft, fobs, fbor, Memory, Routine, Calls, Loops, WpFn, Logic, sem, Body as Borrowed, ◌⊑◌, Fun, fact, Item, ⋆, ‵, raw, ◌⊛◌, some, later, await, pick, at_ret, ◌$◌, ◌∵◌, !, qed, by, move, keep, drop, use1, use2, split, join, group, rewrite, fsplit, fsplit3, fjoin, fjoin3, fpack, feq_l, flt_i, flt_l, suffices, frame, done, whole, sub, stop, fld, bin, size_lit, of_opd, addr, first, blocks, exec, returns, enter, alloc_all, pass_all, free_all, look_at, take_at, give_at, get, get_in, through, sets, sets_last, env, owns, mem, cell_at, part_of, layout, Ptr, block_ptr, in_a_block, MutBor, MutRef, plain, types_at, usize, yes, no, follows, Part, lends_Part, nothing, heard, opens, says, Stays, stay_dropped, walk_of, ends_at, Goes-dropped, Goes-spent_ref, None, Some, proved_at, El, R, args, el_x, times_below, one_below, after, word, word-Good, place_owned, row_owned, places_owned, with_place}
 use mathlib.Core.Path.{sym, ◌∙◌}
 use native.Mathlib.Omega.{arith}

@@ -1,4 +1,5 @@
--- `write` goes to a place by its byte, forgets what lies there, and makes it the value's.
+-- The owner of a region's memory (`Cells::write`): it goes to a place by its byte, forgets what lies there, and makes
+-- it the value's.
 use Rattle.segment_region.proofs.Common.{◌≡◌, refl, subst, ℕ, ◌+◌, ◌*◌, ◌<◌, ◌^◌, List, [], ◌∷◌, ◌++◌, length, get_or, length-set, Ura, full_share, Fn, w64, inst_fn, Val, vptr, vint, vunit, SProp, ent, never, id⊢, ftrue, fat, flft, fobs, fbor, froom, Memory, Routine, Calls, Loops, WpFn, Logic, Body as Borrowed, ◌⊑◌, Fun, fact, Item, ⋆, ‵, raw, ◌⊛◌, at_ret, ◌$◌, ◌∵◌, !, qed, by, move, keep, drop, use1, use2, split, join, rewrite, fsplit, fsplit3, fjoin, fjoin3, feq_i, feq_l, flt_i, flt_l, suffices, frame, done, whole, sub, init, stop, fld, bin, size_lit, unit_lit, of_opd, assigns_last, first, blocks, exec, returns, enter, alloc_all, pass_all, free_all, look_at, take_at, give_at, get, get_in, through, sets, env, owns, mem, layout, Ptr, in_a_block, MutBor, plain, types_at, usize, yes, no, nothing, heard, opens, closes, says, Stays, stay_dropped, stay_ref, walk_of, ends_at, Goes-dropped, Goes-ref, part_in, None, Some, proved_at, El, R, args, elτ, times_below, one_below, after, Good, word, word-Good, place_owned, row_owned, places_owned}
 use mathlib.Core.Path.{sym, ◌∙◌}
 use native.Mathlib.Omega.{arith}

@@ -1,4 +1,4 @@
--- A `&` to a title holds nothing.
+-- The right to give a region's memory back (`Title`): a `&` to it holds nothing.
 use Rattle.segment_region.proofs.Common.{RattleType, RawPtr, Laws, copy_shared, nothing_shr_laws, field_copy, of_Lends, Lends-nothing, Ghosts}
 use Rattle.core.specs.contracts.marker.PhantomData as mark
 use Rattle.segment_region.specs.contracts.cells.Title as title

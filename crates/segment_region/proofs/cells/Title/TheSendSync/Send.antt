@@ -1,3 +1,4 @@
+-- The right to give a region's memory back (`Title`) may be sent to another thread where its allocator may.
 use Rattle.segment_region.proofs.Common.{RattleType, IsSend, Frees, Ghosts}
 use Rattle.segment_region.proofs.Threads.{title-moves}
 use Rattle.segment_region.specs.contracts.cells.Title.{the_row}

@@ -1,3 +1,4 @@
+-- A region tells its free segments (`Region::free_count`): all but those that are taken.
 use Rattle.segment_region.proofs.Common.{arith}
 use Rattle.segment_region.proofs.Entries.{length-segments_of_blocks}
 use Rattle.segment_region.proofs.region.Region.free_count.Goals as goal

@@ -1,3 +1,5 @@
+-- A region gets a segment back (`Region::give`): it is free then, at the head of the chain of free ones or above the
+-- mark, and all others are as before.
 use Rattle.segment_region.proofs.Common.{sym, arith, refl}
 use Rattle.segment_region.proofs.Entries.{filled-at}
 use Rattle.segment_region.proofs.Whole.{whole-give, whole-less, entries-free, entries-less}

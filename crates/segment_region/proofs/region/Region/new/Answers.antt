@@ -1,3 +1,4 @@
+-- A new region (`Region::new`): all its segments are free.
 use Rattle.segment_region.proofs.Whole.{first-whole, first-entries}
 use Rattle.segment_region.proofs.region.Region.new.Goals as goal
 

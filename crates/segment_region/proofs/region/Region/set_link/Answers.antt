@@ -1,3 +1,4 @@
+-- A region chains a taken segment to another (`Region::set_link`): that link alone changes.
 use Rattle.segment_region.proofs.Common.{sym}
 use Rattle.segment_region.proofs.Entries.{filled-at}
 use Rattle.segment_region.proofs.Whole.{whole-write, entries-link}

@@ -1,3 +1,5 @@
+-- A region takes a segment (`Region::take`): one that was free, with sixteen zeros and no link, or None exactly where
+-- none is free.
 use Rattle.segment_region.proofs.Common.{sym, ap, ◌∙◌, arith, place_link, None, refl}
 use Rattle.segment_region.proofs.Whole.{whole-take, whole-mark, listed-head, head-is_free, mark-is_free, entries-write, entries-mark, none-free, some-free}
 use Rattle.segment_region.proofs.region.Region.take.Goals as goal

@@ -1,3 +1,5 @@
+-- A region lends the words of a taken segment (`Region::words_mut`): whatever is written there, no link and no other
+-- segment changes.
 use Rattle.segment_region.proofs.Common.{sym, ◌∙◌, arith, refl}
 use Rattle.segment_region.proofs.Entries.{taken-block, words_at-place}
 use Rattle.segment_region.proofs.Whole.{whole-words, entries-words}

@@ -1,3 +1,4 @@
+-- A read of a region (`RegionView::link`): the segment that a taken one is chained to.
 use Rattle.segment_region.proofs.Common.{sym, ◌∙◌}
 use Rattle.segment_region.proofs.Entries.{filled-at, link-is}
 use Rattle.segment_region.proofs.view.RegionView.link.Goals as goal

@@ -1,3 +1,4 @@
+-- A read of a region (`RegionView::words`): the sixteen words of a taken segment.
 use Rattle.segment_region.proofs.Common.{sym, arith}
 use Rattle.segment_region.proofs.Entries.{taken-block, words_at-place}
 use Rattle.segment_region.proofs.view.RegionView.words.Goals as goal

@@ -1,4 +1,4 @@
-//! What a hall asks of its allocator: nothing but at an admission, and there what is to be had.
+//! Tests of what a hall asks of its allocator: nothing but at an admission, and there what is to be had.
 use super::*;
 use othello_eval::Valued;
 use promises::{entry_in, value_in};
@@ -48,8 +48,8 @@ fn have_ended<A: Allocator>(rt: &impl Abort, hall: &Hall<A>) {
     has_segments(rt, hall, 2, 16);
 }
 
-/// The allocator is called at the admissions of a tenant with few nodes and of one with enough, and not at what comes
-/// after them: both ask for the opening to depth 2, and each job is driven to its end.
+/// The allocator is called at the admissions of two tenants, one with few nodes and one with enough, and not after
+/// them: both ask for the opening to depth 2, and each job is driven to its end.
 fn takes_no_more<A: Allocator + Clone>(rt: &impl Abort, alloc: A, counted: &CountedAlloc<Global>) {
     let hall = made(alloc, config_of(rt, 24, 96), 0);
     let mut hall = hall.expect(rt, "there is room");
@@ -66,7 +66,7 @@ fn takes_no_more<A: Allocator + Clone>(rt: &impl Abort, alloc: A, counted: &Coun
     holds(rt, counted.calls() == admitted);
 }
 
-/// Between the admissions and a Leave no step calls the allocator.
+/// Between the admissions to a hall and a Leave no step calls the allocator.
 #[test]
 fn no_step_but_an_admission_takes_memory(rt: HostRuntime) {
     let counted = CountedAlloc::new(rt.alloc());
@@ -101,7 +101,7 @@ fn is_used<A: Allocator + Clone>(rt: &impl Abort, alloc: A, segments: u32, nodes
     }
 }
 
-/// Where there is room no growth is refused: halls of all sizes are made, and tenants of all sizes
+/// Where there is room no memory is refused: halls of all sizes are made, and tenants of all sizes
 /// admitted.
 #[test]
 fn halls_and_tenants_of_all_sizes(rt: HostRuntime) {

@@ -1,4 +1,4 @@
-//! Jobs that are driven step by step: what a worker does next for one tenant.
+//! For tests of a hall: jobs that are driven step by step, and what a worker does next for one tenant.
 ghost use Rattle.jamboree_core.specs.Replies.{IsSearch};
 
 use super::*;

@@ -1,4 +1,4 @@
-//! The answer to TABLE: one call, however long it is.
+//! A test of a session's answer to TABLE: one call, however long it is.
 use super::{Prepared, holds, joined, session};
 use line_io::{FromReader, Sink, WriteFailed};
 use othello_eval::{Bound, BoundKind, Valued};
@@ -17,6 +17,7 @@ struct Last {
 impl Sink for Last {
     ghost takes = { λ _ _ _. Unit {0} };
 
+    /// Keeps the last answer, and counts the calls.
     fn put(&mut self, bytes: &[u8]) -> Result<usize, WriteFailed> {
         self.calls = self.calls.saturating_add(1);
         self.answer.clear();
@@ -47,7 +48,7 @@ fn longest() -> Standing {
     Standing::Done(Analysis { best, bounds })
 }
 
-/// The answer to TABLE for it, as the job of the greatest number that a line can name.
+/// The answer to the line TABLE for the job with the longest table, with the greatest job number that a line can name.
 fn longest_text(alloc: Global) -> Result<Vec<u8>, AllocError> {
     let entries = joined(alloc, [b" pass<-2147483648".as_slice(); 64].as_slice())?;
     let title = b"TABLE 99999999".as_slice();
@@ -55,7 +56,7 @@ fn longest_text(alloc: Global) -> Result<Vec<u8>, AllocError> {
     joined(alloc, texts.as_slice())
 }
 
-/// Whether it is written so, by one call beside that of HELLO.
+/// Whether the answer to TABLE is this text, written by one call beside that of HELLO.
 fn is_written_at_once<R: Wait>(rt: &R, alloc: Global, due: &[u8]) -> bool {
     let mut office = Prepared::new(longest());
     office.jobs = 99_999_999;
@@ -69,6 +70,7 @@ fn is_written_at_once<R: Wait>(rt: &R, alloc: Global, due: &[u8]) -> bool {
     matches!(result, Ok(End::EndOfInput)) && sink.calls == 2 && sink.answer.as_slice() == due
 }
 
+/// The longest TABLE line, of 1,103 bytes, is written by one call.
 #[test]
 fn the_longest_table_is_written_by_one_call(rt: HostRuntime) {
     let due = longest_text(rt.alloc()).expect(&rt, "there is memory");

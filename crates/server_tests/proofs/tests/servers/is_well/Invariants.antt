@@ -1,3 +1,4 @@
+-- A test of a server (`servers::is_well`): the names that the clauses use for its new desk, ledger, history and hall.
 use Rattle.server_tests.proofs.tests.servers.is_well.Given as goal
 
 abbrev pub ghosts-is_well_at-L-Ledger : goal.ghosts-is_well_at-L-Ledger

@@ -1,3 +1,5 @@
+-- A test at a site's desk (`trials::try_all`): the names that the desks' clauses use for their histories, halls and
+-- plans.
 use Rattle.site_desk.specs.Stocks.{desk_names}
 use Rattle.server_tests.proofs.tests.trials.try_all.Given as goal
 

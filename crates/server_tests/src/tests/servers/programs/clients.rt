@@ -1,4 +1,4 @@
-//! Servers of the program, and callers that come once they are told where a server listens.
+//! Tests of servers of the program `othello`, and of callers that come once they are told where a server listens.
 use super::grains::is_served;
 use super::served::has_many_sessions;
 use super::{followed, typed, written};
@@ -39,7 +39,8 @@ struct Told<'r, R: Threads> {
 }
 
 impl<R: Net<Stream = TcpStream> + Host + Files> Told<'_, R> {
-    /// A line of the server.
+    /// Reads a line that the server says. At the one that tells where it listens, the callers come; any other says that
+    /// the server has ended.
     fn hear(&mut self, line: &[u8]) {
         let Some(address) = address_in(line) else {
             self.is_over.store(true, Ordering::SeqCst);
@@ -64,6 +65,7 @@ impl<R: Net<Stream = TcpStream> + Host + Files> Told<'_, R> {
 impl<R: Net<Stream = TcpStream> + Host + Files> Sink for Told<'_, R> {
     ghost takes = { λ _ _ _. Unit {0} };
 
+    /// Hears what the server says, and keeps it.
     fn put(&mut self, bytes: &[u8]) -> Result<usize, WriteFailed> {
         self.hear(bytes);
         match self.text.extend_from_slice(bytes) {
@@ -74,6 +76,7 @@ impl<R: Net<Stream = TcpStream> + Host + Files> Sink for Told<'_, R> {
 }
 
 impl<R: Net<Stream = TcpStream> + Host + Files> ProgramOutput for Told<'_, R> {
+    /// Says that somebody still reads the output.
     fn is_closed(&self) -> bool {
         false
     }
@@ -158,6 +161,7 @@ const WORDS: [&str; 10] = [
     "1",
 ];
 
+/// A server for 2 sessions says where it listens, serves two callers, and says that it has ended after 2.
 #[test]
 fn a_server_says_where_it_listens_and_serves_as_asked(rt: HostRuntime) {
     let is_content = is_called(&rt, WORDS.as_slice(), Caller::Two, b"\nended 2\n");
@@ -173,6 +177,7 @@ where
     written(rt, words.as_slice(), typed(b"", false))
 }
 
+/// A port that is taken is told on the errors, with exit status 1.
 #[test]
 fn a_port_that_is_taken_is_told(rt: HostRuntime) -> Result<(), Fail> {
     let taken = TcpListener::bind(&rt, "127.0.0.1:0")?;

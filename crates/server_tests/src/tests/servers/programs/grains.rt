@@ -1,4 +1,4 @@
-//! A server has the grain that it is asked for: jobs for which its nodes suffice at one grain alone.
+//! Tests of the grain that a server is asked for: jobs for which its nodes suffice at one grain alone.
 use super::clients::{Caller, is_called};
 use crate::tests::Host;
 use crate::tests::servers::{ASK_3, ASK_7, LAST, are_told};
@@ -60,7 +60,8 @@ where
     is_called(rt, words.as_slice(), asker, b"\nended 1\n")
 }
 
-/// Eight nodes suffice for depth 3 from grain 2 on, and for depth 7 at grain 6, but not at the lower grains that are tried.
+/// Of a server's jobs with eight nodes: they suffice for depth 3 from grain 2 on, and for depth 7 at grain 6, but not
+/// at the lower grains that are tried.
 #[test]
 fn a_server_has_the_grain_that_is_asked(rt: HostRuntime) {
     for case in &CASES {

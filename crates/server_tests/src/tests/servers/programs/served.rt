@@ -1,4 +1,4 @@
-//! A server as its system and those who come to it see it.
+//! For tests of the program: a server as its system and those who come to it see it.
 use super::clients::{Caller, is_called};
 use crate::tests::servers::{LAST, is_answered, is_closed};
 use crate::tests::{Host, holds};
@@ -10,7 +10,7 @@ use std::string::String;
 /// How many sessions there are, one after another.
 const SESSIONS: u32 = 1_000;
 
-/// Whether a line says that there are so many threads.
+/// Whether a line of what the system says of a process tells this count of threads.
 fn tells_threads(line: &str, count: &str) -> bool {
     match line.strip_prefix("Threads:") {
         Some(told) => told.trim() == count,
@@ -18,7 +18,7 @@ fn tells_threads(line: &str, count: &str) -> bool {
     }
 }
 
-/// Whether any line of a text says so.
+/// Whether any line of what the system says of a process tells this count of threads.
 fn has_line_of_threads(text: &str, count: &str) -> bool {
     for line in text.lines() {
         if tells_threads(line, count) {
@@ -48,7 +48,7 @@ pub(super) fn has_many_sessions<R: Net<Stream = TcpStream> + Host + Files>(
     is_so
 }
 
-/// The same port of another address of this machine; None where this one isn't at 127.0.0.1.
+/// The same port at another address of this machine; None where this address isn't at 127.0.0.1.
 fn other_of(alloc: Global, address: &str) -> Option<String> {
     let port = address.strip_prefix("127.0.0.1:")?;
     format!(in alloc; "127.0.0.2:{port}").ok()

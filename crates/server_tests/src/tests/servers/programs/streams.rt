@@ -1,4 +1,4 @@
-//! Streams that fail by each error that a process can meet, and terminals.
+//! For tests of the program: streams that fail by each error that a process can meet, and terminals.
 use super::{Broken, LINE, Words, followed, input, memory, status_of, typed, written};
 use crate::tests::servers::looked_at::{Nameless, no_address};
 use crate::tests::{Host, holds, says, spell};
@@ -66,8 +66,8 @@ where
     found == status && spell(&errors, said)
 }
 
-/// Only a reader that closed the output leaves nothing to say; each other error of an output is told, once, and so is a
-/// failed read before it.
+/// Of `othello` with a failing output: only a reader that closed it leaves nothing to say; each other error of an
+/// output is told, once, and so is a failed read before it.
 #[test]
 fn each_error_of_an_output(rt: HostRuntime) {
     for failing in &FAILING {
@@ -88,6 +88,7 @@ where
     status_of(rt, rt.alloc(), &["othello", "solved"], &mut streams)
 }
 
+/// Words that are refused, where the errors can't be written, still give exit status 2.
 #[test]
 fn refused_words_that_cannot_be_explained(rt: HostRuntime) {
     holds(&rt, refused_in_silence(&rt) == 2);
@@ -113,7 +114,7 @@ where
     found == status && spell(&errors, said) && answers.is_empty() == failure.is_some()
 }
 
-/// At a terminal a hint comes first; a failed read is told, and isn't the end.
+/// Of `othello` with each kind of input: at a terminal a hint comes first; a failed read is told, and isn't the end.
 #[test]
 fn each_input(rt: HostRuntime) {
     for reading in &READINGS {
@@ -121,7 +122,7 @@ fn each_input(rt: HostRuntime) {
     }
 }
 
-/// What each fault of a server says.
+/// For each fault of a server: what the program says of it.
 #[test]
 fn faults_of_the_program_are_told(rt: HostRuntime) {
     let alloc = rt.alloc();
@@ -155,7 +156,8 @@ where
     (status, sink.writer, errors)
 }
 
-/// It is told why, and not that anything couldn't be written.
+/// Where a listener tells no address, the program says why on the errors, and not that anything couldn't be written;
+/// exit status 1.
 #[test]
 fn an_address_that_cannot_be_had_is_told(rt: HostRuntime) {
     let (status, answers, errors) = unnamed(&rt);

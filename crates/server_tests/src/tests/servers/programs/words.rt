@@ -1,4 +1,4 @@
-//! Words of the command line: how they are read, and what is said of those that are refused.
+//! For tests of the program: words of the command line, how they are read, and what is said of those that are refused.
 use super::{Words, memory};
 use crate::tests::{holds, spell};
 use commands::command_line::{Options, WordsFault};
@@ -12,11 +12,12 @@ fn read(alloc: Global, words: &[&str]) -> Result<Options, WordsFault> {
     Options::read(alloc, words)
 }
 
-/// Whether words ask for this.
+/// Whether these words of a command line ask for these options.
 fn ask_for(alloc: Global, words: &[&str], wanted: Options) -> bool {
     matches!(read(alloc, words), Ok(options) if options == wanted)
 }
 
+/// The words of `solve` and `serve` are read as the options that they give.
 #[test]
 fn words_are_read(rt: HostRuntime) {
     let solve = Options::Solve {
@@ -92,12 +93,12 @@ fn text_of(alloc: Global, fault: WordsFault) -> Option<String> {
     }
 }
 
-/// Whether a text begins so, and has this in it.
+/// Whether the text of a refusal begins so, and has this line of usage in it.
 fn tells(text: &str, beginning: &str, usage: &str) -> bool {
     text.starts_with(beginning) && text.contains(usage)
 }
 
-/// Whether words are refused with this status and this text.
+/// Whether this command line is refused with this exit status and this text.
 fn are_refused(alloc: Global, refused: &Refused) -> bool {
     let (words, status, beginning, usage) = *refused;
     let Err(fault) = read(alloc, words) else {
@@ -110,6 +111,7 @@ fn are_refused(alloc: Global, refused: &Refused) -> bool {
     }
 }
 
+/// For each command line that is refused: the exit status, and the text that is told.
 #[test]
 fn refusals_are_told(rt: HostRuntime) {
     for refused in &REFUSED {
@@ -117,7 +119,8 @@ fn refusals_are_told(rt: HostRuntime) {
     }
 }
 
-/// Whether words that can't be had for this reason have this status, and this is said.
+/// Whether the program ends with this exit status, and says this, where the words of its command line can't be had for
+/// this reason.
 fn are_lost(alloc: Global, kind: ErrorKind, status: u8, said: &str) -> bool {
     let mut errors = memory(alloc);
     match words_of(alloc, Err(Error::from(kind)), &mut errors) {
@@ -126,6 +129,7 @@ fn are_lost(alloc: Global, kind: ErrorKind, status: u8, said: &str) -> bool {
     }
 }
 
+/// A word that is no text in UTF-8 is told with status 2, and missing memory with status 1.
 #[test]
 fn words_that_are_no_text_are_refused(rt: HostRuntime) {
     let alloc = rt.alloc();

@@ -1,3 +1,4 @@
+-- The entries of a TABLE line (`Bounds::push`): one more than fewer than 64 is still within the list.
 use Rattle.session.proofs.Common.{◌<◌, length, subst, sym}
 use Rattle.session.proofs.PlaceLemmas.{one_more-held}
 use Rattle.session.proofs.bounds.Bounds.push.Goals as goal

@@ -1,3 +1,5 @@
+-- A site's book of customers closes a session (`CustomerBook::close`): without that grant all are still within their
+-- budgets.
 use Rattle.site_book.proofs.Common.{length, ap, sym, subst, arith, IsKept}
 use Rattle.site_book.proofs.GrantLemmas.{length-without}
 use Rattle.site_book.proofs.Keepings.{kept-close}

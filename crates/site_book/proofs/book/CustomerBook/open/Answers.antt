@@ -1,3 +1,5 @@
+-- A site's book of customers opens a session (`CustomerBook::open`): with that grant all are still within their
+-- budgets, and the list has room for it.
 use Rattle.site_book.proofs.Common.{length, ap, sym, subst, arith, length_push, IsKept}
 use Rattle.site_book.proofs.BookLemmas.{opened, pushed-is}
 use Rattle.site_book.proofs.Keepings.{kept-few}

@@ -1,3 +1,5 @@
+-- A site's book of customers raises a session (`CustomerBook::raise`): with the larger grant all are still within
+-- their budgets.
 use Rattle.site_book.proofs.Common.{length, ap, sym, subst, arith, IsKept}
 use Rattle.site_book.proofs.BookLemmas.{raised, length-with-ask}
 use Rattle.site_book.proofs.book.CustomerBook.raise.Goals as goal

@@ -1,3 +1,4 @@
+-- A site's book of customers changes its plan (`CustomerBook::replan`): all grants are within the new plan's budgets.
 use Rattle.site_book.proofs.Common.{sym, subst, IsKept}
 use Rattle.site_book.proofs.BookLemmas.{replanned}
 use Rattle.site_book.proofs.book.CustomerBook.replan.Goals as goal

@@ -1,3 +1,5 @@
+-- A site's book of customers tests an opening (`CustomerBook::why_not_open`): where it finds no refusal, the hall has
+-- room, and fewer than 64 sessions are there.
 use Rattle.site_book.proofs.Common.{rules}
 use Rattle.site_book.proofs.BookLemmas.{opens-room, few-seats}
 use Rattle.site_book.proofs.book.CustomerBook.why_not_open.Goals as goal

@@ -1,3 +1,5 @@
+-- A site's book of customers tests a raise (`CustomerBook::why_not_raise`): where it finds no refusal, the hall has
+-- room.
 use Rattle.site_book.proofs.Common.{rules}
 use Rattle.site_book.proofs.BookLemmas.{raises-room}
 use Rattle.site_book.proofs.book.CustomerBook.why_not_raise.Goals as goal

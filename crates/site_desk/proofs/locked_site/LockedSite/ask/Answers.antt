@@ -1,3 +1,5 @@
+-- A session asks under the lock of a site's desk (`LockedSite::ask`): what lies there stays sound, with the hall, the
+-- book and the list of sessions in step.
 use Rattle.site_desk.proofs.Common.{refl, ◌∙◌}
 use Rattle.site_desk.proofs.Keepings.{booked-ask}
 use Rattle.site_desk.proofs.locked_site.LockedSite.ask.Goals as goal

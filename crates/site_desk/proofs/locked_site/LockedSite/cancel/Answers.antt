@@ -1,3 +1,5 @@
+-- A session cancels under the lock of a site's desk (`LockedSite::cancel`): what lies there stays sound, with the
+-- hall, the book and the list of sessions in step.
 use Rattle.site_desk.proofs.Common.{refl, ◌∙◌}
 use Rattle.site_desk.proofs.Keepings.{booked-cancel}
 use Rattle.site_desk.proofs.locked_site.LockedSite.cancel.Goals as goal

@@ -1,3 +1,5 @@
+-- Two sessions of a site's desk look at its history (`LockedSite::compare`): each step of it was taken, and each event
+-- that they see of the book was granted.
 use Rattle.site_desk.proofs.Common.{ap, sym, ◌∙◌, subst, BookEvent, IsGrantedFrom, Known}
 use Rattle.site_desk.proofs.Granting.{looked}
 use Rattle.site_desk.proofs.locked_site.LockedSite.compare.Goals as goal

@@ -1,3 +1,4 @@
+-- A site's desk goes on by another plan (`LockedSite::go_by`): the hall stays, and hall and book are still in step.
 use Rattle.site_desk.proofs.Common.{◌≡◌, ◌++◌, ◌∷◌, [], ℕ, List, None, refl, rules, ap, sym, ◌∙◌, subst, taken, Replans, AreHeld, BookEvent, BookOf, IsBookBy, IsBooked, IsFirstOf, IsListed, IsReplannedBy, Known, PlanOf, SiteOf}
 use Rattle.site_book.specs.Books.{why_not_replan}
 use Rattle.site_desk.proofs.Granting.{one-more}

@@ -1,3 +1,5 @@
+-- A session leaves under the lock of a site's desk (`LockedSite::leave`): its tenant leaves the hall and its grant the
+-- book, or neither, and both histories then end with that.
 use Rattle.site_desk.proofs.Common.{◌≡◌, ◌+◌, ◌++◌, ◌∷◌, [], ℕ, List, Some, true, refl, AreHeld, BookEvent, BookOf, Grant, Who, is_open_by, Closes, IsBookBy, IsGrantedFrom, Known, sym, ap, ◌∙◌, subst, IsSome, Leave, Left, TookInHall, IsListed, grant_of, SiteOf, SiteSeatOf, IsSessionGone, IsTrueTo, Took, without_present}
 use Rattle.site_desk.specs.Sharing.{unshared}
 use Rattle.std.specs.Prelude.{◌%◌}

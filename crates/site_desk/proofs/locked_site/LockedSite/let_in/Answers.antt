@@ -1,3 +1,5 @@
+-- A session is let in under the lock of a site's desk (`LockedSite::let_in`): its tenant is in the hall and its grant
+-- in the book, or neither.
 use Rattle.site_desk.proofs.Common.{◌≡◌, ◌+◌, ◌≤◌, ◌++◌, ◌∷◌, [], ℕ, true, List, length, rules, is_open_by, refl, sym, ◌∙◌, subst, Some, ap, why_over, Admit, AreHeld, BookEvent, IsBookBy, IsOpened, Known, Opens, TookInHall, IsCame, IsListed, IsTurnedAway, SiteOf, turned_by}
 use Rattle.site_desk.proofs.Granting.{one-more}
 use Rattle.site_desk.proofs.Holding.{held-open, open-first}

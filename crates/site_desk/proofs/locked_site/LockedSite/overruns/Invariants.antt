@@ -1,3 +1,5 @@
+-- A site's desk tells by how much each grant exceeds a plan (`LockedSite::overruns`): at each turn, the amounts listed
+-- so far and those of the grants left make the whole list.
 use Rattle.site_desk.proofs.Common.{◌≡◌, ◌+◌, ◌≤◌, ◌++◌, length, overruns_of}
 use Rattle.site_desk.proofs.locked_site.LockedSite.overruns.Given as goal
 

@@ -1,3 +1,5 @@
+-- A session reserves more under the lock of a site's desk (`LockedSite::raise`): in the hall and in the book, or in
+-- neither, as both histories say.
 use Rattle.site_desk.proofs.Common.{◌≡◌, ◌++◌, ◌∷◌, [], ℕ, List, true, rules, BookEvent, Known, is_open_by, Ok, Err, ap, Took, Raises, sym, ◌∙◌, subst, AdmitMore, AreHeld, IsBookBy, TookInHall, BookedOf, IsDecided, IsRaise, IsRaiseTold, SiteOf, SiteSeatOf, turned_by}
 use Rattle.desk.specs.Seats.{SeatOf}
 use Rattle.site_desk.proofs.Keepings.{MayRaise, may-raise, booked-raise, not-raised, not-raised-told}

@@ -1,3 +1,4 @@
+-- Answers for LockedSite::replan: a plan that comes in is the book history's last event, and one that doesn't is refused at its end.
 use Rattle.site_desk.proofs.Common.{sym, ◌∙◌, refl, subst, IsNotReplanned, SiteOf}
 use Rattle.site_desk.proofs.Granting.{not_replanned}
 use Rattle.site_desk.proofs.locked_site.LockedSite.replan.Goals as goal

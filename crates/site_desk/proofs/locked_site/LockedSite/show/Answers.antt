@@ -1,3 +1,5 @@
+-- A session looks at the history of a site's desk (`LockedSite::show`): the hall is where the history that it sees
+-- leads to.
 use Rattle.site_desk.proofs.Common.{◌≡◌, ◌<◌, sym, ap, ◌∙◌, subst, SiteOf, SiteSeatOf}
 use Rattle.site_desk.proofs.locked_site.LockedSite.show.Goals as goal
 

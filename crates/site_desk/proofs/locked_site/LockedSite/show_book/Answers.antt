@@ -1,3 +1,5 @@
+-- A session looks at what the book of a site's desk granted (`LockedSite::show_book`): the book is where the events
+-- that it sees lead to.
 use Rattle.site_desk.proofs.Common.{◌≡◌, ap, sym, subst, BookEvent, Known, book_at}
 use Rattle.site_desk.proofs.Granting.{looked}
 use Rattle.site_desk.proofs.locked_site.LockedSite.show_book.Goals as goal

@@ -1,3 +1,5 @@
+-- The pool takes a task from a site's desk (`next_task` of `LockedSite`): the frame that was picked by shares; or,
+-- where none was, any ready one.
 use Rattle.site_desk.proofs.Common.{rules, IsNextReady}
 use Rattle.site_desk.proofs.Tasks.{next_by}
 use Rattle.site_desk.proofs.locked_site.LockedSiteUnderLock.next_task.Goals as goal

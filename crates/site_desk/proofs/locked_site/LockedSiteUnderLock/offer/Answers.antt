@@ -1,3 +1,4 @@
+-- A worker offers a step under the lock of a site's desk (`offer` of `LockedSite`): what lies there stays sound.
 use Rattle.site_desk.proofs.Common.{◌∙◌}
 use Rattle.site_desk.proofs.HallSteps.{worker-within}
 use Rattle.site_desk.proofs.Keepings.{booked-step}

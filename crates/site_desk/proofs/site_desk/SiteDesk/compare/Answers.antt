@@ -1,3 +1,5 @@
+-- Two sessions that left a site's desk are compared (`SiteDesk::compare`): each step of the one history that both see
+-- was taken.
 use Rattle.site_desk.proofs.Common.{◌≡◌, subst, jamboree, AreTaken, steps_of}
 use Rattle.site_desk.proofs.site_desk.SiteDesk.compare.Goals as goal
 

@@ -1,3 +1,4 @@
+-- A session asks a site's desk how a job stands (`SiteDesk::get`): what it is told is of the desk that its seat is of.
 use Rattle.site_desk.proofs.Common.{◌≡◌, subst, IsShownAt}
 use Rattle.site_desk.proofs.site_desk.SiteDesk.get.Goals as goal
 

@@ -1,3 +1,5 @@
+-- A session asks a site's desk how many frames it has (`SiteDesk::live`): what it is told is of the desk that its seat
+-- is of.
 use Rattle.site_desk.proofs.Common.{◌≡◌, ℕ, refl, ◌∙◌, subst, CoreState, core_at, live_of, found_or_no_tenant}
 use Rattle.site_desk.proofs.site_desk.SiteDesk.live.Goals as goal
 

@@ -1,3 +1,5 @@
+-- A session asks a site's desk what it has left (`SiteDesk::quota`): what it is told is of the desk that its seat is
+-- of.
 use Rattle.site_desk.proofs.Common.{◌≡◌, ℕ, refl, ◌∙◌, subst, CoreState, core_at, left_in_core, found_or_no_tenant}
 use Rattle.site_desk.proofs.site_desk.SiteDesk.quota.Goals as goal
 

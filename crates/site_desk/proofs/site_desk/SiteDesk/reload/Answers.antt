@@ -1,3 +1,4 @@
+-- Answers for SiteDesk::reload: what the method under the lock says of this desk's book.
 use Rattle.std.specs.Prelude.{IfErr, IfOk}
 use Rattle.site_desk.proofs.Common.{◌≡◌, subst, IsNotReplanned, IsReplannedBy}
 use Rattle.site_desk.proofs.site_desk.SiteDesk.reload.Goals as goal

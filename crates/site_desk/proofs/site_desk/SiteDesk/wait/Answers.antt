@@ -1,3 +1,4 @@
+-- A session waits at a site's desk for a job (`SiteDesk::wait`): what it is told is of the desk that its seat is of.
 use Rattle.site_desk.proofs.Common.{◌≡◌, subst, IsShownAt}
 use Rattle.site_desk.proofs.site_desk.SiteDesk.wait.Goals as goal
 

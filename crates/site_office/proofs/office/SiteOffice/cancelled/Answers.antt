@@ -1,3 +1,4 @@
+-- A site's session cancels a job (`SiteOffice::cancelled`): what it is told is what its desk's history says.
 use Rattle.site_office.proofs.Common.{refl, ap, SiteSeatOf, Cancel, Ended, reply_of, at_site, cancel-turn, office_of}
 use Rattle.site_office.proofs.TurnLemmas.{placed, seat-was, stayed, stays-of}
 use Rattle.site_office.proofs.office.SiteOffice.cancelled.Goals as goal

@@ -1,3 +1,5 @@
+-- A site's session waits for a seat (`SiteOffice::come`): at each turn of the wait, customer, desk and seat are as
+-- before.
 use Rattle.site_office.proofs.Common.{◌≡◌}
 use Rattle.site_office.proofs.office.SiteOffice.come.Given as goal
 

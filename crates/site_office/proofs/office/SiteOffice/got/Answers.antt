@@ -1,3 +1,4 @@
+-- A site's session asks how a job stands (`SiteOffice::got`): what it is told is what its desk's history says.
 use Rattle.site_office.proofs.Common.{refl, Get, Told, reply_of, at_site, get-turn, office_of}
 use Rattle.site_office.proofs.TurnLemmas.{placed, seat-was, stayed, stays-of}
 use Rattle.site_office.proofs.office.SiteOffice.got.Goals as goal

@@ -1,3 +1,4 @@
+-- A site's session waits for a job (`SiteOffice::waited`): what it is told is what its desk's history says.
 use Rattle.site_office.proofs.Common.{refl, Wait, Told, reply_of, at_site, wait-turn, office_of}
 use Rattle.site_office.proofs.TurnLemmas.{placed, seat-was, stayed, stays-of}
 use Rattle.site_office.proofs.office.SiteOffice.waited.Goals as goal

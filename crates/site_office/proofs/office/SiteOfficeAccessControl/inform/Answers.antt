@@ -1,3 +1,5 @@
+-- A site's session is told its budget (`inform` of `SiteOffice`): its customer, its desk and its seat stay, but for
+-- what the seat knows of what the book granted.
 use Rattle.site_office.proofs.Common.{subst, ◌∙◌, IsSameSeat}
 use Rattle.site_office.proofs.office.SiteOfficeAccessControl.inform.Goals as goal
 

@@ -1,3 +1,5 @@
+-- A site's session asks for a search (`ask` of `SiteOffice`): the call is one turn of it at its desk, by the question
+-- of its line.
 use Rattle.site_office.proofs.Common.{refl, ap, Some, Job, reply_of, SiteSeatOf, at_site, office_of, ask-turn}
 use Rattle.site_office.proofs.TurnLemmas.{heard, placed, seat-was, stayed, stays-of}
 use Rattle.site_office.proofs.office.SiteOfficeOffice.ask.Goals as goal

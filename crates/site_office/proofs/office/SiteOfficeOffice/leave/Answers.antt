@@ -1,3 +1,4 @@
+-- A site's session leaves (`leave` of `SiteOffice`): it has no seat then, and what the seat knew is kept.
 use Rattle.site_office.proofs.Common.{sym, subst, ◌∙◌, ◌≡◌, Some, Gone, Leave, at_site, IsSiteTurn}
 use Rattle.site_office.proofs.TurnLemmas.{left-turn, placed}
 use Rattle.site_office.proofs.office.SiteOfficeOffice.leave.Goals as goal

@@ -1,3 +1,5 @@
+-- A site's session asks how many frames it has (`live` of `SiteOffice`): what it is told is what its desk's history
+-- says.
 use Rattle.site_office.proofs.Common.{refl, ap, Some, Alive, AskLive, reply_of, live_answer, at_site, office_of}
 use Rattle.site_office.proofs.TurnLemmas.{heard, live-turn, noted, placed, seat-was, stayed, stays-of}
 use Rattle.site_office.proofs.office.SiteOfficeOffice.live.Goals as goal

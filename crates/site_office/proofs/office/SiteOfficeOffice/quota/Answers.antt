@@ -1,3 +1,4 @@
+-- A site's session asks what it has left (`quota` of `SiteOffice`): what it is told is what its desk's history says.
 use Rattle.site_office.proofs.Common.{refl, ap, Some, AskQuota, Rest, reply_of, at_site, office_of}
 use Rattle.site_office.proofs.TurnLemmas.{heard, placed, quota-turn, seat-was, stayed, stays-of}
 use Rattle.site_office.proofs.office.SiteOfficeOffice.quota.Goals as goal

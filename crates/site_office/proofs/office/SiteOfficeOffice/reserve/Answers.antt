@@ -1,3 +1,5 @@
+-- A site's session reserves more (`reserve` of `SiteOffice`): raised or refused, the call is one turn of it at its
+-- desk.
 use Rattle.site_office.proofs.Common.{refl, sym, ap, ◌∙◌, Some, Reserve, Reserved, Refused, reply_of, refusal_number, at_site}
 use Rattle.site_office.proofs.TurnLemmas.{heard, noted, raised, raised_answer}
 use Rattle.site_office.proofs.office.SiteOfficeOffice.reserve.Goals as goal

@@ -1,3 +1,4 @@
+-- The one worker of `solve` (`Searcher::take`): a worker's step or a Spend leaves the core one of that tenant's job.
 use Rattle.solve_engine.proofs.Working.{step-keeps}
 use Rattle.solve_engine.proofs.worker.Searcher.take.Goals as goal
 

@@ -1,3 +1,4 @@
+-- A pool's deques are made and dealt (`dealing::deal`): each owner's deque has room for the tasks that were asked for.
 use Rattle.steal_pool.proofs.TaskDeques.Common.{◌≡◌, All, IfOk-weaker, worker_room}
 use Rattle.steal_pool.proofs.TaskDeques.SeatLemmas.{room-dealt}
 use Rattle.steal_pool.proofs.task_deques.dealing.deal.Goals as goal

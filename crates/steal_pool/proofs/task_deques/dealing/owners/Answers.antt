@@ -1,3 +1,4 @@
+-- A pool's deques are made (`dealing::owners`): one owner more, with all 64 parts of an empty deque, each time.
 use Rattle.steal_pool.proofs.TaskDeques.Common.{◌≡◌, [], arith, All-push, tally, owner_seat, owner_room}
 use Rattle.steal_pool.proofs.task_deques.dealing.owners.Goals as goal
 

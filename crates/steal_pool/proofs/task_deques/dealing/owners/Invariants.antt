@@ -1,3 +1,5 @@
+-- A pool's deques are made (`dealing::owners`): at each turn, each owner so far has all 64 parts of an empty deque
+-- with this room, and the list has room for the rest.
 use Rattle.steal_pool.proofs.TaskDeques.Common.{◌≡◌, ◌≤◌, [], All, vec_len, vec_capacity, tally, owner_seat, owner_room}
 use Rattle.steal_pool.proofs.task_deques.dealing.owners.Given as goal
 

@@ -1,3 +1,5 @@
+-- The ends of a pool's deques are dealt (`dealing::paired`): the next owner goes together with the next row of
+-- thieves.
 use Rattle.steal_pool.proofs.TaskDeques.Common.{◌≡◌, List, Some, map, ap, arith, All-pop, DequeSeatIn, owner_seat, new_thief, owner_seats, thief_seats, worker_seats, beside}
 use Rattle.steal_pool.proofs.TaskDeques.SeatLemmas.{gives, gives-room}
 use Rattle.steal_pool.proofs.task_deques.dealing.paired.Goals as goal

@@ -1,3 +1,5 @@
+-- The ends of a pool's deques are dealt (`dealing::paired`): at each turn, those paired so far and the owners and rows
+-- that are left make all workers' ends.
 use Rattle.steal_pool.proofs.TaskDeques.Common.{◌≡◌, ◌+◌, ◌≤◌, ◌++◌, map, All, vec_len, vec_capacity, into_iter_items, into_iter_len, owner_room, new_thief, owner_seats, thief_seats, worker_seats, worker_room, beside}
 use Rattle.steal_pool.proofs.task_deques.dealing.paired.Given as goal
 

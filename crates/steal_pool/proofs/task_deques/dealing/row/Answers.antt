@@ -1,3 +1,4 @@
+-- A worker's row of thieves (`dealing::row`): the next deque's owner gives one of its parts to the new thief.
 use Rattle.steal_pool.proofs.TaskDeques.Common.{◌<◌, List, length, ap, ◌∙◌, arith, rules, map-set_same, DequeSeatIn, owner_seat, owner_room, with_part_cut, new_thief, owner_seats}
 use Rattle.steal_pool.proofs.TaskDeques.SeatLemmas.{owner-at, cut-at, row-push}
 use Rattle.steal_pool.proofs.task_deques.dealing.row.Goals as goal

@@ -1,3 +1,5 @@
+-- A worker's row of thieves (`dealing::row`): at each turn, each owner passed so far has given one part, and the row
+-- has a thief at each of them.
 use Rattle.steal_pool.proofs.TaskDeques.Common.{◌≡◌, ◌≤◌, ◌++◌, map, take, drop, length, vec_len, vec_capacity, owner_room, with_part_cut, new_thief, owner_seats, thief_seats}
 use Rattle.steal_pool.proofs.task_deques.dealing.row.Given as goal
 

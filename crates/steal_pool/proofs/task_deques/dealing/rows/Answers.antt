@@ -1,3 +1,5 @@
+-- The rows of thieves of all workers (`dealing::rows`): one row more takes one part of each owner, of which enough are
+-- left.
 use Rattle.steal_pool.proofs.TaskDeques.Common.{◌≡◌, ◌-◌, ◌+◌, ◌<◌, [], List, length, map, refl, sym, ap, ◌∙◌, arith, rules, All-map, All-same, All-push, tally, DequeSeatIn, owner_seat, with_part_cut, new_thief, owner_seats, thief_seats, fresh_with}
 use Rattle.steal_pool.proofs.TaskDeques.SeatLemmas.{fresh-same, cut-again, new_of_fresh}
 use Rattle.steal_pool.proofs.task_deques.dealing.rows.Goals as goal

@@ -1,3 +1,5 @@
+-- The rows of thieves of all workers (`dealing::rows`): at each turn, each owner has given as many parts as rows were
+-- made, each row has a thief at each deque, and there is room for all rows, which are fewer than 64.
 use Rattle.steal_pool.proofs.TaskDeques.Common.{◌≡◌, ◌-◌, ◌<◌, ◌≤◌, map, All, vec_len, vec_capacity, owner_room, new_thief, owner_seats, thief_seats, fresh_with}
 use Rattle.steal_pool.proofs.task_deques.dealing.rows.Given as goal
 

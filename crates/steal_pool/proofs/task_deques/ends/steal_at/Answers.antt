@@ -1,3 +1,5 @@
+-- A worker steals by its thief at one deque (`ends::steal_at`): the task is that thief's, and the other thieves are as
+-- before.
 use Rattle.steal_pool.proofs.TaskDeques.Common.{arith}
 use Rattle.steal_pool.proofs.TaskDeques.SeatLemmas.{thief-stole}
 use Rattle.steal_pool.proofs.task_deques.ends.steal_at.Goals as goal

@@ -1,3 +1,4 @@
+-- A worker steals by its thieves in turn (`ends::steal_between`): the task that is returned was stolen by one of them.
 use Rattle.steal_pool.proofs.TaskDeques.Common.{List, subst, DequeSeatIn, thief_seats, IsStolen}
 use Rattle.steal_pool.proofs.task_deques.ends.steal_between.Goals as goal
 

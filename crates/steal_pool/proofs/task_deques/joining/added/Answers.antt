@@ -1,3 +1,5 @@
+-- A pool's tasks are summed up (`joining::added`): the sums over the deques passed grow by the next deque's tasks;
+-- pushed are those taken and left.
 use Rattle.steal_pool.proofs.TaskDeques.Common.{◌≡◌, ℕ, get_or, ◌+◌, ◌<◌, List, All, length, take, sum_by, ap, sym, subst, ◌∙◌, arith, rules, take_all, length-map, sum_by_more, All-more, DequeSeatIn, owner_seat, owner_seats, IsAccounted}
 use Rattle.steal_pool.proofs.TaskDeques.SeatLemmas.{seat-at, seats-same}
 use Rattle.steal_pool.proofs.task_deques.joining.added.Goals as goal

@@ -1,3 +1,5 @@
+-- A pool's tasks are summed up (`joining::added`): at each turn, the sums are those of the deques passed so far, each
+-- of which has all its tasks accounted for.
 use Rattle.steal_pool.proofs.TaskDeques.Common.{◌≡◌, ◌+◌, ◌*◌, ◌≤◌, take, length, sum_by, All, vec_len, owner_seats, IsAccounted}
 use Rattle.steal_pool.proofs.task_deques.joining.added.Given as goal
 

@@ -1,3 +1,5 @@
+-- A row of thieves is joined to the owners of a pool's deques (`joining::join_row`): each thief meets the owner of its
+-- own deque, which takes its part back.
 use Rattle.steal_pool.proofs.TaskDeques.Common.{◌≡◌, [], List, subst, arith, nil_from_length, into_iter_items, Thief, DequeSeatIn, owner_seats, thief_seats, with_row}
 use Rattle.steal_pool.proofs.TaskDeques.JoinLemmas.{IsTurn, turn-inside, joins-here, joined-here, joined-all}
 use Rattle.steal_pool.proofs.task_deques.joining.join_row.Goals as goal

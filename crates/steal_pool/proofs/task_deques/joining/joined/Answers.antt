@@ -1,3 +1,4 @@
+-- All thieves are joined to the owners of a pool's deques (`joining::joined`): the next row has a thief at each deque.
 use Rattle.steal_pool.proofs.TaskDeques.Common.{◌≡◌, List, map, length, ap, sym, subst, ◌∙◌, refl, arith, length-map, All-map, into_iter_items, DequeSeatIn, owner_seat, owner_seats, thief_seats, with_rows, deques}
 use Rattle.steal_pool.proofs.TaskDeques.JoinLemmas.{AreTurns, one-part, length-with_row, next-row, row-room, rows-turn}
 use Rattle.steal_pool.proofs.task_deques.joining.joined.Goals as goal

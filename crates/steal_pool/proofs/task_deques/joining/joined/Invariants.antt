@@ -1,3 +1,5 @@
+-- All thieves are joined to the owners of a pool's deques (`joining::joined`): at each turn, the rows joined so far
+-- and those left make all.
 use Rattle.steal_pool.proofs.TaskDeques.Common.{◌≡◌, map, vec_len, into_iter_items, owner_seats, thief_seats, with_rows}
 use Rattle.steal_pool.proofs.TaskDeques.JoinLemmas.{AreTurns}
 use Rattle.steal_pool.proofs.task_deques.joining.joined.Given as goal

@@ -1,3 +1,4 @@
+-- Rows of a pool's deques: how thieves' seats are joined to the owners', by computing the definitions on two workers.
 use Rattle.steal_pool.proofs.TaskDeques.Common.{[], ◌∷◌, refl, arith, All-from_recursion, IsAccounted, worker_task, seat}
 use Rattle.steal_pool.proofs.task_deques.rows.rows_are_joined.Goals as goal
 

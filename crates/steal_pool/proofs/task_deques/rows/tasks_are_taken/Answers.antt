@@ -1,3 +1,4 @@
+-- Rows of a pool's deques: which tasks a worker takes or steals, by computing the definitions on two workers.
 use Rattle.steal_pool.proofs.TaskDeques.Common.{[], ◌∷◌, refl, inl, inr, arith, seat}
 use Rattle.steal_pool.proofs.task_deques.rows.tasks_are_taken.Goals as goal
 

@@ -1,3 +1,5 @@
+-- Rows of a pool's deques: what two workers are dealt, 62 parts left to each owner, and dealings that aren't whole, by
+-- computing the definitions.
 use Rattle.steal_pool.proofs.TaskDeques.Common.{◌≡◌, ℕ, ◌+◌, ◌-◌, List, [], length, map, refl, ap, arith, All-from_recursion, Tally, tally, Deque, new_thief, WorkerSeats, Posts, posts_of, IsDealt, IsWhole, two_thieves, new_worker, two_workers, played_seats}
 use Rattle.steal_pool.proofs.task_deques.rows.two_workers_are_dealt.Goals as goal
 

@@ -1,3 +1,5 @@
+-- A thief's seat is joined to the owner's of a deque (`steps::join`): the rule of the deque holds of what both know
+-- together.
 use Rattle.steal_pool.proofs.TaskDeques.RuleLemmas.{merges}
 use Rattle.steal_pool.proofs.task_deques.steps.join.Goals as goal
 

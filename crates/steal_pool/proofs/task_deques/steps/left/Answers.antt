@@ -1,3 +1,5 @@
+-- The tasks left in a deque (`steps::left`): an owner with all 64 parts knows that what was pushed is what was taken
+-- and these.
 use Rattle.steal_pool.proofs.TaskDeques.Common.{arith, worker_view}
 use Rattle.steal_pool.proofs.TaskDeques.TallyLemmas.{weigh-one}
 use Rattle.steal_pool.proofs.task_deques.steps.left.Goals as goal

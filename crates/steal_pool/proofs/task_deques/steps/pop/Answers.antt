@@ -1,3 +1,5 @@
+-- A worker takes from its own deque (`steps::pop`): the rule of the deque holds with the task noted as taken, be the
+-- deque one that gives the newest or the oldest first.
 use Rattle.steal_pool.proofs.TaskDeques.RuleLemmas.{takes, pops}
 use Rattle.steal_pool.proofs.task_deques.steps.pop.Goals as goal
 

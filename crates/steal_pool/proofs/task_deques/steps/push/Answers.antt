@@ -1,3 +1,4 @@
+-- A worker pushes on its own deque (`steps::push`): the rule of the deque holds with the task noted as pushed.
 use Rattle.steal_pool.proofs.TaskDeques.RuleLemmas.{pushes}
 use Rattle.steal_pool.proofs.task_deques.steps.push.Goals as goal
 

@@ -1,3 +1,5 @@
+-- A thief gets a seat at a deque (`steps::seat`): the owner's parts are split, and the rule of the deque holds of
+-- both.
 use Rattle.steal_pool.proofs.TaskDeques.RuleLemmas.{forks}
 use Rattle.steal_pool.proofs.task_deques.steps.seat.Goals as goal
 

@@ -1,3 +1,4 @@
+-- A thief steals from a deque (`steps::steal`): the rule of the deque holds with the task noted as taken.
 use Rattle.steal_pool.proofs.TaskDeques.RuleLemmas.{takes}
 use Rattle.steal_pool.proofs.task_deques.steps.steal.Goals as goal
 

@@ -1,3 +1,5 @@
+-- The tasks that wait in a deque (`steps::waiting`): an owner with all 64 parts knows that they are those pushed and
+-- not taken.
 use Rattle.steal_pool.proofs.TaskDeques.Common.{arith, worker_view}
 use Rattle.steal_pool.proofs.TaskDeques.TallyLemmas.{weigh-one}
 use Rattle.steal_pool.proofs.task_deques.steps.waiting.Goals as goal

@@ -1,3 +1,4 @@
+-- For Tape::note: the call that its note stands for.
 use Rattle.std.proofs.Common.{Some}
 use Rattle.tcp_server.proofs.taped.Tape.note.Given as goal
 

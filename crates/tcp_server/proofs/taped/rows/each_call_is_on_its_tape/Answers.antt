@@ -1,3 +1,4 @@
+-- Answers for a row: a read and a write stand on their tapes, and nothing else does.
 use Rattle.tcp_server.proofs.TapeLemmas.{heard-in-order, sent-in-order}
 use Rattle.tcp_server.proofs.taped.rows.each_call_is_on_its_tape.Goals as goal
 

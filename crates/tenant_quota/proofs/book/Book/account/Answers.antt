@@ -1,4 +1,4 @@
--- What the list finds is the tenant's entry.
+-- The book of reservations finds a tenant's account (`Book::account`): what the list finds is the tenant's entry.
 use Rattle.tenant_quota.proofs.Common.{ap, ◌∙◌, sym, option_copied, option_map}
 use Rattle.tenant_quota.proofs.Places.{entry-found}
 use Rattle.tenant_quota.proofs.book.Book.account.Goals as goal

@@ -1,4 +1,5 @@
--- A charge that the tenant has left is written into its account; one that it hasn't is refused.
+-- The book of reservations charges a tenant nodes (`Book::charge_nodes`): what it has left is written into its
+-- account, more is refused.
 use Rattle.tenant_quota.proofs.Common.{◌≡◌, ℕ, ◌+◌, ◌<◌, ◌≤◌, ◌⊎◌, inl, inr, ap, sym, ◌∙◌, subst, refl, arith, put-same, Account, Left, owner_of_account}
 use Rattle.tenant_quota.proofs.Common.{charged_by, left_in, IsWithinReserve, held_by}
 use Rattle.tenant_quota.proofs.Standing.{StandsFor, is-there, stands-for, others-same, within-with, IsChange, written, change-by-write, sum_by-write, one-less}

@@ -1,3 +1,5 @@
+-- The book of reservations takes segments back (`Book::give_back`): the tenant's charge goes down by them, within its
+-- reservation, and no other account changes.
 use Rattle.tenant_quota.proofs.Common.{ℕ, ◌-◌, ◌≤◌, sym, ◌∙◌, refl, arith, Account, account_of, credited_by, IsWithinReserve, held_by}
 use Rattle.tenant_quota.proofs.Standing.{is-some-of, and-at, is-there, stands-for, within-with, IsChange, written, change-by-write, sum_by-write}
 use Rattle.tenant_quota.proofs.book.Book.give_back.Given.{Over}

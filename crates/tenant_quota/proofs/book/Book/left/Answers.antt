@@ -1,4 +1,5 @@
--- The account is within its reserve, and what it has left is charged to nobody.
+-- The book of reservations tells what a tenant has left (`Book::left`): its account is within its reserve, and what it
+-- has left is charged to nobody.
 use Rattle.tenant_quota.proofs.Common.{◌≡◌, ℕ, ◌+◌, ◌≤◌, Some, ap, sym, ◌∙◌, arith, option_copied, Account, Left, account_of, left_in, IsWithinReserve}
 use Rattle.tenant_quota.proofs.Common.{charged_segments, Reservations, IsSoundBook}
 use Rattle.tenant_quota.proofs.Edits.{AllEntries-of, AllEntries-map, sum_by-le-with}

@@ -1,4 +1,5 @@
--- A reservation above the tenant's own that the totals allow is written into its account; any other is refused.
+-- The book raises a tenant's reservation (`Book::raise`): one above its own that the totals allow is written into its
+-- account; any other is refused.
 use Rattle.tenant_quota.proofs.Common.{◌≡◌, ℕ, ◌-◌, ◌<◌, ◌≤◌, ◌⊎◌, inl, inr, Some, ap, ◌∙◌, refl, arith, option_map, Quota, IsAbove, IsNotAbove}
 use Rattle.tenant_quota.proofs.Common.{IsWithinLimits, owner_of_account, raised_to, Account, Rest, Reservations, reserve_of, unreserved_of, HasRoomFor}
 use Rattle.tenant_quota.proofs.Common.{IsBeyond, CanRaise, IsTooMuch, IsLower, IsSoundBook, held_by, find_by_number, put-same}

@@ -1,4 +1,4 @@
--- The removed entry is the tenant's.
+-- A tenant leaves the book of reservations (`Book::release`): the removed entry is the tenant's.
 use Rattle.tenant_quota.proofs.Common.{◌≡◌, Some, arith, account_of, Releases, released, held_by}
 use Rattle.tenant_quota.proofs.Standing.{if-from, is-there, stands-for, Releases-released, KeepsOtherAccounts-released, IsSoundBook-released}
 use Rattle.tenant_quota.proofs.book.Book.release.Given.{Over}

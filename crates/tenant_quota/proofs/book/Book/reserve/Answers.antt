@@ -1,4 +1,4 @@
--- The new tenant has an entry.
+-- A tenant comes to the book of reservations (`Book::reserve`): it has an entry then.
 use Rattle.tenant_quota.proofs.Common.{◌≡◌, ◌≢◌, ℕ, ◌≤◌, ap, arith, Rest, Quota, fresh, with_new, Reservations, unreserved_of, HasRoom, IsSoundBook, held_by}
 use Rattle.tenant_quota.proofs.Standing.{Admits-admitted, KeepsOtherAccounts-admitted, IsSoundBook-admitted}
 use Rattle.tenant_quota.proofs.book.Book.reserve.Given.{Over}

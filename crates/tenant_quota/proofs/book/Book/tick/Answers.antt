@@ -1,4 +1,5 @@
--- A step that the tenant has left is counted in its account; without one it is refused.
+-- The book of reservations counts a tenant's step (`Book::tick`): one that it has left is counted in its account;
+-- without one it is refused.
 use Rattle.tenant_quota.proofs.Common.{◌≡◌, ◌≢◌, ◌+◌, sym, ◌∙◌, ap, refl, arith, put-same, Account, Left, owner_of_account, ticked, left_in, IsWithinReserve}
 use Rattle.tenant_quota.proofs.Common.{held_by}
 use Rattle.tenant_quota.proofs.Standing.{StandsFor, is-there, stands-for, others-same, within-with, IsChange, written, change-by-write, sum_by-write}

@@ -1,3 +1,4 @@
+-- A test's worker pushes a task (`deques::pushes`): which deques the ends belong to doesn't change.
 use Rattle.steal_pool.proofs.TaskDeques.SeatLemmas.{posts-same}
 use Rattle.thread_tests.proofs.tests.deques.pushes.Goals as goal
 

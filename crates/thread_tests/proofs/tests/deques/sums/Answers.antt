@@ -1,3 +1,4 @@
+-- A test's sums of all deques (`deques::sums`): all ends came back, so they can be summed up.
 use Rattle.std.proofs.Common.{◌≡◌, [], ◌++◌, List, map, sym, subst, ◌∙◌, append-nil, arith}
 use Rattle.std.proofs.lemmas.List.{nil_from_length}
 use Rattle.std.specs.Vec.Iter.{into_iter_items}

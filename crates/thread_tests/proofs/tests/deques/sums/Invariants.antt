@@ -1,3 +1,5 @@
+-- A test's sums of all deques (`deques::sums`): at each turn, the ends that came back and those left are all, and
+-- there is room for them.
 use Rattle.std.proofs.Common.{◌≡◌, ◌+◌, ◌≤◌, ◌++◌, map, length}
 use Rattle.std.specs.Vec.Iter.{into_iter_items, into_iter_len}
 use Rattle.steal_pool.specs.task_deques.Deals.{posts, posts_of, returned, returned_room}

@@ -1,3 +1,4 @@
+-- A test at a desk (`desks::try_out`): the names that the clauses use for its new desk, ledger, history and hall.
 use Rattle.thread_tests.proofs.tests.desks.try_out.Given as goal
 
 abbrev pub ghosts-try_at-L-Ledger : goal.ghosts-try_at-L-Ledger

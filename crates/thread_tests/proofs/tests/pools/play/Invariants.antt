@@ -1,3 +1,4 @@
+-- A test of a running pool (`pools::play`): the names that the clauses use for its new desk, ledger, history and hall.
 use Rattle.thread_tests.proofs.tests.pools.play.Given as goal
 
 abbrev pub ghosts-play_on-L-Ledger : goal.ghosts-play_on-L-Ledger

@@ -1,4 +1,5 @@
--- It asks the inner allocator, and refuses where it is to. Assumes `Logic`.
+-- For tests of memory, the allocator that counts its calls (`CountedAlloc::allocate`): it asks the inner allocator, and
+-- refuses where it is to. Assumes `Logic`.
 use Rattle.toys.proofs.Common.{◌≡◌, refl, sym, subst, true, false, ℕ, ◌<◌, ◌^◌, List, [], ◌∷◌, Option, Some, None, Ok, Err, Bor, Ura, Ty, Args, Fn, a_type, dnil, dcons, Val, vint, vptr, inst_fn, SProp, ent, Lft, Share, ftrue, flft, Memory, size, align, capped, Routine, WpFn, Tables, Logic, ◌⊑◌, ⊑_trans, Fun, fact, tables, tables_of, fm_of, WpFn-mono, stop, no_more, and_then, of_opd, returns, enter, yes, owns, shr_vals, bounded, param, uint_vals, uint_Tells, Slot, plain, types_at, heard, nothing, Ended, Clauses, triple_of, Triple, entered, Stays, stay_dropped, walk_of, ends_at, walked, Goes-dropped, walk_Meets, ‵, raw, ◌⊛◌, later, ◌$◌, ◌∵◌, !, qed, move, keep, use0, use1, use2, split, split3, join, fsplit, fjoin, suffices, await, done, alloc_all, pass_all, free_all, look_at, get, sets, lands_as, block_ptr, usize, RefOf, calls_at, Al, Answer, answer_val, Answer-typed, Answer-Ok, Answer-err, takes_key, Takes, at_takes, Answered, Takes-goes, Takes-gives, answers, token, T, place, has_ty, WT, layout, whole, agg, lit, holding, block_if_ok, by, Item, Seq, Go, ⋆, lands, at_ret, given, learn, some, pick, rewrite, any_q, Post as After, fld, first, exec, switches_on, vrt, in_variant, get_in, get_tag, lands_last, sets_last, env, Env, Wp, after_seq, at_return, calls_at_last, after, front, arm_body}
 use mir.Syntax.{w64}
 use Rattle.toys.specs.contracts.counting.CountedAllocAllocator.allocate as F

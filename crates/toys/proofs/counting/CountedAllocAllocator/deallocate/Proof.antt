@@ -1,4 +1,5 @@
--- It counts the call, and gives the block back to the inner allocator. Assumes `Logic`.
+-- For tests of memory, the allocator that counts its calls (`CountedAlloc::deallocate`): it counts the call, and gives
+-- the block back to the inner allocator. Assumes `Logic`.
 use Rattle.toys.proofs.Common.{◌≡◌, ℕ, ◌+◌, ◌^◌, ◌<◌, List, [], ◌∷◌, refl, w64, Bor, Ura, Ty, Args, Fn, a_type, dnil, dcons, Val, vint, vptr, inst_fn, SProp, ent, id⊢, Lft, Share, ftrue, flft, Memory, size, align, capped, up, Routine, WpFn, Tables, Logic, ◌⊑◌, ⊑_trans, Fun, fact, tables, tables_of, fm_of, WpFn-mono, stop, fld, addr, no_more, and_then, of_opd, returns, enter, yes, owns, shr_vals, unhide, bounded, param, uint_vals, uint_Tells, Slot, plain, types_at, heard, nothing, Ended, Clauses, triple_of, Triple, entered, cited, Stays, stay_dropped, walk_of, ends_at, walked, Goes-dropped, walk_Meets, vunit, never_e, ffalse, fsep, froom, Item, ‵, raw, ◌⊛◌, later, given, ◌$◌, ◌∵◌, !, qed, by, move, keep, use1, use2, split, split3, join, learn, fsplit, fjoin, feq_i, suffices, await, done, unit_lit, alloc_all, pass_all, free_all, look_at, get, through, sets, lands_as, Ptr, block_ptr, null_ptr, ptr_val, rawptr_vals, rawptr_Tells, usize, RawPtr, RefOf, calls_at, Al, α, seen, token, gives_key, Gives, at_gives, Gives-goes, Gives-Gives}
 use Rattle.toys.proofs.Ticks.{Tick, at_tick, Tick-goes, Tick-gives}
 use Rattle.toys.proofs.counting.tick.Symbol as c_sym

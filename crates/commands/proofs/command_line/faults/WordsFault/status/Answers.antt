@@ -1,3 +1,4 @@
+-- The command line of `othello` (`WordsFault::status`): words that are refused for want of memory have exit status 1.
 use Rattle.std.proofs.Common.{rules}
 use Rattle.commands.proofs.command_line.faults.WordsFault.status.Goals as goal
 

@@ -1,3 +1,5 @@
+-- The command line of `othello` (`Options::read`): what is read is what the definition says the words ask for, and
+-- words are refused only for a fault of theirs.
 use Rattle.std.proofs.Common.{◌≡◌, true, refl, sym, ap, ◌∙◌, map}
 use Rattle.clap.specs.Words.{fault_of, is_simple, is_simple_and_free, subcommand_of}
 use Rattle.clap.proofs.OnLiterals.{clap_on_literals}

@@ -1,3 +1,5 @@
+-- An option with a number on the command line (`Setting::is_given`): it counts as given exactly where the words give
+-- it a value.
 use Rattle.std.proofs.Common.{ap, ◌∙◌, Option}
 use Rattle.std.specs.Prelude.{is_some}
 use Rattle.clap.specs.Words.{Text, found_of}

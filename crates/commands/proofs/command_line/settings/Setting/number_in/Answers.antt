@@ -1,3 +1,5 @@
+-- An option with a number on the command line (`Setting::number_in`): the number is the one that the words write, or
+-- else its default.
 use Rattle.std.proofs.Common.{ap, ◌∙◌, Option}
 use Rattle.std.specs.Option.{option_map_or}
 use Rattle.clap.specs.Words.{Text, found_of}

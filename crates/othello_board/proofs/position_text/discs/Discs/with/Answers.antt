@@ -1,4 +1,4 @@
--- A new bit stands where the other word has none.
+-- The discs of a position's text while it is read (`Discs::with`): a new bit stands where the other word has none.
 use Rattle.othello_board.proofs.PositionText.Common.{◌∙◌, and_comm}
 use Rattle.othello_board.proofs.PositionText.ReadingLemmas.{still-apart}
 use Rattle.othello_board.proofs.position_text.discs.Discs.with.Goals as goal

@@ -1,3 +1,5 @@
+-- A test of an office that nobody knows (`strangers`): the names that the clauses use for its new desk, ledger,
+-- history and hall.
 use Rattle.serial_tests.proofs.tests.search.strangers.are_offices_as_they_say.Given as goal
 
 abbrev pub ghosts-is_new_desk_as_it_says-L-Ledger : goal.ghosts-is_new_desk_as_it_says-L-Ledger

@@ -1,3 +1,5 @@
+-- A worker takes a task by its ends of a pool's deques (`DequeEnds::take`): a task that it gets was taken from its own
+-- deque or stolen from one other, and all other seats are as before.
 use Rattle.steal_pool.proofs.TaskDeques.Common.{◌≡◌, List, Option, Some, None, IfSome, inr, subst, Task, DequeEnds, DequeSeatIn, owner_seat, thief_seats, worker_seats, IsStolen, IsTaken}
 use Rattle.steal_pool.proofs.task_deques.ends.DequeEnds.take.Goals as goal
 

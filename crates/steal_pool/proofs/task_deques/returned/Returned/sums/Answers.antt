@@ -1,3 +1,5 @@
+-- What came back of a pool's deques (`Returned::sums`): of each deque, what was pushed is what was taken and left,
+-- each task as often.
 use Rattle.steal_pool.proofs.TaskDeques.Common.{All, sym, subst, ◌∙◌, arith, IsAccounted}
 use Rattle.steal_pool.proofs.TaskDeques.JoinLemmas.{whole_back, few-back}
 use Rattle.steal_pool.proofs.task_deques.returned.Returned.sums.Goals as goal

@@ -1,3 +1,5 @@
+-- A test of a pool that can't begin (`faults::tried`): the names that the clauses use for its new desk, ledger,
+-- history and hall.
 use Rattle.thread_tests.proofs.tests.pools.faults.tried.Given as goal
 
 abbrev pub ghosts-found_at-L-Ledger : goal.ghosts-found_at-L-Ledger
