@@ -1,59 +1,51 @@
 -- A tenant's tree with one frame more, with another state in a frame, and with other values: what is found, the
 -- children, and that it is a tree.
-use Rattle.frame_table.proofs.TreeLaws.{found-own}
-use Rattle.frame_table.proofs.Common.{State, filter, filter-append, is_child_of, map_value, map_values, AreAlike, ◌≡◌, ◌≢◌, ℕ, Bool, true, not, List, [], ◌∷◌}
-use Rattle.frame_table.proofs.Common.{◌++◌, Option, Some, None, refl, sym, ◌∙◌, arith, append_assoc, append-nil, map, Frame, frame_at, has_frame, has_parent}
-use Rattle.frame_table.proofs.Common.{path_in, AllBelow, parent_of, path_under, goes_under, children_of, frames_under, aborted, frames_without}
-use Rattle.frame_table.proofs.Common.{with_state, values_of, IsNextFrame, IsTree, IsTreeAfter, new_frame}
-use Rattle.std.specs.Prelude.{option_map}
-use Rattle.std.proofs.lemmas.Simd.{map-map}
-use Rattle.frame_table.proofs.Common.{eqb, map-append}
+use Rattle.frame_table.proofs.Common.{AllBelow, AreAlike, Bool, Frame, IsNextFrame, IsTree, IsTreeAfter, List, None, Option, Some, State, [], aborted, append-nil, append_assoc, arith, children_of, eqb, filter, filter-append, frame_at, frames_under, frames_without, goes_under, has_frame, has_parent, is_child_of, map, map-append, map-map, map_value, map_values, new_frame, not, option_map, parent_of, path_in, path_under, refl, root_of, sym, true, values_of, with_state, ℕ, ◌++◌, ◌∙◌, ◌∷◌, ◌≡◌, ◌≢◌}
 use Rattle.frame_table.proofs.Finds.{filter-map}
-use Rattle.frame_table.specs.Frames.{root_of}
 use Rattle.frame_table.proofs.Forest.{parent_of-append, root_of-append}
-use Rattle.frame_table.proofs.TreeLaws.{there-found, found-path, found-ends, children-by-paths, frame_at-push, frame_at-other-push}
-use Rattle.frame_table.proofs.TreeLaws.{tree-induction}
+use Rattle.frame_table.proofs.TreeLaws.{children-by-paths, found-ends, found-own, found-path, frame_at-other-push, frame_at-push, there-found, tree-induction}
 
--- one frame more
-tree-push-after : {T : Type 0} (before xs : List (Frame T)) (y : Frame T) → IsTreeAfter before xs → IsNextFrame (before ++ xs) y →
-    IsTreeAfter before (xs ++ y ∷ [])
-tree-push-after {T} before [] y t next = (rw append-nil at next, tt)
-tree-push-after {T} before (x ∷ xs) y t next = grind (arith, tree-push-after (before ++ x ∷ []) xs y, append_assoc)
+module _ {T : Type 0} where
+  -- one frame more
+  tree-push-after : (before xs : List (Frame T)) (y : Frame T) → IsTreeAfter before xs → IsNextFrame (before ++ xs) y →
+      IsTreeAfter before (xs ++ y ∷ [])
+  tree-push-after _ [] y t next = (rw append-nil at next, tt)
+  tree-push-after before (x ∷ xs) y t next = grind (arith, tree-push-after (before ++ x ∷ []) xs y, append_assoc)
 
--- a tree with a frame more
-module _ {T : Type 0} (xs : List (Frame T)) where
-  pub tree-push : (y : Frame T) → IsTree xs → IsNextFrame xs y → IsTree (xs ++ y ∷ [])
-  tree-push y t next = tree-push-after [] xs y t next
+  -- a tree with a frame more
+  module _ (xs : List (Frame T)) where
+    pub tree-push : (y : Frame T) → IsTree xs → IsNextFrame xs y → IsTree (xs ++ y ∷ [])
+    tree-push y t next = tree-push-after [] xs y t next
 
-  -- the parent of a new frame
-  pub parent_of-path_under : (parent : Option ℕ) (serial : ℕ) → IsTree xs → has_parent xs parent ≡ true → parent_of (path_under xs parent serial) ≡ parent
-  parent_of-path_under None serial t there = refl
-  parent_of-path_under (Some p) serial t there =
-      let f = there-found xs p there in
-      parent_of-append (path_in xs p) p serial (rw (found-path xs p f.0 f.1) (found-ends xs p f.0 t f.1))
+    -- the parent of a new frame
+    pub parent_of-path_under : (parent : Option ℕ) (serial : ℕ) → IsTree xs → has_parent xs parent ≡ true → parent_of (path_under xs parent serial) ≡ parent
+    parent_of-path_under None _ t _ = refl
+    parent_of-path_under (Some p) serial t there =
+        let f = there-found xs p there in
+        parent_of-append (path_in xs p) p serial (rw (found-path xs p f.0 f.1) (found-ends xs p f.0 t f.1))
 
--- a new frame of a higher serial is next in the tree
-module _ {T : Type 0} (xs : List (Frame T)) (serial : ℕ) (parent : Option ℕ) (home : ℕ) (value : T) (t : IsTree xs) (below : AllBelow serial xs)
-    (there : has_parent xs parent ≡ true) where
-  pub new-frame-next : IsNextFrame xs (new_frame xs serial parent home value)
-  new-frame-next = grind (arith, parent_of-path_under)
+  -- a new frame of a higher serial is next in the tree
+  module _ (xs : List (Frame T)) (serial : ℕ) (parent : Option ℕ) (home : ℕ) (value : T) (t : IsTree xs) (below : AllBelow serial xs)
+      (there : has_parent xs parent ≡ true) where
+    pub new-frame-next : IsNextFrame xs (new_frame xs serial parent home value)
+    new-frame-next = grind (arith, parent_of-path_under)
 
-  pub tree-new_frame : IsTree (xs ++ new_frame xs serial parent home value ∷ [])
-  tree-new_frame = tree-push xs (new_frame xs serial parent home value) t new-frame-next
+    pub tree-new_frame : IsTree (xs ++ new_frame xs serial parent home value ∷ [])
+    tree-new_frame = tree-push xs (new_frame xs serial parent home value) t new-frame-next
 
--- it is the last child of its parent, and nobody else's
-pub children_of-push : {T : Type 0} (xs : List (Frame T)) (y : Frame T) (s : ℕ) → IsTree xs → IsNextFrame xs y →
-    children_of (xs ++ y ∷ []) s ≡ children_of xs s ++ filter (λ x. is_child_of s x.path) (y ∷ [])
-children_of-push xs y s t next = grind (arith, children-by-paths, tree-push, filter-append)
+  -- it is the last child of its parent, and nobody else's
+  pub children_of-push : (xs : List (Frame T)) (y : Frame T) (s : ℕ) → IsTree xs → IsNextFrame xs y →
+      children_of (xs ++ y ∷ []) s ≡ children_of xs s ++ filter (λ x. is_child_of s x.path) (y ∷ [])
+  children_of-push xs y s t next = grind (arith, children-by-paths, tree-push, filter-append)
 
--- the root above a frame is there
-pub root-there : {T : Type 0} (xs : List (Frame T)) (s : ℕ) (f : Frame T) → IsTree xs → frame_at xs s ≡ Some f →
-    path_in xs (root_of f.path) ≡ root_of f.path ∷ []
-root-there {T} xs s f t is =
-    let P : Frame T → Type 0 = λ x. frame_at xs x.serial ≡ Some x → path_in xs (root_of x.path) ≡ root_of x.path ∷ [] in
-    tree-induction P xs t (λ x top own. rw top.1 (found-path xs x.serial x own ∙ top.1))
-    (λ x u above own. let top = above (found-own xs u.parent u.above u.there) in rw (u.path, root_of-append u.above.path x.serial u.parent (found-ends xs u.parent u.above t u.there)) top)
-    s f is (found-own xs s f is)
+  -- the root above a frame is there
+  pub root-there : (xs : List (Frame T)) (s : ℕ) (f : Frame T) → IsTree xs → frame_at xs s ≡ Some f →
+      path_in xs (root_of f.path) ≡ root_of f.path ∷ []
+  root-there xs s f t is =
+      let P : Frame T → Type 0 = λ x. frame_at xs x.serial ≡ Some x → path_in xs (root_of x.path) ≡ root_of x.path ∷ [] in
+      tree-induction P xs t (λ x top own. rw top.1 (found-path xs x.serial x own ∙ top.1))
+      (λ x u above own. let top = above (found-own xs u.parent u.above u.there) in rw (u.path, root_of-append u.above.path x.serial u.parent (found-ends xs u.parent u.above t u.there)) top)
+      s f is (found-own xs s f is)
 
 -- a frame that is no root is under the root of its path
 pub under-root : (path : List ℕ) (p : ℕ) → parent_of path ≡ Some p → goes_under (root_of path) path ≡ true
@@ -87,7 +79,7 @@ module _ {T U : Type 0} where
   tree-alike-after : (before xs : List (Frame T)) (others ys : List (Frame U)) → AreAlike before others → AreAlike xs ys → IsTreeAfter before xs →
       IsTreeAfter others ys
   tree-alike-after before [] others ys all alike t = grind arith
-  tree-alike-after before (x ∷ xs) others [] all alike t = absurd alike
+  tree-alike-after _ (x ∷ _) _ [] _ alike t = absurd alike
   tree-alike-after before (x ∷ xs) others (y ∷ ys) all alike t = grind (arith, tree-alike-after (before ++ x ∷ []) xs (others ++ y ∷ []) ys, AllBelow-alike, has_parent-alike, path_under-alike, alike-append)
 
   pub tree-alike : (xs : List (Frame T)) (ys : List (Frame U)) → AreAlike xs ys → IsTree xs → IsTree ys
@@ -108,7 +100,7 @@ module _ {T : Type 0} (n : ℕ) (state : State) where
   frame_at-with_state (x ∷ xs) f at = grind (arith, frame_at-with_state xs f)
 
   pub frame_at-other-with_state : (xs : List (Frame T)) (s : ℕ) → n ≢ s → frame_at (with_state n state xs) s ≡ frame_at xs s
-  frame_at-other-with_state [] s other = refl
+  frame_at-other-with_state [] s _ = refl
   frame_at-other-with_state (x ∷ xs) s other = grind (arith, frame_at-other-with_state xs s other)
 
   -- the frames that pass a test on paths
@@ -125,7 +117,7 @@ module _ {T : Type 0} (n : ℕ) (state : State) where
 
 -- other values: everything is as before, with the values changed
 module _ {T U : Type 0} (change : T → U) where
-  pub map_values-alike : (xs : List (Frame T)) → AreAlike xs (map_values change xs)
+  map_values-alike : (xs : List (Frame T)) → AreAlike xs (map_values change xs)
   map_values-alike [] = tt
   map_values-alike (x ∷ xs) = (refl, refl, map_values-alike xs)
 
@@ -149,11 +141,10 @@ module _ {T U : Type 0} (change : T → U) where
   frame_at-map_values [] s = refl
   frame_at-map_values (x ∷ xs) s = grind (arith, frame_at-map_values xs s)
 
-pub append-map_values : {T U : Type 0} (change : T → U) (xs ys : List (Frame T)) → map_values change (xs ++ ys) ≡ map_values change xs ++ map_values change ys
-append-map_values change xs ys = map-append (map_value change) xs ys
+  pub append-map_values : (xs ys : List (Frame T)) → map_values change (xs ++ ys) ≡ map_values change xs ++ map_values change ys
+  append-map_values xs ys = map-append (map_value change) xs ys
 
--- a change of all values, before or after a change of the tree, comes to the same
-module _ {T U : Type 0} (change : T → U) where
+  -- a change of all values, before or after a change of the tree, comes to the same
   pub aborted-map_values : (s : ℕ) (xs : List (Frame T)) → aborted s (map_values change xs) ≡ map_values change (aborted s xs)
   aborted-map_values s xs = filter-map (λ x. not (goes_under s x.path)) (map_value change) xs
 
@@ -164,19 +155,19 @@ module _ {T U : Type 0} (change : T → U) where
   frames_without-map_values s xs = filter-map (λ x. not (eqb x.serial s)) (map_value change) xs
 
   pub children_of-map_values : (xs : List (Frame T)) (s : ℕ) → children_of (map_values change xs) s ≡ map_values change (children_of xs s)
-  children_of-map_values xs s = let found = frame_at-map_values change xs s in grind (arith, found, filter-map)
+  children_of-map_values xs s = let found = frame_at-map_values xs s in grind (arith, found, filter-map)
 
   pub with_state-map_values : (n : ℕ) (state : State) (xs : List (Frame T)) →
       with_state n state (map_values change xs) ≡ map_values change (with_state n state xs)
-  with_state-map_values n state [] = refl
+  with_state-map_values n _ [] = refl
   with_state-map_values n state (x ∷ xs) = grind (arith, with_state-map_values n state xs)
 
   pub new_frame-map_values : (xs : List (Frame T)) (serial : ℕ) (parent : Option ℕ) (home : ℕ) (value : T) →
       new_frame (map_values change xs) serial parent home (change value) ≡ map_value change (new_frame xs serial parent home value)
   new_frame-map_values xs serial parent home value = grind (arith, path_under-alike, map_values-alike)
 
-pub values_of-map_values : {T U : Type 0} (change : T → U) (xs : List (Frame T)) → values_of (map_values change xs) ≡ map change (values_of xs)
-values_of-map_values change xs = map-map (λ x. x.value) (map_value change) xs ∙ sym (map-map change (λ x. x.value) xs)
+  pub values_of-map_values : (xs : List (Frame T)) → values_of (map_values change xs) ≡ map change (values_of xs)
+  values_of-map_values xs = map-map (λ x. x.value) (map_value change) xs ∙ sym (map-map change (λ x. x.value) xs)
 
 -- what a frame more, another state and other values leave
 pub ruleset root_laws = (root-there, under-root)

@@ -3,7 +3,7 @@ pub use Rattle.std.proofs.Common.{Bool, Err, List, None, Ok, Option, Result, Som
 pub use Rattle.std.proofs.Common.{length-append, refl, rules, subst, sym, true, ℕ, ◌*◌, ◌++◌, ◌+◌, ◌<◌, ◌^◌, ◌||◌, ◌∙◌, ◌∷◌, ◌≡◌, ◌≢◌, ◌≤◌}
 pub use Rattle.std.proofs.lemmas.Bool.{cases_Bool, eq-eqb, eqb-false, eqb-true, false≢true, ne_eqb, true≢false}
 pub use Rattle.std.proofs.lemmas.Bool.Decides.{nat_tests}
-pub use Rattle.std.specs.Prelude.{OnOk, if◌then◌else◌, is_err, is_ok, nat_le, nat_lt, ◌==◌}
+pub use Rattle.std.specs.Prelude.{OnOk, if◌then◌else◌, is_ok, nat_le, nat_lt, ◌==◌}
 pub use Rattle.frame_table.specs.Frames.{path_in}
 pub use Rattle.jamboree_core.proofs.Answering.{answer_count, journal-answers, one_if_answer}
 pub use Rattle.jamboree_core.proofs.JournalLemmas.{journal-begins, journal-goes-on, journal-searches, others-stay}
@@ -28,10 +28,10 @@ pub use Rattle.numbered_list.proofs.Edits.{said-with-own, said-without-other, sa
 pub use Rattle.numbered_list.specs.Places.{AreRising, find_by_number, inserted}
 pub use Rattle.sched_rules.proofs.Isolation.{more-there, shared-after-taken, step-taken, there}
 pub use Rattle.sched_rules.proofs.Tenants.{tenant_in-other-without_tenant, tenant_in-with_outcome}
-pub use Rattle.sched_rules.specs.Cores.{CoreState, accounts_in, newest_after, shared_by_nobody, shared_refusal, step_result, tenant_in, unless_beyond, without_tenant}
+pub use Rattle.sched_rules.specs.Cores.{CoreState, accounts_in, newest_after, shared_by_nobody, shared_refusal, tenant_in, unless_beyond, without_tenant}
 pub use Rattle.sched_rules.specs.Functions.{Functions}
 pub use Rattle.sched_rules.specs.Headline.{AreNumbersGiven, IsAnswerTo, IsOneStep}
-pub use Rattle.sched_rules.specs.Lone.{Outcome, ended, is_lower, lone, lone_step, refusal_in, unless}
+pub use Rattle.sched_rules.specs.Lone.{Outcome, ended, lone, lone_step, refusal_in, unless}
 pub use Rattle.sched_rules.specs.Runs.{alone_from, state_after, tenant_of}
 pub use Rattle.sched_rules.specs.Trees.{Tenant, Tree, admitted_with, job_at, with_ended}
 pub use Rattle.sched_rules.specs.Views.{job_of}

@@ -1,12 +1,8 @@
 -- What a hall (the core, with each tenant's journal) keeps true, over an admission, a Leave, and any other step that
 -- was taken.
-use Rattle.hall.proofs.Lists.{raise-more}
-use Rattle.hall.proofs.Lists.{raised-after}
-use Rattle.hall.proofs.Common.{all-map}
-use Rattle.hall.proofs.Common.{rising-push}
-use Rattle.hall.proofs.Common.{◌≡◌, ◌≢◌, ℕ, ◌+◌, ◌*◌, ◌^◌, ◌<◌, ◌≤◌, Bool, true, false, ◌||◌, eqb, List, [], ◌∷◌, ◌++◌, length, Option, Some, None, Result, Ok, Err, refl, ap, sym, ◌∙◌, subst, arith, inl, inr, length-append, ◌==◌, nat_le, nat_lt, OnOk, cases_Bool, eqb-true, eqb-false, eq-eqb, true≢false, nat_tests, Quota, IsWithinLimits, Refusal, OldTenant, BadAct, Full, StepOf, Admit, AdmitMore, Leave, DidOf, Functions, Job, Tenant, job_at, step-ended, IsOfSearches, tenant-none-bad, Outcome, unless, refusal_in, lone, lone_step, is_lower, tenant_of, CoreState, tenant_in, without_tenant, accounts_in, step_result, unless_beyond, shared_by_nobody, shared_refusal, newest_after, IsOneStep, AreNumbersGiven, IsAnswerTo, step-taken, shared-after-taken, there, more-there, tenant_in-with_outcome, tenant_in-other-without_tenant, one-step, Leaf, LeafAnswer, jamboree, IsSearch, AreSearches, job_of, origins_of, submits, TenantSearches, ServesSearches, origin_at, IsOutcomeIn, AnswersTo, IsJournalOf, journal-searches, journal-goes-on, journal-begins, others-stay, serial_in, is_long_step, long_steps, AreRising, all-push, all-with, all-without, said-lacks, has-above, inserted, said-with-other, said-without-own, said-without-other, rising-with, rising-without, length-with, length-without, JournalOf, journal_in, places_in, longs_in, owner_of_journal, has_journal, with_step, without_journal, total_length, places_for, longs_for, longs_with, raise_in, raise_count, reserved_in, admitted_journal, is_appended, longer, AreUpTo, AreBegun, HallOf, empty_hall, hall_after, Explains, IsExplained, IsHall, lets_go, KeepsEndedJobs}
+use Rattle.hall.proofs.Common.{all-map, rising-push, is_ok, false≢true, ◌≡◌, ◌≢◌, ℕ, ◌+◌, ◌*◌, ◌^◌, ◌<◌, ◌≤◌, Bool, true, false, ◌||◌, eqb, List, [], ◌∷◌, ◌++◌, length, Option, Some, None, Result, Ok, Err, refl, ap, sym, ◌∙◌, subst, arith, inl, inr, length-append, ◌==◌, nat_le, nat_lt, OnOk, cases_Bool, eqb-true, eqb-false, eq-eqb, true≢false, nat_tests, Quota, IsWithinLimits, Refusal, OldTenant, BadAct, Full, StepOf, Admit, AdmitMore, Leave, DidOf, Functions, Job, Tenant, job_at, step-ended, IsOfSearches, tenant-none-bad, Outcome, unless, refusal_in, lone, lone_step, tenant_of, CoreState, tenant_in, without_tenant, accounts_in, unless_beyond, shared_by_nobody, shared_refusal, newest_after, IsOneStep, AreNumbersGiven, IsAnswerTo, step-taken, shared-after-taken, there, more-there, tenant_in-with_outcome, tenant_in-other-without_tenant, one-step, Leaf, LeafAnswer, jamboree, IsSearch, AreSearches, job_of, origins_of, submits, TenantSearches, ServesSearches, origin_at, IsOutcomeIn, AnswersTo, IsJournalOf, journal-searches, journal-goes-on, journal-begins, others-stay, serial_in, is_long_step, long_steps, AreRising, all-push, all-with, all-without, said-lacks, has-above, inserted, said-with-other, said-without-own, said-without-other, rising-with, rising-without, length-with, length-without, JournalOf, journal_in, places_in, longs_in, owner_of_journal, has_journal, with_step, without_journal, total_length, places_for, longs_for, longs_with, raise_in, raise_count, reserved_in, admitted_journal, is_appended, longer, AreUpTo, AreBegun, HallOf, empty_hall, hall_after, Explains, IsExplained, IsHall, lets_go, KeepsEndedJobs}
 use Rattle.jamboree_core.specs.declared.outcomes.Outcome.{Outcome as Outcomes}
-use Rattle.hall.proofs.Lists.{IsAllowed, Brings, steps_of, longer-longs, step-own, step-total, step-begun, without-total, push-own, push-other, push-total, push-inserted, push-upto, total-within, IsAt, found-at}
+use Rattle.hall.proofs.Lists.{raise-more, raised-after, IsAllowed, steps_of, longer-longs, step-own, step-total, step-begun, without-total, push-own, push-other, push-total, push-inserted, push-upto, total-within, IsAt, found-at}
 use Rattle.hall.proofs.Using.{IsToldBy, step-used, serial-given, told-by}
 use Rattle.hall.proofs.Longs.{journal-longs}
 
@@ -87,13 +83,7 @@ pub record IsReady (hall : HallOf) (number : ℕ) (quota : Quota) : Type 0 where
 asked : {I : Type 0} (beyond : Bool) (functions : Functions I LeafAnswer) (own : Option Tenant) (number : ℕ) (quota : Quota) →
     refusal_in (unless_beyond beyond (lone functions own (AdmitMore number quota))) ≡ None → (tenant : Tenant) × (own ≡ Some tenant) × (tenant.reserve.nodes ≤ quota.nodes)
 asked beyond functions None number quota none = grind arith
-asked {I} beyond functions (Some tenant) number quota none = elim (cases_Bool (is_lower tenant.reserve quota)) [
-  | inl lower ↦ grind arith
-  | inr more ↦ (tenant, refl, not-fewer tenant.reserve quota more)
-]
-  where
-    not-fewer : (now quota : Quota) → is_lower now quota ≡ false → now.nodes ≤ quota.nodes
-    not-fewer now quota is = grind (arith, nat_tests)
+asked beyond functions (Some tenant) number quota none = (tenant, refl, grind (arith, nat_tests))
 
 module _ {hall : HallOf} (explained : IsExplained hall) {step : Step} where
   went-by : {after : CoreState} (own : Option Tenant) (outcome : Outcome Leaf) → is_appended step ≡ true → tenant_in hall.shared.tenants (tenant_of step) ≡ own →
@@ -139,9 +129,7 @@ pub record GoesOn (hall : HallOf) (latest count : ℕ) (step : Step) (after : Co
 
 -- why an admission wasn't refused
 no-refusal : {I : Type 0} (old full : Bool) (effect : Outcome I) → refusal_in (unless ((old, OldTenant) ∷ (full, Full) ∷ []) effect) ≡ None → (old ≡ false) × (full ≡ false)
-no-refusal false false effect none = (refl, refl)
-no-refusal {I = I} false true effect none = grind arith
-no-refusal {I = I} true full effect none = grind arith
+no-refusal old full effect none = grind arith
 
 numbered : (number newest : ℕ) → ((number == 0) || nat_le number newest || nat_lt (2 ^ 62) number) ≡ false → (newest < number) × (number ≤ 2 ^ 62)
 numbered number newest is_new = grind arith
@@ -177,22 +165,15 @@ few-journals (j ∷ js) es rising begun lacks =
     ]
 
 module _ {I A : Type 0} (functions : Functions I A) (before : CoreState) (step : StepOf A) where
-  refused-by : (refusal : Refusal) (result : Result (Outcome I) Refusal) → refusal_in result ≡ Some refusal → result ≡ Err refusal
-  refused-by refusal (Ok outcome) e = absurd cc
-  refused-by refusal (Err other) e = cc
-
   -- a step of the core that is refused
   pub refused : (refusal : Refusal) → shared_refusal functions before step ≡ Some refusal → IsOneStep functions before step (Err refusal) before
-  refused refusal some =
-      let is = refused-by refusal (step_result functions before step) some in
-      one-step functions before step (Err refusal) (record { told = rw is refl; left = rw is refl })
+  refused refusal some = one-step functions before step (Err refusal) (grind arith)
 
 -- after a Leave nobody is there
 module _ (hall : HallOf) (after : CoreState) (n : ℕ) where
   gone-by : (own : Option Tenant) (outcome : Outcome Leaf) → tenant_in hall.shared.tenants n ≡ own → lone {A = LeafAnswer} (jamboree hall.grain) own (Leave n) ≡ Ok outcome →
       tenant_in after.tenants n ≡ outcome.0 → ((tenant : Tenant) × (tenant_in hall.shared.tenants n ≡ Some tenant)) × (tenant_in after.tenants n ≡ None)
-  gone-by None outcome own taken found = grind (arith, there)
-  gone-by (Some tenant) outcome own taken found = grind arith
+  gone-by own outcome was taken found = grind (arith, there)
 
   gone-after : (did : DidOf Leaf) → AreNumbersGiven hall.shared → IsStepOf hall (Leave n) (Ok did) after →
       ((tenant : Tenant) × (tenant_in hall.shared.tenants n ≡ Some tenant)) × (tenant_in after.tenants n ≡ None)
@@ -254,7 +235,6 @@ module _ {hall : HallOf} {latest count : ℕ} (keeps : IsHall hall latest count)
       let searches = searches-push (journal_in hall.journals n) step (explained.searches n) search in
       let given = serial-given (jamboree hall.grain) went.tenant step (Some went.next, went.told) went.taken told.shape in
       let nodes = ap (λ (q : Quota). q.nodes) (told.reserve ∙ ap (λ (js : List Step). reserved_in js) at.steps) in
-      let B : Quota → Type 0 = λ q. Brings (raise_in step) q in
       let more = step-own n step hall.journals has in
       record {
         has = has;
@@ -276,6 +256,12 @@ module _ {hall : HallOf} {latest count : ℕ} (keeps : IsHall hall latest count)
           bounded = grind (arith, length-with, longer);
         });
       }
+
+  -- and so where its answer is seen to be Ok
+  pub goes-on-where-ok : {step : Step} (answer : Result (DidOf Leaf) Refusal) {after : CoreState} → is_ok answer ≡ true → IsStepOf hall step answer after → is_appended step ≡ true →
+      IsAllowed (raise_in step) → IsSearch step → AreNumbersGiven after → GoesOn hall latest count step after
+  goes-on-where-ok (Ok did) ok one goes allowed search known = goes-on one goes allowed search known
+  goes-on-where-ok (Err refusal) ok one goes allowed search known = absurd (false≢true ok)
 
   -- an admission that the core doesn't refuse: there is a place for its journal, behind all others
   lacking : (n : ℕ) → tenant_in hall.shared.tenants n ≡ None → journal_in hall.journals n ≡ []
@@ -360,11 +346,7 @@ answered grain shared n job journal result explains searches is asked = by (tena
 module _ (grain : ℕ) (before : CoreState) (number job : ℕ) (ended : Job) (known : AreNumbersGiven before) (at : job_of before number job ≡ Some ended) where
   stopped : (step : Step) (did : DidOf Leaf) → IsAnswerTo (jamboree grain) before step (Ok did) → is_appended step ≡ false → tenant_of step ≡ number → lets_go number step ≡ false → ⊥
   stopped (Admit n quota) did right stops mine stays =
-      let t = step-taken (jamboree grain) before (Admit n quota) did known right in by (tenant_in before.tenants n) refl t.outcome t.own
-    where
-      by : (own : Option Tenant) → tenant_in before.tenants n ≡ own → (outcome : Outcome Leaf) → lone {A = LeafAnswer} (jamboree grain) (tenant_in before.tenants n) (Admit n quota) ≡ Ok outcome → ⊥
-      by None own outcome taken = grind arith
-      by (Some tenant) own outcome taken = grind arith
+      let t = step-taken (jamboree grain) before (Admit n quota) did known right in grind arith
   stopped (Leave n) did right stops mine stays = grind (arith, true≢false, eq-eqb)
   stopped _ did right stops mine stays = true≢false stops
 

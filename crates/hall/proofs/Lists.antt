@@ -37,12 +37,6 @@ Brings (Some quota) now = now.segments + now.nodes + 1 ≤ quota.segments + quot
 abbrev pub steps_of : JournalOf → List Step
 steps_of journal = journal.steps
 
-abbrev pub places_of : JournalOf → ℕ
-places_of journal = journal.places
-
-abbrev pub longs_of : JournalOf → ℕ
-longs_of journal = journal.longs
-
 -- one more step
 module _ (n : ℕ) (step : Step) where
   pub step-own : (js : Js) → has_journal n js ≡ true → journal_in (with_step n step js) n ≡ journal_in js n ++ step ∷ []

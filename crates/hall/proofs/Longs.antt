@@ -59,7 +59,8 @@ longs-from functions before tenant (step ∷ steps) taken comes shape =
 from-admission : {I A : Type 0} {functions : Functions I A} (journal : List (StepOf A)) (tenant : Tenant) → IsJournalOf functions journal tenant →
     long_steps journal ≤ asked tenant + raise_count journal + answer_count journal + 1
 from-admission [] tenant is = grind arith
-from-admission {functions} (Admit number quota ∷ later) tenant is = (let all = longs-from functions (admitted_with quota) tenant later is.taken.1 is.comes (admitted-shaped quota) in omega (arith, all))
+from-admission {functions} (Admit number quota ∷ later) tenant is =
+    let all = longs-from functions (admitted_with quota) tenant later is.taken.1 is.comes (admitted-shaped quota) in omega (arith, all)
 from-admission (_ ∷ later) tenant is = absurd is.taken.0
 
 -- how many steps of a journal of searches are kept in long entries at most

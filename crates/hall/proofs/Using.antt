@@ -17,15 +17,13 @@ HasUsed goes raise tenant (Some after) = UsedBy raise (uses tenant) (uses after)
 -- one more job, which lives
 ended-append : (root : ℕ) (jobs : List Job) → ended_count (jobs ++ Live root ∷ []) ≡ ended_count jobs
 ended-append root [] = refl
-ended-append root (Live s ∷ jobs) = ended-append root jobs
-ended-append root (_ ∷ jobs) = grind (arith, ended-append root jobs)
+ended-append root (job ∷ jobs) = grind (arith, ended-append root jobs)
 
 -- the jobs under a root have ended
 module _ (root : ℕ) (end : Job) where
   pub ended-more : (jobs : List Job) → HasEnded end → ended_count (with_ended root end jobs) ≡ ended_count jobs + live_count root jobs
   ended-more [] has = omega arith
-  ended-more (Live s ∷ jobs) has = grind (arith, ended-more jobs has)
-  ended-more (_ ∷ jobs) has = grind (arith, ended-more jobs has)
+  ended-more (job ∷ jobs) has = grind (arith, ended-more jobs has)
 
 -- one job lives under the root of a frame
 one-lives : (jobs : List Job) (xs : Tree) (root : ℕ) → AreRootsLive jobs xs → path_in xs root ≡ root ∷ [] → live_count root jobs ≡ 1
@@ -64,8 +62,7 @@ module _ {I A : Type 0} (functions : Functions I A) (tenant : Tenant) where
 -- no more jobs have ended than there are
 pub ended-few : (jobs : List Job) → ended_count jobs ≤ length jobs
 ended-few [] = omega arith
-ended-few (Live root ∷ jobs) = grind (arith, ended-few jobs)
-ended-few (_ ∷ jobs) = grind (arith, ended-few jobs)
+ended-few (job ∷ jobs) = grind (arith, ended-few jobs)
 
 -- a step that was taken leaves a tenant, from which the others go on
 pub record IsFollowed {I A : Type 0} (functions : Functions I A) (before tenant : Tenant) (step : StepOf A) (steps : List (StepOf A)) : Type 0 where

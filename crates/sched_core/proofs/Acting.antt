@@ -1,6 +1,6 @@
 -- The core does an act: what a procedure makes of a running frame (going on, growing, spawning, computing, waiting,
 -- returning), and of an answer to one that computes.
-use Rattle.sched_core.proofs.Common.{◌≡◌, ℕ, ◌+◌, ◌⊎◌, inl, inr, Bool, true, false, List, ◌++◌, Some, None, Ok, refl, arith, replicate, FrameId, State, Computing, Waiting, Returned, frame_at, Act, Continuation, Grow, Spawn, Go, Wait, Compute, Return, Advance, Answer, DidOf, Went, Grew, Spawned, Waited, Functions, Tenant, stored, has_child, is_held_by, is_root, unless, act_tests, is_computed_by, holding, opened, in_state, answer_tests, answered, advance_tests, advanced, act_by_sight, then_done, on_tenant, named, CoreState, tenant_in, step_result, shared_refusal, frame_at-with_frame_words, frames_in_core, serials_in, words_under, sight_of, may_hold, holds, IsCome, Seen, GoesOn, IsRunning, AllPass, F}
+use Rattle.sched_core.proofs.Common.{◌≡◌, ℕ, ◌+◌, ◌⊎◌, Bool, true, false, List, ◌++◌, Some, None, Ok, arith, replicate, FrameId, State, Computing, Waiting, Returned, frame_at, Act, Continuation, Grow, Spawn, Go, Wait, Compute, Return, Advance, Answer, Went, Grew, Spawned, Waited, Functions, Tenant, stored, has_child, is_held_by, is_root, unless, act_tests, is_computed_by, holding, opened, in_state, answer_tests, answered, advance_tests, advanced, then_done, on_tenant, named, CoreState, tenant_in, step_result, shared_refusal, frame_at-with_frame_words, frames_in_core, serials_in, words_under, sight_of, may_hold, IsCome, Seen, IsRunning, AllPass, F}
 use Rattle.sched_rules.specs.declared.step.DidOf.TheVariants.{Computing as IsComputing, Returned as HasReturned}
 use Rattle.sched_core.proofs.Deciding.{advance-told}
 use Rattle.sched_core.proofs.TakenStep.{IsWith, IsGoing, begins, then-changed}
@@ -13,11 +13,6 @@ module _ {I A : Type 0} {functions : Functions I A} {shared : CoreState} {worker
       (λ tenant frame. answered functions tenant worker frame answer)
   answer-going none = grind arith
 
-  pub advance-going : None ≡ shared_refusal functions shared (Advance worker name) →
-      IsGoing functions shared (Advance worker name) name (λ tenant frame. advance_tests tenant worker frame (act_by_sight functions tenant frame))
-      (λ tenant frame. advanced functions tenant worker name frame (act_by_sight functions tenant frame))
-  advance-going none = grind arith
-
 -- an act that may be done: no test applies, and this comes of it
 pub record IsSetOut {I A : Type 0} (functions : Functions I A) (shared : CoreState) (worker : ℕ) (name : FrameId) (tenant : Tenant) (frame : F)
     (act : Act) : Type 0 where
@@ -27,20 +22,10 @@ pub record IsSetOut {I A : Type 0} (functions : Functions I A) (shared : CoreSta
   pub among : step_result functions shared (Advance worker name) ≡ Ok (advanced functions tenant worker name frame act)
 
 module _ {I A : Type 0} {functions : Functions I A} {shared : CoreState} {worker : ℕ} {name : FrameId} {tenant : Tenant} {frame : F} where
-  sets-out-as : {act : Act} (t : IsGoing functions shared (Advance worker name) name
-      (λ tenant frame. advance_tests tenant worker frame (act_by_sight functions tenant frame))
-      (λ tenant frame. advanced functions tenant worker name frame (act_by_sight functions tenant frame))) →
-      tenant_in shared.tenants name.tenant ≡ Some tenant → frame_at tenant.frames name.serial ≡ Some frame → act ≡ act_by_sight functions tenant frame →
-      IsSetOut functions shared worker name tenant frame act
-  sets-out-as t owner found next = grind arith
-
   pub sets-out : {seen : Seen} {act : Act} → IsRunning shared name worker tenant frame seen → act ≡ functions.next (sight_of shared name) →
       Ok (tt {0}) ≡ unless (act_tests tenant frame act) (tt {0}) → IsSetOut functions shared worker name tenant frame act
-  sets-out {seen} {act} is same told =
-      let t = advance-going (advance-told functions worker same told is) in
-      let owner = is.seen_so.owner in
-      let found = is.seen_so.found in
-      sets-out-as t owner found (rw (owner, found) at same)
+  sets-out is same told =
+      let none = advance-told functions worker same told is in grind arith
 
 -- a worker that computes or runs a frame holds it
 pub computes-holds : (worker : ℕ) (state : State) → is_computed_by worker state ≡ true → is_held_by worker state ≡ true
@@ -58,10 +43,6 @@ pub held-at : (serial : ℕ) (words : List ℕ) (tenant : Tenant) {frame : F} �
 held-at serial words tenant {frame} found = grind (arith, frame_at-with_frame_words)
 
 -- what comes after the stores of an act, case by case
-came : {I : Type 0} {number : ℕ} {tenant : Tenant} {before : CoreState} {told did : DidOf I} {after : CoreState} → IsWith before number tenant after →
-    did ≡ told → IsCome number (Some tenant, told) before did after
-came {told} is same = record { told = same; left = is.is }
-
 module _ {I A : Type 0} (functions : Functions I A) (shared : CoreState) (worker : ℕ) (name : FrameId) {tenant : Tenant} (frame : F)
     {act : Continuation} (owner : tenant_in shared.tenants name.tenant ≡ Some tenant) where
   pub go-came : act ≡ Go → IsCome name.tenant (then_done functions tenant worker name frame.path frame.value act) shared Went shared
@@ -70,40 +51,24 @@ module _ {I A : Type 0} (functions : Functions I A) (shared : CoreState) (worker
   pub grow-came : {now : CoreState} {more : ℕ} → act ≡ Grow more → frame_at tenant.frames name.serial ≡ Some frame →
       now ≡ on_tenant name.tenant (holding name.serial (words_under shared name ++ replicate more 0)) shared →
       IsCome name.tenant (then_done functions tenant worker name frame.path frame.value act) shared Grew now
-  grow-came {now} {more} is found grows =
-      let words = named-words shared name owner found in
-      let grows' : now ≡ on_tenant name.tenant (holding name.serial (frame.value ++ replicate more 0)) shared = rw words at grows in
-      rw is (came
-      (then-changed (holding name.serial (frame.value ++ replicate more 0)) (begins name.tenant shared owner) grows') refl)
+  grow-came {now} {more} is found grows = let w = then-changed (holding name.serial (frame.value ++ replicate more 0)) (begins name.tenant shared owner) (rw (named-words shared name owner found) at grows) in grind arith
 
   pub spawn-came : {now : CoreState} {child : FrameId} {given : List ℕ} {size : ℕ} → act ≡ Spawn given size →
       now ≡ on_tenant name.tenant (opened (Some name.serial) given size worker) shared →
       child ≡ record { tenant = name.tenant; serial = serials_in shared name.tenant + 1 } →
       IsCome name.tenant (then_done functions tenant worker name frame.path frame.value act) shared (Spawned child) now
-  spawn-came {child} {given} {size} is opens named =
-      let at : child ≡ record { tenant = name.tenant; serial = tenant.serials + 1 } = rw owner at named in
-      let told : ◌≡◌ {A = DidOf I} (Spawned child) (Spawned (record { tenant = name.tenant; serial = tenant.serials + 1 })) = rw at refl in
-      rw is (came
-      (then-changed (opened (Some name.serial) given size worker) (begins name.tenant shared owner) opens) told)
+  spawn-came {child} {given} {size} is opens named = let w = then-changed (opened (Some name.serial) given size worker) (begins name.tenant shared owner) opens in grind arith
 
   pub compute-came : {now : CoreState} {input : I} → act ≡ Compute → frame_at tenant.frames name.serial ≡ Some frame →
       now ≡ on_tenant name.tenant (in_state name.serial (Computing worker)) shared → input ≡ functions.input (words_under shared name) →
       IsCome name.tenant (then_done functions tenant worker name frame.path frame.value act) shared (IsComputing input) now
-  compute-came {input} is found changes same =
-      let words = named-words shared name owner found in
-      let told : ◌≡◌ {A = DidOf I} (IsComputing input) (IsComputing (functions.input frame.value)) = rw (same, words) refl in
-      rw is (came
-      (then-changed (in_state name.serial (Computing worker)) (begins name.tenant shared owner) changes) told)
+  compute-came {input} is found changes same = let w = then-changed (in_state name.serial (Computing worker)) (begins name.tenant shared owner) changes in grind (arith, named-words)
 
   -- Wait and Return, of a frame with a child
   pub waits-came : {now : CoreState} → (act ≡ Wait) ⊎ (act ≡ Return) → has_child (frames_in_core shared name.tenant) name.serial ≡ true →
       now ≡ on_tenant name.tenant (in_state name.serial Waiting) shared →
       IsCome name.tenant (then_done functions tenant worker name frame.path frame.value act) shared Waited now
-  waits-came which child changes =
-      let own : has_child tenant.frames name.serial ≡ true = rw owner at child in
-      let w = then-changed (in_state name.serial Waiting) (begins name.tenant shared owner) changes in
-      let waits = came {I = I} w refl in
-      elim which [ inl is ↦ rw (is, own) waits | inr is ↦ rw (is, own) waits ]
+  waits-came which child changes = let w = then-changed (in_state name.serial Waiting) (begins name.tenant shared owner) changes in grind arith
 
   -- and of one without
   pub wait-came : act ≡ Wait → has_child (frames_in_core shared name.tenant) name.serial ≡ false →
@@ -113,15 +78,7 @@ module _ {I A : Type 0} (functions : Functions I A) (shared : CoreState) (worker
   pub return-came : {now : CoreState} {top : Bool} → act ≡ Return → frame_at tenant.frames name.serial ≡ Some frame →
       has_child (frames_in_core shared name.tenant) name.serial ≡ false → now ≡ on_tenant name.tenant (in_state name.serial Returned) shared →
       top ≡ is_root frame.path → IsCome name.tenant (then_done functions tenant worker name frame.path frame.value act) shared (HasReturned top) now
-  return-came {top} is found leaf changes same =
-      let own : has_child tenant.frames name.serial ≡ false = rw owner at leaf in
-      let told : ◌≡◌ {A = DidOf I} (HasReturned top) (HasReturned (is_root frame.path)) = rw same refl in
-      rw (is, own) (came
-      (then-changed (in_state name.serial Returned) (begins name.tenant shared owner) changes) told)
-
-pub held-by-runner : {shared : CoreState} {name : FrameId} {worker : ℕ} {after : Continuation} {tenant : Tenant} {frame : F} →
-    GoesOn shared name worker after tenant frame → holds worker (named shared name) ≡ true
-held-by-runner on = grind arith
+  return-came {top} is found leaf changes same = let w = then-changed (in_state name.serial Returned) (begins name.tenant shared owner) changes in grind arith
 
 -- an answer that the frame's tenant allows, once the procedure's stores of it are made
 pub record IsAnswered {I A : Type 0} (functions : Functions I A) (shared : CoreState) (worker : ℕ) (name : FrameId) (answer : A)

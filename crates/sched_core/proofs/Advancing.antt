@@ -1,5 +1,5 @@
 -- The core does an act of a running frame: its stores, and then what comes after them.
-use Rattle.sched_core.proofs.Common.{[], ◌≡◌, ℕ, ◌+◌, Bool, false, List, ◌∷◌, Option, Some, None, Ok, refl, arith, IsSome, nat_tests, FrameId, frame_at, tree-rising, found-serial, Act, Continuation, Grow, Advance, DidOf, Functions, Tenant, stored, with_frame_words, charged_for, is_outside, is_root, holding, counted, segments_for, then_done, on_tenant, named, CoreState, with_tenant, without_tenant, with_outcome, IsShaped, AreShaped, shaped-in, length-stored, children_of-with_frame_words, length-with_frame_words, charged-with_frame_words, TenantHasStepLeft, words_under, GoesOn, FollowsResult, IsCome, F}
+use Rattle.sched_core.proofs.Common.{[], ◌≡◌, ℕ, Bool, false, List, ◌∷◌, Option, Some, Ok, arith, IsSome, nat_tests, FrameId, frame_at, tree-rising, found-serial, Act, Continuation, Advance, DidOf, Functions, Tenant, stored, with_frame_words, charged_for, is_outside, is_root, holding, counted, segments_for, then_done, on_tenant, named, CoreState, with_tenant, without_tenant, with_outcome, IsShaped, AreShaped, shaped-in, length-stored, children_of-with_frame_words, length-with_frame_words, charged-with_frame_words, TenantHasStepLeft, words_under, GoesOn, FollowsResult, IsCome, F}
 use Rattle.std.specs.Prelude.{length}
 use Rattle.sched_core.proofs.TakenStep.{IsWith, with_tenant-twice, begins, then-changed}
 use Rattle.sched_core.proofs.Acting.{IsSetOut, held-at}
@@ -10,22 +10,17 @@ module _ (n : ℕ) (t : Tenant) where
   without-with (e ∷ es) = grind (arith, without-with es, nat_tests)
 
   outcome-with : (outcome : Option Tenant) (es : List (ℕ × Tenant)) → with_outcome n outcome (with_tenant n t es) ≡ with_outcome n outcome es
-  outcome-with None es = without-with es
-  outcome-with (Some other) es = with_tenant-twice n t other es
+  outcome-with outcome es = grind (arith, without-with, with_tenant-twice)
 
 segments-as : (frame : F) (words : List ℕ) (after : Continuation) → length words ≡ length frame.value →
     segments_for (record frame { value = words }) after ≡ segments_for frame after
-segments-as frame words (Grow more) same = rw same refl
-segments-as frame words _ same = refl
+segments-as frame words after same = grind arith
 
 module _ (serial : ℕ) (words : List ℕ) {tenant : Tenant} (shape : IsShaped tenant) where
   charged-as : (frame : F) → frame_at tenant.frames serial ≡ Some frame → length words ≡ length frame.value →
       charged_for (with_frame_words serial words tenant.frames) ≡ charged_for tenant.frames
   charged-as frame found same =
-      let sum = charged-with_frame_words serial words tenant.frames frame (tree-rising tenant.frames shape.tree) found in grind arith
-    where
-      cancel : (a b : ℕ) {c d : ℕ} → d ≡ c → a + c ≡ b + d → a ≡ b
-      cancel a b e sum = omega arith
+      let sum = charged-with_frame_words serial words tenant.frames frame (tree-rising tenant.frames shape.tree) found in omega arith
 
 -- an act that may be done: the step is counted, and then the stores are done
 module _ {I A : Type 0} {functions : Functions I A} {shared : CoreState} {worker : ℕ} {name : FrameId} {tenant : Tenant} {frame : F} {act : Act}
@@ -45,7 +40,7 @@ module _ {I A : Type 0} {functions : Functions I A} {shared : CoreState} {worker
 
     -- and is still there
     pub counted-there : IsSome (named now name)
-    counted-there = rw (counted-is.there, t.found) refl
+    counted-there = grind (arith, counted-is)
 
     -- no store is outside it
     pub counted-inside : is_outside act.stores (words_under now name) ≡ false

@@ -52,7 +52,6 @@ module _ {I A : Type 0} (functions : Functions I A) (shared : CoreState) (number
 
   pub raise-taken : {after : CoreState} → None ≡ shared_refusal functions shared (AdmitMore number quota) →
       after ≡ on_tenant number (with_reserve quota) shared → FollowsResult functions shared (AdmitMore number quota) (Ok AdmittedMore) after
-  raise-taken none is =
+  raise-taken {after} none is =
       let r = raise-going none in
-      let w1 = then-changed (with_reserve quota) (begins number shared r.owner) is in
-      step_result-taken r.among refl w1.is
+      let w = then-changed (with_reserve quota) (begins number shared r.owner) is in grind arith

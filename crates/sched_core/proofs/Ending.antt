@@ -72,4 +72,4 @@ module _ (shared : CoreState) (name : FrameId) {tenant : Tenant} {frame : F} (ow
 
   -- the words of a frame
   pub named-words : words_under shared name ≡ frame.value
-  named-words = rw (owner, found) refl
+  named-words = grind arith

@@ -39,8 +39,7 @@ module _ (fits : Fitting) (rooted : Rooting) where
       IsReturnedUnder shared name above tenant frame seen → AllFit fits (words_under shared above ∷ words_under shared name ∷ [])
   parent-fits {shared} {name} {above} {tenant} {frame} {seen} core is =
       let p = parent-of is.seen_so is.above in
-      let fit = found-fits fits tenant.frames (tenant-fits fits rooted core is.seen_so) p.serial p.parent p.found in
-      (rw (p.is, is.seen_so.owner, p.found) fit, own-fits fits rooted core is.seen_so)
+      (rw (p.is, is.seen_so.owner, p.found) (found-fits fits tenant.frames (tenant-fits fits rooted core is.seen_so) p.serial p.parent p.found), own-fits fits rooted core is.seen_so)
 
   -- a core with no tenant
   pub nobody-kept : (totals : Quota) → IsKeptFitting fits rooted true (shared_by_nobody totals)

@@ -1,44 +1,8 @@
 -- The core does an inlet: a returned frame is taken in by its parent.
-use Rattle.sched_core.proofs.Common.{[], ◌≡◌, if◌then◌else◌, ◌≢◌, ℕ, ◌<◌, ◌==◌, Bool, true, false, List, ◌∷◌, Some, None, Ok, refl, sym, ◌∙◌, arith, ◌||◌, ◌&&◌, not, IsSome, eq-eqb, FrameId, State, Ready, frame_at, name_of, parent_of, goes_under, aborted, frames_without, IsTree, Each, tree-rising, found-each, found-serial, there-found, under-there, under-below, child-under-parent, aborted-itself, frame_at-other-without, BadAct, Busy, InletAct, Inlet, TakenIn, Functions, Tenant, Tree, words_in, is_outside, has_child, stored, unless, inlet_tests, taken_in, staying, aborted_beside, does_wait, is_waiting, holding, counted, in_state, on_tenant, named, CoreState, tenant_in, step_result, shared_refusal, AreShaped, shaped-in, returned-leaf, is_busy_among, AreTenantsRising, words_under, frames_in_core, TenantHasStepLeft, Seen, MayBeTakenIn, IsReturnedUnder, FollowsResult, staying_with, AllPass, F}
-use Rattle.sched_core.proofs.Deciding.{some-is}
-use Rattle.sched_core.proofs.Parents.{inlet-told}
+use Rattle.sched_core.proofs.Common.{[], ◌≡◌, if◌then◌else◌, ◌≢◌, ℕ, ◌<◌, ◌==◌, Bool, true, false, List, ◌∷◌, Some, None, Ok, refl, arith, ◌||◌, ◌&&◌, not, IsSome, eq-eqb, FrameId, State, Ready, frame_at, parent_of, goes_under, aborted, frames_without, IsTree, Each, tree-rising, found-each, found-serial, there-found, under-there, under-below, child-under-parent, aborted-itself, frame_at-other-without, BadAct, Busy, InletAct, Inlet, TakenIn, Functions, Tenant, Tree, words_in, is_outside, has_child, stored, unless, inlet_tests, taken_in, staying, aborted_beside, does_wait, is_waiting, holding, counted, in_state, on_tenant, named, CoreState, tenant_in, step_result, AreShaped, shaped-in, returned-leaf, is_busy_among, AreTenantsRising, words_under, frames_in_core, TenantHasStepLeft, Seen, MayBeTakenIn, IsReturnedUnder, FollowsResult, staying_with, AllPass, F}
+use Rattle.sched_core.proofs.Parents.{parent-of, inlet-told}
 use Rattle.sched_core.proofs.TakenStep.{all-pass, IsWith, begins, then-changed, step-left}
 use Rattle.sched_core.proofs.Acting.{held-at}
-
--- what an inlet that is taken comes to
-pub record IsInlet {I A : Type 0} (functions : Functions I A) (shared : CoreState) (worker : ℕ) (name : FrameId) : Type 0 where
-  pub tenant : Tenant
-  pub frame : F
-  pub parent : ℕ
-  pub owner : tenant_in shared.tenants name.tenant ≡ Some tenant
-  pub found : frame_at tenant.frames name.serial ≡ Some frame
-  pub path : parent_of frame.path ≡ Some parent
-  pub passes : AllPass (inlet_tests tenant worker frame parent (functions.inlet (words_in tenant.frames parent) frame.value))
-  pub among : step_result functions shared (Inlet worker name)
-      ≡ Ok (taken_in tenant worker name parent (functions.inlet (words_in tenant.frames parent) frame.value))
-
--- the frame, and that it has a parent
-record HasParent (shared : CoreState) (name : FrameId) : Type 0 where
-  tenant : Tenant
-  frame : F
-  parent : ℕ
-  owner : tenant_in shared.tenants name.tenant ≡ Some tenant
-  found : frame_at tenant.frames name.serial ≡ Some frame
-  path : parent_of frame.path ≡ Some parent
-
-module _ {I A : Type 0} (functions : Functions I A) (shared : CoreState) (worker : ℕ) (name : FrameId) (none : None ≡ shared_refusal functions shared (Inlet worker name)) where
-  has-parent : HasParent shared name
-  has-parent = grind arith
-
-  inlet-at : (tenant : Tenant) (frame : F) (parent : ℕ) → tenant_in shared.tenants name.tenant ≡ Some tenant → frame_at tenant.frames name.serial ≡ Some frame →
-      parent_of frame.path ≡ Some parent → IsInlet functions shared worker name
-  inlet-at tenant frame parent owner found path = grind (arith, all-pass)
-
-pub inlet-going : {I A : Type 0} {functions : Functions I A} {shared : CoreState} {worker : ℕ} {name : FrameId} →
-    None ≡ shared_refusal functions shared (Inlet worker name) → IsInlet functions shared worker name
-inlet-going {functions = functions} {shared = shared} {worker = worker} {name = name} none =
-    let h = has-parent functions shared worker name none in
-    inlet-at functions shared worker name none h.tenant h.frame h.parent h.owner h.found h.path
 
 -- an inlet that may be done: no test applies, and this comes of it
 pub record IsTakingIn {I A : Type 0} (functions : Functions I A) (shared : CoreState) (worker : ℕ) (name above : FrameId) (tenant : Tenant)
@@ -53,17 +17,11 @@ pub record IsTakingIn {I A : Type 0} (functions : Functions I A) (shared : CoreS
 
 module _ {I A : Type 0} (functions : Functions I A) {shared : CoreState} {worker : ℕ} {name above : FrameId} {tenant : Tenant} {frame : F}
     {act : InletAct} (does : act ≡ functions.inlet (words_under shared above) (words_under shared name)) where
-  takes-in-as : (t : IsInlet functions shared worker name) → tenant_in shared.tenants name.tenant ≡ Some tenant →
-      frame_at tenant.frames name.serial ≡ Some frame → name_of name.tenant (parent_of frame.path) ≡ Some above →
-      IsTakingIn functions shared worker name above tenant frame act
-  takes-in-as t owner found names = grind (arith, some-is)
-
   pub takes-in : {seen : Seen} → IsReturnedUnder shared name above tenant frame seen → AreTenantsRising shared.tenants →
       Ok (tt {0}) ≡ unless ((is_outside act.stores (words_under shared above), BadAct) ∷ (is_busy_among worker shared.tenants, Busy) ∷ []) (tt {0}) →
       IsTakingIn functions shared worker name above tenant frame act
-  takes-in {seen} is rising told =
-      let t = inlet-going (inlet-told functions worker rising is does told) in
-      takes-in-as t is.seen_so.owner is.seen_so.found (sym is.seen_so.parent ∙ is.above)
+  takes-in {seen} is rising told = let none = inlet-told functions worker rising is does told in
+      let p = parent-of is.seen_so is.above in grind (arith, all-pass)
 
 -- it may be taken in
 pub may-be-taken-in : {I A : Type 0} {functions : Functions I A} {shared : CoreState} {worker : ℕ} {name above : FrameId} {tenant : Tenant}
@@ -85,8 +43,7 @@ module _ (frames : List F) (child parent : ℕ) (frame : F) (tree : IsTree frame
 
   pub parent-stays : (abort : Bool) (above : F) → frame_at frames parent ≡ Some above →
       frame_at (staying frames child parent abort) parent ≡ Some above
-  parent-stays true above at = aborted-itself parent frames above tree at
-  parent-stays false above at = stays-beside above at
+  parent-stays abort above at = grind (arith, aborted-itself, stays-beside)
 
 -- the child is taken out, and the parent stays
 pub record IsTakenOut {I A : Type 0} (functions : Functions I A) (shared : CoreState) (worker : ℕ) (name above : FrameId) (tenant : Tenant)

@@ -1,7 +1,7 @@
 -- The parent of a frame that the core has looked up.
-use Rattle.sched_core.proofs.Common.{[], ◌≡◌, ℕ, Bool, ◌∷◌, Option, Some, None, Result, Ok, refl, sym, ◌∙◌, arith, IsSome, not, FrameId, frame_at, name_of, parent_of, there-found, under-there, Refusal, NotReturned, NoSteps, BadAct, Busy, InletAct, Inlet, Functions, Tenant, words_in, is_outside, left, unless, refusal_in, is_returned, taken_in, named, CoreState, shared_refusal, Seen, is_busy_among, AreTenantsRising, words_under, IsSeen, IsReturnedUnder, F, List}
+use Rattle.sched_core.proofs.Common.{[], ◌≡◌, ℕ, ◌∷◌, Option, Some, None, Result, refl, sym, ◌∙◌, arith, IsSome, not, FrameId, frame_at, name_of, parent_of, there-found, under-there, Refusal, NotReturned, NoSteps, BadAct, Busy, InletAct, Inlet, Functions, Tenant, words_in, is_outside, left, unless, refusal_in, is_returned, named, CoreState, shared_refusal, Seen, is_busy_among, AreTenantsRising, words_under, IsSeen, IsReturnedUnder, F}
 use Rattle.std.specs.Prelude.{◌==◌}
-use Rattle.sched_core.proofs.Deciding.{busy-anywhere, seen-words}
+use Rattle.sched_core.proofs.Deciding.{busy-among}
 
 -- the parent that is named
 pub record IsParent (shared : CoreState) (name : FrameId) (tenant : Tenant) (frame : F) (above : FrameId) : Type 0 where
@@ -39,29 +39,15 @@ module _ {I A : Type 0} (functions : Functions I A) {shared : CoreState} (worker
       refusal_in (unless ((not (is_returned seen.state), NotReturned) ∷ (seen.left.steps == 0, NoSteps)
       ∷ (is_outside act.stores (words_under shared above), BadAct) ∷ (is_busy_among worker shared.tenants, Busy) ∷ []) (tt {0}))
       ≡ shared_refusal functions shared (Inlet worker name)
-  inlet-under parent path words same =
-      let inlet = functions.inlet (words_in tenant.frames parent) frame.value in
-      let outside = is_outside inlet.stores (words_in tenant.frames parent) in
-      let tests : List (Bool × Refusal) = (not (is_returned frame.state), NotReturned) ∷ ((left tenant).steps == 0, NoSteps) ∷ (outside, BadAct) ∷ [] in
-      rw (same, words, sym (seen-words is), is.state, is.left, is.owner, is.found, path)
-      (busy-anywhere {I = I} tests shared worker name.tenant (taken_in tenant worker name parent inlet) rising is.owner)
+  inlet-under parent path words same = grind (arith, busy-among worker name.tenant shared.tenants tenant rising is.owner)
 
 -- Inlet, where the frame has returned and a step is left, by the tests of the inlet
 module _ {I A : Type 0} (functions : Functions I A) {shared : CoreState} (worker : ℕ) {name : FrameId} {tenant : Tenant} {frame : F} {seen : Seen}
     {above : FrameId} {act : InletAct} {answer : Result (Unit {0}) Refusal} (rising : AreTenantsRising shared.tenants) where
-  pub inlet-goes : {returned outside busy : Bool} → IsSeen shared name tenant frame seen → seen.parent ≡ Some above →
-      act ≡ functions.inlet (words_under shared above) (words_under shared name) → returned ≡ is_returned seen.state →
-      outside ≡ is_outside act.stores (words_under shared above) → busy ≡ is_busy_among worker shared.tenants →
-      Ok (tt {0}) ≡ unless ((not returned, NotReturned) ∷ (seen.left.steps == 0, NoSteps) ∷ []) (tt {0}) →
-      answer ≡ unless ((outside, BadAct) ∷ (busy, Busy) ∷ []) (tt {0}) → refusal_in answer ≡ shared_refusal functions shared (Inlet worker name)
-  inlet-goes is at same r o b passes told = grind (arith, parent-of, inlet-under, parent-words)
-
   pub inlet-told : IsReturnedUnder shared name above tenant frame seen → act ≡ functions.inlet (words_under shared above) (words_under shared name) →
       answer ≡ unless ((is_outside act.stores (words_under shared above), BadAct) ∷ (is_busy_among worker shared.tenants, Busy) ∷ []) (tt {0}) →
       refusal_in answer ≡ shared_refusal functions shared (Inlet worker name)
-  inlet-told is same told =
-      inlet-goes is.seen_so is.above same
-      (sym is.returned) refl refl (rw is.some refl) told
+  inlet-told is same told = grind (arith, parent-of, inlet-under, parent-words)
 
 -- the parent of a frame is there
 pub ruleset parent_there = (parent-there)

@@ -9,8 +9,7 @@ rest-of {shared} number kept = grind (arith, shaped-in, left-nodes, left-steps)
 -- its newest ready frame
 newest-in : (number : ℕ) (tenant : Tenant) (ready : Option (FrameId × ℕ)) → IsShaped tenant → newest_ready_of number tenant.frames ≡ ready →
     IfSome ready (λ r. IsNewestReadyOf (Some tenant) number r.0 r.1)
-newest-in number tenant None shape is = tt
-newest-in number tenant (Some ready) shape is = newest-found number tenant.frames ready.0 ready.1 (tree-rising tenant.frames shape.tree) is
+newest-in number tenant ready shape is = grind (arith, newest-found, tree-rising)
 
 pub newest-of : {shared : CoreState} (number : ℕ) → IsKeptCore shared →
     IfSome (newest_ready_in shared number) (λ ready. IsNewestReadyOf (tenant_in shared.tenants number) number ready.0 ready.1)

@@ -20,14 +20,13 @@ module _ {I A : Type 0} (functions : Functions I A) (before : CoreState) (step :
 -- what follows from one step
 module _ {I A : Type 0} {functions : Functions I A} {before : CoreState} {step : StepOf A} {after : CoreState} where
   pub stays-on-err : (answer : Result (DidOf I) Refusal) → IsOneStep functions before step answer after → OnErr answer (after ≡ before)
-  stays-on-err (Ok did) is = tt
-  stays-on-err (Err refusal) is = is.left
+  stays-on-err answer is = grind arith
 
   -- no tenant is there under a number that wasn't taken
   pub known-still : (answer : Result (DidOf I) Refusal) → AreNumbersGiven before → IsOneStep functions before step answer after → AreNumbersGiven after
   known-still (Ok did) known is =
-      let t = step-taken functions before step did known is.answered in rw (is.left, shared-after-taken functions before step did t) t.known
-  known-still (Err refusal) known is = rw is.left known
+      let t = step-taken functions before step did known is.answered in grind (arith, shared-after-taken)
+  known-still (Err refusal) known is = grind arith
 
   -- a core keeps what it keeps
   pub kept-still : (answer : Result (DidOf I) Refusal) → IsKeptCore before → IsOneStep functions before step answer after → IsKeptCore after
@@ -69,7 +68,7 @@ module _ {I A : Type 0} {functions : Functions I A} {before : CoreState} {steps 
   runs-on {step} {answer} runs is =
       record {
         answered = runs.answered ++ answer ∷ [];
-        appended = rw runs.appended (append_assoc earlier runs.answered (answer ∷ []));
+        appended = grind (arith, append_assoc);
         right = grind (arith, answers-snoc);
         left = grind (arith, after-snoc);
       }

@@ -1,5 +1,5 @@
 -- A step that the core takes: what it comes to, and one change of its tenant after another.
-use Rattle.sched_core.proofs.Common.{[], ◌≡◌, ℕ, ◌==◌, Bool, true, false, List, ◌∷◌, Option, Some, None, Result, Ok, Err, inl, inr, refl, sym, arith, MatchResult, OnOk, OnErr, nat_tests, FrameId, State, Running, frame_at, Refusal, OutOfMemory, StepOf, Take, Steal, DidOf, Functions, Tenant, left, Outcome, unless, refusal_in, take_tests, steal_tests, taken_by, in_state, counted, on_tenant, CoreState, tenant_in, with_tenant, unless_busy, step_result, shared_refusal, shared_with, tenant_in-with_tenant, AllPass, TenantHasStepLeft, FollowsResult, IsAdmitted, F, ◌++◌, with_change}
+use Rattle.sched_core.proofs.Common.{[], ◌≡◌, ℕ, ◌==◌, Bool, false, List, ◌∷◌, Option, Some, None, Result, Ok, Err, refl, arith, MatchResult, OnOk, OnErr, nat_tests, FrameId, State, Running, frame_at, Refusal, OutOfMemory, StepOf, Take, Steal, DidOf, Functions, Tenant, left, Outcome, unless, refusal_in, take_tests, steal_tests, taken_by, in_state, counted, on_tenant, CoreState, tenant_in, with_tenant, unless_busy, step_result, shared_refusal, shared_with, tenant_in-with_tenant, AllPass, TenantHasStepLeft, FollowsResult, IsAdmitted, F, ◌++◌, with_change}
 use Rattle.sched_core.proofs.Deciding.{some-is}
 
 abbrev Entries : Type 0
@@ -30,16 +30,13 @@ module _ {I A : Type 0} {functions : Functions I A} {before : CoreState} {step :
   pub step_result-admission : {M E Done : Type 0} {did : DidOf I} (taken : Result M E) → None ≡ shared_refusal functions before step →
       MatchResult taken (λ _. answer ≡ Ok did) (λ _. answer ≡ Err OutOfMemory) → OnOk taken Done → OnErr taken (after ≡ before) →
       (Done → FollowsResult functions before step (Ok did) after) → IsAdmitted functions before step answer after
-  step_result-admission (Ok memory) none told done stays step_result = inl (rw told (step_result done))
-  step_result-admission (Err refused) none told done stays step_result = inr (sym none, told, stays)
+  step_result-admission taken none told done stays step_result = grind arith
 
 -- where it is taken no test of the list applies
 pub all-pass : {I : Type 0} (busy : Bool) (tests : List (Bool × Refusal)) (effect : Outcome I) → refusal_in (unless_busy busy (unless tests effect)) ≡ None →
     (unless_busy busy (unless tests effect) ≡ Ok effect) × AllPass tests
-all-pass true [] effect none = absurd cc
-all-pass false [] effect none = (refl, tt)
-all-pass busy ((true, refusal) ∷ tests) effect none = absurd cc
-all-pass busy ((false, refusal) ∷ tests) effect none = let rest = all-pass busy tests effect none in (rest.0, (refl, rest.1))
+all-pass busy [] effect none = grind arith
+all-pass busy (test ∷ tests) effect none = grind (arith, all-pass busy tests effect)
 
 -- a step that names a frame and is taken: the frame is there, no test applies, and this comes of it
 pub record IsGoing {I A : Type 0} (functions : Functions I A) (shared : CoreState) (step : StepOf A) (name : FrameId)

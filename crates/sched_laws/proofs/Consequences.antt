@@ -1,17 +1,17 @@
 -- What the shape of a tenant (its tree, jobs and reservation, as every step keeps them) gives: a live job's root is
 -- there, each frame is under one, nothing is used beyond the reservation; and that jobs which have ended stay so.
-use Rattle.sched_laws.proofs.Common.{◌≡◌, ℕ, suc, ◌+◌, ◌-◌, ◌≤◌, inl, inr, true, List, [], ◌∷◌, Some, length, ap, ◌∙◌, arith, Bool, false, Option, None, Result, Ok, ◌++◌, cases_Bool, ne_eqb, sum_by-cons, charge, IsWithinLimits, Quota, IsWithinReserve, Computing, Returned, frame_at, path_in, root_of, children_of, root-there, Job, Live, Cancelled as CancelledJob, Tree, Tenant, account_in, charged_for, is_root, job_at, is_live_at, number_from, job_under, with_ended, mark_of_state, IsShaped, live_count, AreLiveRootsThere, HaveWords, AreShaped, Refusal, DidOf, Admitted, StepOf, Admit, AdmitMore, admit_tests, admitted_with, lone_step, there, more-there, refl, ◌≢◌, Functions, Outcome, lone, lone_step, tenant_of, CoreState, tenant_in, with_tenant, without_tenant, with_outcome, meets_busy, unless_busy, unless_beyond, is_beyond, reserved_by, reservations_in, step_result, shared_after, after_answer, after_answers, HasEnded, KeepsEnded}
+use Rattle.sched_laws.proofs.Common.{◌≡◌, ℕ, ◌+◌, ◌-◌, ◌≤◌, true, List, [], ◌∷◌, Some, length, arith, Bool, false, Option, None, Result, Ok, ◌++◌, cases_Bool, IsWithinLimits, Quota, IsWithinReserve, Computing, Returned, frame_at, path_in, root_of, children_of, root-there, Job, Live, Cancelled as CancelledJob, Tree, Tenant, account_in, charged_for, is_root, job_at, is_live_at, number_from, job_under, with_ended, IsShaped, live_count, AreLiveRootsThere, HaveWords, AreShaped, Refusal, DidOf, StepOf, Admit, AdmitMore, admit_tests, admitted_with, refl, Functions, Outcome, lone, lone_step, tenant_of, CoreState, tenant_in, with_tenant, without_tenant, with_outcome, unless_busy, unless_beyond, is_beyond, reservations_in, step_result, shared_after, after_answer, after_answers, HasEnded, KeepsEnded}
 use Rattle.sched_laws.proofs.Parts.{shape-at}
 use Rattle.sched_laws.proofs.Shaped.{AllPass, returned-childless, LeftShaped, unless-passed, step-shaped, admitted-shaped, came, by-kinds}
-use Rattle.sched_laws.proofs.Holds.{F}
+use Rattle.sched_laws.proofs.Holds.{F, charged-cons}
 
 -- a frame that has returned or computes has no child
 module _ (tenant : Tenant) (s : ℕ) (f : F) (shape : IsShaped tenant) where
   pub returned-leaf : frame_at tenant.frames s ≡ Some f → f.state ≡ Returned → children_of tenant.frames s ≡ []
-  returned-leaf at is = returned-childless tenant s f shape at (λ e. let k = ap mark_of_state is in absurd cc)
+  returned-leaf at is = returned-childless tenant s f shape at (λ e. grind arith)
 
   pub computing-leaf : (worker : ℕ) → frame_at tenant.frames s ≡ Some f → f.state ≡ Computing worker → children_of tenant.frames s ≡ []
-  computing-leaf worker at is = returned-childless tenant s f shape at (λ e. let k = ap mark_of_state is in absurd cc)
+  computing-leaf worker at is = returned-childless tenant s f shape at (λ e. grind arith)
 
 -- the root of a live job is there
 job-there : (tree : Tree) (jobs : List Job) (number root : ℕ) → AreLiveRootsThere tree jobs → job_at jobs number ≡ Some (Live root) →
@@ -28,16 +28,8 @@ is-live root job h3 = grind arith
 
 job-from : (first root : ℕ) (jobs : List Job) → 1 ≤ live_count root jobs →
     (first ≤ number_from first root jobs) × (job_at jobs (number_from first root jobs + 1 - first) ≡ Some (Live root))
-job-from first root [] some = absurd (omega (arith, some))
-job-from first root (job ∷ jobs) some = elim (cases_Bool (is_live_at root job)) [
-  | inl is ↦ (let one : first + 1 - first ≡ 1 = omega arith in rw is (omega arith, (rw one (ap Some (is-live root job is)))))
-  | inr other ↦ (
-      let rest = job-from (first + 1) root jobs (rw other at some) in
-      let n = number_from (first + 1) root jobs in
-      let low : first + 1 ≤ n = rest.0 in
-      let later : n + 1 - first - 1 ≡ n + 1 - (first + 1) = omega arith in
-      rw other (omega arith, (rw (ne_eqb (n + 1 - first) 1 (λ e. omega (arith, e, low))) (ap (job_at jobs) later ∙ rest.1))))
-]
+job-from first root [] some = absurd (omega arith)
+job-from first root (job ∷ jobs) some = grind (arith, job-from (first + 1) root jobs, is-live)
 
 -- the job of a root frame lives
 module _ (tenant : Tenant) (s : ℕ) (f : F) (shape : IsShaped tenant) (at : frame_at tenant.frames s ≡ Some f) where
@@ -45,7 +37,7 @@ module _ (tenant : Tenant) (s : ℕ) (f : F) (shape : IsShaped tenant) (at : fra
   root-live root =
       let one = (shape-at shape s f at).root root in
       let same : job_under s tenant.jobs + 1 - 1 ≡ job_under s tenant.jobs = omega arith in
-      rw same at (job-from 1 s tenant.jobs (omega (arith, one))).1
+      rw same at (job-from 1 s tenant.jobs (omega arith)).1
 
   -- the root above any frame
   pub root-above : path_in tenant.frames (root_of f.path) ≡ root_of f.path ∷ []
@@ -58,15 +50,7 @@ within-reserve tenant limits shape = grind arith
 -- each frame charges a segment at least
 frames-charged : (xs : Tree) → HaveWords xs → length xs ≤ charged_for xs
 frames-charged [] words = omega arith
-frames-charged (x ∷ xs) words =
-    let own = sum_by-cons (λ (frame : F). charge (length frame.value)) x xs in
-    more (length xs) (charged_for xs) (charged_for (x ∷ xs)) (charge (length x.value)) (frames-charged xs words.1) own (some (length x.value) words.0.0)
-  where
-    some : (n : ℕ) → 1 ≤ n → 1 ≤ charge n
-    some n le = omega arith
-
-    more : (a b c d : ℕ) → a ≤ b → c ≡ d + b → 1 ≤ d → suc a ≤ c
-    more a b c d p q r = omega arith
+frames-charged (x ∷ xs) words = grind (arith, frames-charged xs, charged-cons)
 
 pub few-frames : (tenant : Tenant) → IsShaped tenant → length tenant.frames ≤ tenant.reserve.segments
 few-frames tenant shape = grind (arith, frames-charged)
@@ -103,11 +87,11 @@ lone-shaped functions None _ outcome is s = grind arith
 
 -- a step among several tenants
 module _ {I : Type 0} (alone : Result (Outcome I) Refusal) (outcome : Outcome I) where
-  pub not-busy : (busy : Bool) → unless_busy busy alone ≡ Ok outcome → alone ≡ Ok outcome
+  not-busy : (busy : Bool) → unless_busy busy alone ≡ Ok outcome → alone ≡ Ok outcome
   not-busy busy is = grind arith
 
   -- so is an admission of more, where the totals allow it
-  pub not-beyond : (beyond : Bool) → unless_beyond beyond alone ≡ Ok outcome → (beyond ≡ false) × (alone ≡ Ok outcome)
+  not-beyond : (beyond : Bool) → unless_beyond beyond alone ≡ Ok outcome → (beyond ≡ false) × (alone ≡ Ok outcome)
   not-beyond beyond is = grind arith
 
 -- where an admission of more is taken, the totals allow it
@@ -122,29 +106,14 @@ pub record HoldsOfTaken {I A : Type 0} (functions : Functions I A) (before : Cor
 
 -- so it holds of what a taken step leaves
 module _ {I A : Type 0} (functions : Functions I A) (before : CoreState) where
-  among : (step : StepOf A) (outcome : Outcome I) (P : Option Tenant → Type 0) (own : Option Tenant) → tenant_in before.tenants (tenant_of step) ≡ own →
-      own ≢ None → lone functions own step ≡ Ok outcome → ((tenant : Tenant) → own ≡ Some tenant → IsAllowed before step tenant) →
-      HoldsOfTaken functions before step P → P outcome.0
-  among step outcome P None at is_there is allowed each = absurd (is_there refl)
-  among step outcome P (Some tenant) at is_there is allowed each = each.at_step tenant outcome at is (allowed tenant refl)
-
-  allowed-more : (own : Option Tenant) (number : ℕ) (quota : Quota) → is_beyond (reservations_in before) (reserved_by own) quota ≡ false →
-      (tenant : Tenant) → own ≡ Some tenant → IsAllowed {A = A} before (AdmitMore number quota) tenant
-  allowed-more own number quota enough tenant at n q same = grind arith
-
   pub by-taken : (step : StepOf A) (outcome : Outcome I) (P : Option Tenant → Type 0) → step_result functions before step ≡ Ok outcome →
       HoldsOfTaken functions before step P → P outcome.0
-  by-taken (Admit number quota) outcome P is each =
-      let p = unless-passed (admit_tests before number quota) (Some (admitted_with quota), Admitted) outcome is in
-      came P (Some (admitted_with quota), Admitted) outcome p.1 (each.at_admit number quota refl p.0)
-  by-taken (AdmitMore number quota) outcome P is each =
-      let own = tenant_in before.tenants number in
-      let taken = not-beyond (lone {A = A} functions own (AdmitMore number quota)) outcome (is_beyond (reservations_in before) (reserved_by own) quota) is in
-      among (AdmitMore number quota) outcome P own refl (more-there {A = A} functions own number quota outcome taken.1) taken.1
-      (allowed-more own number quota taken.0) each
-  by-taken step outcome P is each =
-      let alone = not-busy (lone functions (tenant_in before.tenants (tenant_of step)) step) outcome (meets_busy step before.tenants) is in
-      among step outcome P _ refl (there functions _ step outcome refl alone) alone (λ tenant at n q same. absurd cc) each
+  by-taken (Admit number quota) outcome P is each = grind (arith, unless-passed, came)
+  by-taken step outcome P is each = own (tenant_in before.tenants (tenant_of step)) refl
+    where
+      own : (found : Option Tenant) → tenant_in before.tenants (tenant_of step) ≡ found → P outcome.0
+      own None at = absurd (grind (arith, not-busy, not-beyond))
+      own (Some tenant) at = each.at_step tenant outcome at (grind (arith, not-busy, not-beyond)) (λ n q same. grind (arith, not-beyond))
 
   step_result-shaped : (step : StepOf A) (outcome : Outcome I) → AreShaped before.tenants → step_result functions before step ≡ Ok outcome → LeftShaped outcome.0
   step_result-shaped step outcome all is = by-taken step outcome LeftShaped is (record {

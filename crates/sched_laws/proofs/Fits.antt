@@ -1,8 +1,9 @@
 -- What stands above a frame of a tenant, and a law of its procedure applied there; and what is left after the stores
 -- of an act.
-use Rattle.sched_laws.proofs.Common.{◌≡◌, ◌≢◌, ℕ, ◌≤◌, inl, inr, true, List, [], ◌∷◌, ◌++◌, Option, Some, None, refl, ap, sym, ◌∙◌, arith, suc, ◌+◌, ltb, length, map-append, reverse-append, false≢true, eq-eqb, eqb-true, eqb-false, frame_at, path_in, parent_of, children_of, IsTree, with_state, values_of, new_frame, is_that, is_child_of, Each, found-serial, tree-rising, IsUnder, IsTop, placed, children-by-paths, found-there, found-path, frame_at-left, found-each, frame_at-stays, rising-filter, filter-found, Job, Functions, Tree, Tenant, frame_words, words_in, sight, has_child, is_root, with_frame_words, with_ended, is_live_at, Fitting, Rooting, Mark, Neither, mark_of_state, ParentFits, NextKeeps, InletKeeps, AcceptKeeps, EveryFrameFits, AllFit, has_one, IsShaped, AreMarkedChildless, AreLiveRootsThere, live_count, JobFits, JobsFit, TenantFits, filter, padded, State, tree-new_frame, new-frame-next, parent_of-path_under, AllBelow-alike, path_in-alike, tree-with_state, counted, in_state, holding, opened}
-use Rattle.sched_laws.proofs.Parts.{childless-at, no-child, path-there, shape-at}
-use Rattle.sched_laws.proofs.Holds.{Lists, F, Fact, kids, Holds, fits-holds, found-same, among-kids, holds-with_frame_words, with_frame_words-alike, tree-with_frame_words, frame_at-with_frame_words, frame_at-other-with_frame_words, holds-fits, BeforeState, holds-with_state, BeforePush, holds-push}
+use Rattle.frame_table.proofs.TreeChanges.{no-child-found}
+use Rattle.sched_laws.proofs.Common.{◌≡◌, ◌≢◌, ℕ, ◌≤◌, inl, inr, true, List, [], ◌∷◌, ◌++◌, Option, Some, None, refl, ap, sym, ◌∙◌, arith, suc, ltb, length, map-append, reverse-append, eq-eqb, eqb-false, frame_at, path_in, parent_of, children_of, IsTree, with_state, values_of, is_that, is_child_of, Each, found-serial, tree-rising, IsUnder, IsTop, placed, children-by-paths, found-path, found-each, rising-filter, filter-found, Job, Functions, Tree, Tenant, frame_words, words_in, sight, has_child, is_root, with_frame_words, with_ended, is_live_at, Fitting, Rooting, Mark, Neither, mark_of_state, ParentFits, NextKeeps, InletKeeps, AcceptKeeps, EveryFrameFits, AllFit, has_one, IsShaped, AreMarkedChildless, AreLiveRootsThere, live_count, JobFits, JobsFit, TenantFits, filter, State, tree-with_state, top-path, false≢true}
+use Rattle.sched_laws.proofs.Parts.{childless-at, no-child, shape-at}
+use Rattle.sched_laws.proofs.Holds.{Lists, F, Fact, kids, fits-holds, found-same, among-kids, frame_at-with_frame_words, frame_at-other-with_frame_words, holds-fits, holds-with_state}
 
 -- the laws of a procedure
 pub record IsLawful {I A : Type 0} (functions : Functions I A) (fits : Fitting) (rooted : Rooting) : Type 0 where
@@ -13,6 +14,10 @@ pub record IsLawful {I A : Type 0} (functions : Functions I A) (fits : Fitting) 
 -- the words in a tree
 pub words-found : (tree : Tree) (s : ℕ) (f : F) → frame_at tree s ≡ Some f → words_in tree s ≡ f.value
 words-found tree s f at = ap frame_words at
+
+-- a frame under another is its child
+under-child : {tree : Tree} {f : F} (u : IsUnder tree f) → is_child_of u.parent f.path ≡ true
+under-child u = ap (is_that u.parent) u.named ∙ eq-eqb u.parent u.parent refl
 
 -- the sight of a frame: its own words first, then the sight of its parent
 module _ (tree : Tree) (s : ℕ) (f : F) where
@@ -32,10 +37,8 @@ module _ (tree : Tree) (s : ℕ) (f : F) where
   pub parent-neither : IsTree tree → AreMarkedChildless tree tree → frame_at tree s ≡ Some f → (u : IsUnder tree f) → mark_of_state u.above.state ≡ Neither
   parent-neither t all at u = elim (childless-at tree tree u.parent u.above all u.there) [
     | inl neither ↦ neither
-    | inr none ↦ (let child : is_child_of u.parent f.path ≡ true = ap (is_that u.parent) u.named ∙ eq-eqb u.parent u.parent refl in
-        let kept = frame_at-stays (λ x. is_child_of u.parent x.path) tree s f (tree-rising tree t) at child in
-        let empty = no-child tree u.parent none in
-        let both : ◌≡◌ {A = Option F} None (Some f) = ap (λ (ys : Tree). frame_at ys s) (sym empty ∙ children-by-paths tree u.parent t) ∙ kept in absurd cc)
+    | inr none ↦ (let lacks = sym (children-by-paths tree u.parent t) ∙ no-child tree u.parent none in
+        absurd (false≢true (sym (no-child-found (λ x. is_child_of u.parent x.path) tree s f lacks at) ∙ under-child u)))
   ]
 
 -- what a change of a frame's words leaves above it: its parent fits, and a root belongs to its origin
@@ -60,12 +63,9 @@ module _ (C : Type 0) (fits : Fitting) (rooted : Rooting) (tree : Tree) (s : ℕ
       KeepsAbove C fits rooted tree f words → C × IsKeptAbove fits rooted tree f words
   kept-above all every at has law = elim (placed tree s f t at) [
     | inl top ↦ (let o = has top.0 in ((law o.0 [] [] [] (sight-top tree s f at top) o.1).0, kept))
-    | inr u ↦ (let a = among-kids tree u.parent s f t at (child u) in ((apply u a.older a.younger a.all).0, kept))
+    | inr u ↦ (let a = among-kids tree u.parent s f t at (under-child u) in ((apply u a.older a.younger a.all).0, kept))
   ]
     where
-      child : (u : IsUnder tree f) → is_child_of u.parent f.path ≡ true
-      child u = ap (is_that u.parent) u.named ∙ eq-eqb u.parent u.parent refl
-
       apply : (u : IsUnder tree f) (older younger : Lists) → kids tree u.parent ≡ older ++ f.value ∷ younger →
           C × fits u.above.value (older ++ words ∷ younger) Neither
       apply u older younger e =
@@ -78,27 +78,9 @@ module _ (C : Type 0) (fits : Fitting) (rooted : Rooting) (tree : Tree) (s : ℕ
         parent = λ u older younger e. (apply u older younger e).1;
         root = λ none origin is. elim (placed tree s f t at) [
           | inl top ↦ (law origin [] [] [] (sight-top tree s f at top) is).1
-          | inr u ↦ (let both : ◌≡◌ {A = Option ℕ} None (Some u.parent) = sym none ∙ u.named in absurd cc)
+          | inr u ↦ absurd cc
         ];
       }
-
--- after the words of a frame are changed, where the fact holds of it, and of all others that fit
-module _ (Q : Fact) (fits : Fitting) (rooted : Rooting) (tree : Tree) (n : ℕ) (f : F) (words : List ℕ) (t : IsTree tree) where
-  holds-after-words : AreMarkedChildless tree tree → EveryFrameFits fits tree → frame_at tree n ≡ Some f → IsKeptAbove fits rooted tree f words →
-      Q n words (kids tree n) (mark_of_state f.state) → ((s : ℕ) (w : List ℕ) (k : Lists) (m : Mark) → s ≢ n → fits w k m → Q s w k m) →
-      Holds Q (with_frame_words n words tree)
-  holds-after-words all every at kept own up = holds-with_frame_words n f tree t at Q words (λ s h at_s. (
-    (λ is. (let e : f ≡ h = found-same tree n s f h (sym is) at at_s in rw (is, ← e) own)),
-    (λ other child older younger split. above s h at_s other child older younger split),
-    (λ other none. up s h.value (kids tree s) (mark_of_state h.state) other (fits-holds fits tree every s h at_s)),
-  ))
-    where
-      above : (s : ℕ) (h : F) → frame_at tree s ≡ Some h → s ≢ n → is_child_of s f.path ≡ true → (older younger : Lists) →
-          kids tree s ≡ older ++ f.value ∷ younger → Q s h.value (older ++ words ∷ younger) (mark_of_state h.state)
-      above s h at_s other child older younger split = elim (placed tree n f t at) [
-        | inl top ↦ absurd (false≢true (sym (ap (is_that s) top.0) ∙ child))
-        | inr u ↦ grind (arith, eqb-true, found-same, kids, parent-neither)
-      ]
 
 -- the jobs, where their roots still belong to their origins
 module _ (fits : Fitting) (rooted : Rooting) (old : Tree) where
@@ -109,7 +91,7 @@ module _ (fits : Fitting) (rooted : Rooting) (old : Tree) where
   jobs-kept new origins jobs kept there all = grind arith
 
   -- one more job
-  pub jobs-append : (origins : List (List ℕ)) (origin : List ℕ) (jobs : List Job) (job : Job) → JobsFit fits rooted old origins jobs →
+  pub jobs-append : (origins : Lists) (origin : List ℕ) (jobs : List Job) (job : Job) → JobsFit fits rooted old origins jobs →
       JobFits fits rooted old origin job → JobsFit fits rooted old (origins ++ origin ∷ []) (jobs ++ job ∷ [])
   jobs-append (other ∷ origins) origin (next ∷ jobs) job all one = (all.0, jobs-append origins origin jobs job all.1 one)
   jobs-append origins origin jobs job all one = grind arith
@@ -128,12 +110,8 @@ module _ (fits : Fitting) (rooted : Rooting) where
   pub has-origin : (origins : Lists) (tenant : Tenant) (s : ℕ) (f : F) → IsShaped tenant → TenantFits fits rooted origins tenant →
       frame_at tenant.frames s ≡ Some f → HasOrigin rooted f
   has-origin origins tenant s f shape fitting at none =
-      let path : f.path ≡ f.serial ∷ [] = elim (placed tenant.frames s f shape.tree at) [
-        | inl top ↦ top.1
-        | inr u ↦ (let both : ◌≡◌ {A = Option ℕ} None (Some u.parent) = sym none ∙ u.named in absurd cc)
-      ] in
-      let one = (shape-at shape s f at).root (ap is_root path) in
-      let o = origin-of tenant.frames origins tenant.jobs s (omega (arith, one)) fitting.jobs in
+      let one = (shape-at shape s f at).root (ap is_root (top-path tenant.frames s f shape.tree at none)) in
+      let o = origin-of tenant.frames origins tenant.jobs s (omega arith) fitting.jobs in
       (o.0, rw (words-found tenant.frames s f at) at o.1)
 
   -- a job that ends
@@ -169,12 +147,6 @@ with_frame_words-twice n first second (x ∷ xs) = grind (arith, with_frame_word
 pub root-top : (tree : Tree) (root : ℕ) (f : F) → frame_at tree root ≡ Some f → path_in tree root ≡ root ∷ [] → parent_of f.path ≡ None
 root-top tree root f at is = ap parent_of (sym (found-path tree root f at) ∙ is)
 
--- where the words of a frame are kept above, so are the roots
-roots-with_frame_words : (fits : Fitting) (rooted : Rooting) (tree : Tree) (n : ℕ) (f : F) (words : List ℕ) → frame_at tree n ≡ Some f →
-    IsKeptAbove fits rooted tree f words → (root : ℕ) (origin : List ℕ) → path_in tree root ≡ root ∷ [] → rooted origin (words_in tree root) →
-    rooted origin (words_in (with_frame_words n words tree) root)
-roots-with_frame_words fits rooted tree n f words at kept root origin is was = grind (arith, root-top, words-found, words-own, words-other)
-
 -- fitting, as a fact of each frame
 abbrev pub FitsAt : Fitting → Fact
 FitsAt fits s w k m = fits w k m
@@ -190,13 +162,6 @@ module _ {fits : Fitting} {rooted : Rooting} {origins : Lists} {tenant : Tenant}
   pub fits-marked : {mark : Mark} (s : ℕ) (f : F) → frame_at tenant.frames s ≡ Some f → mark_of_state f.state ≡ mark → fits f.value (kids tenant.frames s) mark
   fits-marked s f at is = rw is at (fits-holds fits tenant.frames fitting.frames s f at)
 
-  -- a law that is kept for whatever stands above a frame of it
-  pub kept-of : (C : Type 0) (n : ℕ) (f : F) (words : List ℕ) → frame_at tenant.frames n ≡ Some f → KeepsAbove C fits rooted tenant.frames f words →
-      C × IsKeptAbove fits rooted tenant.frames f words
-  kept-of C n f words at law =
-      let origin = has-origin fits rooted origins tenant n f shape fitting at in
-      kept-above C fits rooted tenant.frames n f words shape.tree shape.childless fitting.frames at origin law
-
   pub jobs-left : (new : Tree) → HaveSameRoots tenant.frames tenant.frames new → JobsFit fits rooted new origins tenant.jobs
   jobs-left new same = jobs-kept fits rooted tenant.frames new origins tenant.jobs (λ root origin is was. rw (same root is) was) shape.live fitting.jobs
 
@@ -206,26 +171,9 @@ module _ {fits : Fitting} {rooted : Rooting} {origins : Lists} {tenant : Tenant}
   fits-same-mark n f state at same =
       let tree = tenant.frames in
       record {
-        frames = holds-fits fits _ (tree-with_state n state tree shape.tree) (holds-with_state (FitsAt fits) n state tree shape.tree (λ s g at_g. (
-          (λ is. fits-marked s g at_g (rw (found-same tree n s f g (sym is) at at_g) at same)),
-          (λ other. fits-holds fits tree fitting.frames s g at_g),
-        )));
+        frames = holds-fits fits _ (tree-with_state n state tree shape.tree) (holds-with_state (FitsAt fits) n state tree shape.tree (λ s g at_g.
+            let fit = fits-holds fits tree fitting.frames s g at_g in grind (arith, found-same)));
         jobs = jobs-left (with_state n state tree) (λ root is. words-with_state n state tree root);
-      }
-
-  -- other words in a frame, and then another change of the tree: what is left fits, if it does wherever a fact holds that holds of the
-  -- frame with these words, and of all others that fit
-  pub fits-changed : {serials steps : ℕ} (Q : Fact) (n : ℕ) (f : F) (words : List ℕ) (new : Tree) → frame_at tenant.frames n ≡ Some f →
-      IsKeptAbove fits rooted tenant.frames f words → Q n words (kids tenant.frames n) (mark_of_state f.state) →
-      ((s : ℕ) (w : List ℕ) (k : Lists) (m : Mark) → s ≢ n → fits w k m → Q s w k m) → IsTree new →
-      (Holds Q (with_frame_words n words tenant.frames) → Holds (FitsAt fits) new) → HaveSameRoots tenant.frames (with_frame_words n words tenant.frames) new →
-      TenantFits fits rooted origins (record tenant { serials = serials; steps = steps; frames = new })
-  fits-changed Q n f words new at kept own up t change same =
-      let tree = tenant.frames in
-      record {
-        frames = holds-fits fits new t (change (holds-after-words Q fits rooted tree n f words shape.tree shape.childless fitting.frames at kept own up));
-        jobs = jobs-kept fits rooted tree new origins tenant.jobs
-            (λ root origin is was. rw (same root is) (roots-with_frame_words fits rooted tree n f words at kept root origin is was)) shape.live fitting.jobs;
       }
 
 -- a frame fits, with some children and some mark
@@ -256,44 +204,3 @@ has-one tree s = ap (λ (n : ℕ). ltb 0 n) (long (children_of tree s))
 abbrev pub LeftFits : Fitting → Rooting → Lists → Option Tenant → Type 0
 LeftFits fits rooted origins None = Unit {0}
 LeftFits fits rooted origins (Some tenant) = TenantFits fits rooted origins tenant
-
--- after the stores of an act in a frame
-module _ {fits : Fitting} {rooted : Rooting} {origins : Lists} {tenant : Tenant} (shape : IsShaped tenant)
-    (fitting : TenantFits fits rooted origins tenant) (f : F) (words : List ℕ) (at : frame_at tenant.frames f.serial ≡ Some f)
-    (kept : IsKeptAbove fits rooted tenant.frames f words) where
-  pub words-fits : mark_of_state f.state ≡ Neither → fits words (kids tenant.frames f.serial) Neither →
-      TenantFits fits rooted origins (counted (holding f.serial words tenant))
-  words-fits free own = fits-changed shape fitting (FitsAt fits) f.serial f words _ at kept (rw free own) (λ s w k m other fit. fit)
-      (tree-with_frame_words f.serial words tenant.frames shape.tree) (λ holds. holds) (λ root is. refl)
-
-  -- the frame comes to another state
-  pub state-fits : (state : State) → fits words (kids tenant.frames f.serial) (mark_of_state state) →
-      TenantFits fits rooted origins (in_state f.serial state (counted (holding f.serial words tenant)))
-  state-fits state own =
-      let n = f.serial in
-      let tree = with_frame_words n words tenant.frames in
-      let t = tree-with_frame_words n words tenant.frames shape.tree in
-      fits-changed shape fitting (BeforeState (FitsAt fits) n state) n f words (with_state n state tree) at kept
-      ((λ is. own), (λ other. absurd (other refl))) (λ s w k m other fit. ((λ is. absurd (other is)), (λ ne. fit)))
-      (tree-with_state n state tree t) (holds-with_state (FitsAt fits) n state tree t) (λ root is. words-with_state n state tree root)
-
-  -- a child is opened under it
-  pub fits-spawned : (given : List ℕ) (size worker : ℕ) → mark_of_state f.state ≡ Neither →
-      fits words (kids tenant.frames f.serial ++ padded given size ∷ []) Neither → fits (padded given size) [] Neither →
-      TenantFits fits rooted origins (opened (Some f.serial) given size worker (counted (holding f.serial words tenant)))
-  fits-spawned given size worker free own newborn =
-      let n = f.serial in
-      let serial = tenant.serials + 1 in
-      let tree = with_frame_words n words tenant.frames in
-      let new : F = new_frame tree serial (Some n) worker (padded given size) in
-      let t = tree-with_frame_words n words tenant.frames shape.tree in
-      let alike = with_frame_words-alike n words tenant.frames in
-      let below = AllBelow-alike tenant.frames tree serial alike shape.given in
-      let there = found-there tree n (record f { value = words }) (frame_at-with_frame_words n words tenant.frames f at) in
-      let named : parent_of new.path ≡ Some n = parent_of-path_under tree (Some n) serial t there in
-      fits-changed shape fitting (BeforePush (FitsAt fits) new) n f words (tree ++ new ∷ []) at kept
-      ((λ child. rw free own), (λ none. absurd (false≢true (sym none ∙ ap (is_that n) named ∙ eq-eqb n n refl))))
-      (λ s w k m ne fit. ((λ child. absurd (ne (sym (eqb-true n s (sym (ap (is_that s) named) ∙ child))))), (λ none. fit)))
-      (tree-new_frame tree serial (Some n) worker (padded given size) t below there)
-      (holds-push (FitsAt fits) tree new t (new-frame-next tree serial (Some n) worker (padded given size) t below there) newborn)
-      (λ root is. ap frame_words (frame_at-left tree (new ∷ []) root (path-there tree root (path_in-alike tenant.frames tree root alike ∙ is))))

@@ -3,7 +3,7 @@
 pub use Rattle.frame_table.proofs.TreeLaws.{found-own}
 use Rattle.frame_table.proofs.TreeLaws.{filter-every}
 use Rattle.frame_table.proofs.Changes.{child-stays}
-use Rattle.sched_laws.proofs.Common.{◌≡◌, ◌≢◌, ℕ, suc, ◌+◌, ◌≤◌, inl, inr, Bool, false, eqb, List, [], ◌∷◌, ◌++◌, Some, length, refl, ap, sym, ◌∙◌, arith, true, not, Option, None, append-nil, filter, sum_by-append, sum_by-cons, cases_Bool, eqb-true, cases_eq, false≢true, ne_eqb, not-true, charge, Frame, frame_at, has_frame, children_of, values_of, IsTree, parent_of, goes_under, aborted, frames_without, with_state, IsNextFrame, is_child_of, AreSerialsRising, AreAlike, is_that, Each, above-missing, children-by-paths, there-found, found-serial, missing, frame_at-push, frame_at-other-push, tree-rising, placed, tree-push, has_frame-above, without_job, found-each, each-found, tree-alike, children_of-push, frame_at-other-with_state, children_of-with_state, values_of-with_state, Tree, charged_for, with_frame_words, State, aborted-itself, rising-filter, frame_at-filter, frame_at-stays, filter-found, tree-aborted, tree-without, frame_at-without, frame_at-other-without, aborted-leaf, Fitting, Mark, mark_of_state, EachFits, EveryFrameFits}
+use Rattle.sched_laws.proofs.Common.{◌≡◌, ◌≢◌, ℕ, suc, ◌+◌, ◌≤◌, inl, inr, Bool, false, eqb, List, [], ◌∷◌, ◌++◌, Some, length, refl, ap, sym, ◌∙◌, arith, true, not, None, append-nil, filter, sum_by-append, sum_by-cons, cases_Bool, eqb-true, cases_eq, false≢true, ne_eqb, not-true, charge, Frame, frame_at, has_frame, children_of, values_of, IsTree, parent_of, goes_under, aborted, frames_without, with_state, IsNextFrame, is_child_of, AreSerialsRising, AreAlike, is_that, Each, above-missing, children-by-paths, there-found, found-serial, missing, frame_at-push, frame_at-other-push, tree-rising, placed, tree-push, has_frame-above, without_job, found-each, each-found, tree-alike, children_of-push, frame_at-other-with_state, children_of-with_state, values_of-with_state, Tree, charged_for, with_frame_words, State, aborted-itself, rising-filter, frame_at-filter, frame_at-stays, filter-found, tree-aborted, tree-without, frame_at-without, frame_at-other-without, aborted-leaf, Fitting, Mark, mark_of_state, EachFits, EveryFrameFits}
 
 -- a frame with its words
 abbrev pub F : Type 0
@@ -47,7 +47,7 @@ module _ (n : ℕ) (words : List ℕ) where
 
 -- what is charged, frame by frame
 module _ (x : F) where
-  charged-cons : (xs : Tree) → charged_for (x ∷ xs) ≡ charge (length x.value) + charged_for xs
+  pub charged-cons : (xs : Tree) → charged_for (x ∷ xs) ≡ charge (length x.value) + charged_for xs
   charged-cons xs = sum_by-cons (λ frame. charge (length frame.value)) x xs
 
   pub charged-one : charged_for (x ∷ []) ≡ charge (length x.value)
@@ -76,9 +76,8 @@ charged-filter keep (x ∷ xs) = grind (arith, charged-filter keep xs, charged-c
 -- the same values are charged the same
 pub charged-values : (xs ys : Tree) → values_of ys ≡ values_of xs → charged_for ys ≡ charged_for xs
 charged-values [] [] e = refl
-charged-values [] (y ∷ ys) e = absurd cc
-charged-values (x ∷ xs) [] e = absurd cc
 charged-values (x ∷ xs) (y ∷ ys) e = grind (arith, charged-values xs ys, charged-cons)
+charged-values xs ys e = absurd cc
 
 -- What holds of each frame of a tree, with its words, the words of its children and its mark: before a change, so that it holds after it.
 
@@ -115,7 +114,7 @@ module _ (fits : Fitting) (tree : Tree) where
 
 -- the same frame
 pub found-same : (tree : Tree) (s n : ℕ) (f g : F) → s ≡ n → frame_at tree s ≡ Some f → frame_at tree n ≡ Some g → f ≡ g
-found-same tree s n f g e at_s at_n = let both : ◌≡◌ {A = Option F} (Some f) (Some g) = sym at_s ∙ ap (frame_at tree) e ∙ at_n in cc
+found-same tree s n f g e at_s at_n = cc
 
 -- another state
 abbrev pub BeforeState : Fact → ℕ → State → Fact
@@ -140,7 +139,7 @@ pub record IsAmong (xs : Tree) (n : ℕ) (f : F) : Type 0 where
   pub stored : (words : List ℕ) → with_frame_words n words xs ≡ older ++ record f { value = words } ∷ younger
   pub removed : frames_without n xs ≡ older ++ younger
 
-pub without-missing : (n : ℕ) (xs : Tree) → has_frame xs n ≡ false → frames_without n xs ≡ xs
+without-missing : (n : ℕ) (xs : Tree) → has_frame xs n ≡ false → frames_without n xs ≡ xs
 without-missing n [] lacks = refl
 without-missing n (x ∷ xs) lacks = grind (arith, without-missing n xs)
 
@@ -152,13 +151,13 @@ among (x ∷ xs) n f rising at = elim (cases_Bool (eqb x.serial n)) [
       record {
         older = x ∷ rest.older;
         younger = rest.younger;
-        all = ap (λ (ys : Tree). x ∷ ys) rest.all;
-        stored = λ words. rw other (ap (λ (ys : Tree). x ∷ ys) (rest.stored words));
-        removed = rw other (ap (λ (ys : Tree). x ∷ ys) rest.removed);
+        all = cc;
+        stored = λ words. rw (other, rest.stored words);
+        removed = rw (other, rest.removed);
       })
 ]
 
-pub values-append : (xs ys : Tree) → values_of (xs ++ ys) ≡ values_of xs ++ values_of ys
+values-append : (xs ys : Tree) → values_of (xs ++ ys) ≡ values_of xs ++ values_of ys
 values-append [] ys = refl
 values-append (x ∷ xs) ys = ap (λ (vs : Lists). x.value ∷ vs) (values-append xs ys)
 
@@ -195,25 +194,22 @@ module _ (tree : Tree) (s n : ℕ) (f : F) (t : IsTree tree) (at : frame_at tree
         removed = ap (λ (ys : Tree). values_of (frames_without n ys)) is ∙ ap values_of a.removed ∙ values-append a.older a.younger;
       }
 
-  pub not-among : is_child_of s f.path ≡ false → has_frame (children_of tree s) n ≡ false
+  not-among : is_child_of s f.path ≡ false → has_frame (children_of tree s) n ≡ false
   not-among child = grind (arith, no-frame, children-by-paths, frame_at-filter, tree-rising)
 
 -- other words
-abbrev pub BeforeWords : Fact → ℕ → F → List ℕ → Fact
-BeforeWords Q n f words s w k m =
-    (s ≡ n → Q s words k m)
-    × (s ≢ n → is_child_of s f.path ≡ true → (older younger : Lists) → k ≡ older ++ f.value ∷ younger → Q s w (older ++ words ∷ younger) m)
-    × (s ≢ n → is_child_of s f.path ≡ false → Q s w k m)
-
 module _ (n : ℕ) (f : F) (tree : Tree) (t : IsTree tree) (at_n : frame_at tree n ≡ Some f) where
   -- no frame is its own child
   not-own-child : is_child_of n f.path ≡ false
   not-own-child = elim (placed tree n f t at_n) [
     | inl top ↦ ap (is_that n) top.0
-    | inr u ↦ (let below = u.below in let e = found-serial tree n f at_n in ap (is_that n) u.named ∙ ne_eqb u.parent n (λ is. omega (arith, below, e, is)))
+    | inr u ↦ (let e = found-serial tree n f at_n in ap (is_that n) u.named ∙ ne_eqb u.parent n (λ is. omega arith))
   ]
 
-  pub holds-with_frame_words : (Q : Fact) (words : List ℕ) → Holds (BeforeWords Q n f words) tree → Holds Q (with_frame_words n words tree)
+  pub holds-with_frame_words : (Q : Fact) (words : List ℕ) → Holds (λ s w k m.
+      (s ≡ n → Q s words k m)
+      × (s ≢ n → is_child_of s f.path ≡ true → (older younger : Lists) → k ≡ older ++ f.value ∷ younger → Q s w (older ++ words ∷ younger) m)
+      × (s ≢ n → is_child_of s f.path ≡ false → Q s w k m)) tree → Holds Q (with_frame_words n words tree)
   holds-with_frame_words Q words all s h at = elim (cases_eq s n) [
     | inl is ↦ (let e : record f { value = words } ≡ h = found-same _ n s _ h (sym is) (frame_at-with_frame_words n words tree f at_n) at in
         rw (← e, same (rw is not-own-child)) ((all s f (ap (frame_at tree) is ∙ at_n)).0 is))
@@ -259,7 +255,7 @@ module _ (Q : Fact) (n : ℕ) (f : F) (tree : Tree) (t : IsTree tree) (at_n : fr
   ]
     where
       apart : s ≢ n
-      apart e = let both : ◌≡◌ {A = Option F} None (Some h) = sym (frame_at-without n tree) ∙ ap (frame_at (frames_without n tree)) (sym e) ∙ at in cc
+      apart e = grind (arith, frame_at-without)
 
       old : BeforeWithout Q n f s h.value (kids tree s) (mark_of_state h.state)
       old = all s h (sym (frame_at-other-without n tree s (λ e. apart (sym e))) ∙ at)
@@ -288,9 +284,6 @@ module _ (p : ℕ) (tree : Tree) (t : IsTree tree) where
   pub holds-without_job : (Q : Fact) (f : F) → frame_at tree p ≡ Some f → parent_of f.path ≡ None → Holds (λ s w k m. s ≢ p → Q s w k m) tree →
       Holds Q (without_job p tree)
   holds-without_job Q f at top all =
-      let none : (s : ℕ) → is_child_of s f.path ≡ false = λ s. ap (is_that s) top in
+      let kept = holds-aborted (λ s w k m. s ≢ p → Q s w k m) (λ s h at_h. ((λ is other. absurd (other is)), λ other. all s h at_h)) in
       holds-without Q p f (aborted p tree) (tree-aborted p tree t) (aborted-itself p tree f t at) (aborted-leaf p tree t)
-      (λ s h at_h other. ((λ child older younger e. absurd (false≢true (sym (none s) ∙ child))), λ no_child. kept s h at_h other))
-    where
-      kept : Holds (λ s w k m. s ≢ p → Q s w k m) (aborted p tree)
-      kept = holds-aborted (λ s w k m. s ≢ p → Q s w k m) (λ s h at_h. ((λ is other. absurd (other is)), λ other. all s h at_h))
+      (λ s h at_h other. ((λ child older younger e. absurd (false≢true (sym (ap (is_that s) top) ∙ child))), λ no_child. kept s h at_h other))

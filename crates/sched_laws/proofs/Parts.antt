@@ -1,19 +1,16 @@
 -- Each part of a tenant's shape (its tree, jobs and reservation), under each change of the tree and of the jobs.
+use Rattle.frame_table.proofs.Finds.{none-of-length}
 use Rattle.frame_table.proofs.Tenants.{state-length}
-use Rattle.sched_laws.proofs.Common.{◌≡◌, ◌≢◌, ℕ, suc, ◌+◌, ◌≤◌, ◌⊎◌, inl, inr, Bool, true, false, eqb, ltb, List, [], ◌∷◌, ◌++◌, Option, Some, None, length, refl, ap, sym, subst, ◌∙◌, arith, length-append, ◌*◌, ◌<◌, not, filter, filter-append, cases_Bool, cases_eq, false≢true, eq-eqb, ne_eqb, eqb-false, eqb-true, ltb-false, not_from_false, State, frame_at, has_frame, path_in, AllBelow, parent_of, with_state, children_of, IsNextFrame, IsTree, goes_under, aborted, frames_without, new_frame, is_child_of, Each, AreAlike, there-found, found-serial, found-path, frame_at-push, frame_at-other-push, tree-rising, each-found, found-each, children-by-paths, found-there, found-ends, filter-found, frame_at-stays, tree-aborted, tree-without, tree-without_job, tree-push, children_of-push, frame_at-other-with_state, children_of-with_state, new-frame-next, parent_of-path_under, path_in-alike, tree-alike, with_state-alike, values_of-with_state, Job, Live, Tree, has_child, is_live_at, with_frame_words, with_ended, Tenant, charged_for, is_root, Neither, mark_of_state, AreMarkedChildless, live_count, AreRootsLive, IsRootThere, AreLiveRootsThere, HaveWords, IsShaped, charge, padded, EndsIn, has_frame-above, path_in-left, path_in-right, counted, in_state, holding, opened, ended, frame_at-other-without}
-use Rattle.frame_table.specs.Frames.{has_parent, path_under}
-use Rattle.sched_laws.proofs.Holds.{found-own, found-same, frame_at-with_frame_words, frame_at-other-with_frame_words, children_of-with_frame_words, length-with_frame_words, with_frame_words-alike, charged-one, charged-with_frame_words, charged-append, charged-filter, charged-values, F, found-with_state}
+use Rattle.sched_laws.proofs.Common.{◌≡◌, ◌≢◌, ℕ, suc, ◌+◌, ◌≤◌, ◌⊎◌, Bool, true, false, eqb, ltb, List, [], ◌∷◌, ◌++◌, Option, Some, None, length, refl, ap, ◌∙◌, arith, length-append, ◌*◌, ◌<◌, not, filter, filter-append, cases_Bool, cases_eq, eq-eqb, eqb-false, eqb-true, State, frame_at, has_frame, path_in, AllBelow, parent_of, with_state, children_of, IsNextFrame, IsTree, goes_under, aborted, frames_without, new_frame, is_child_of, Each, AreAlike, there-found, found-serial, found-path, frame_at-push, frame_at-other-push, tree-rising, found-each, children-by-paths, found-there, filter-found, frame_at-stays, tree-aborted, tree-without, tree-without_job, tree-push, children_of-push, frame_at-other-with_state, children_of-with_state, new-frame-next, parent_of-path_under, path_in-alike, tree-alike, with_state-alike, values_of-with_state, Job, Live, Tree, has_child, is_live_at, with_frame_words, with_ended, Tenant, charged_for, is_root, Neither, mark_of_state, AreMarkedChildless, live_count, AreRootsLive, IsRootThere, AreLiveRootsThere, HaveWords, IsShaped, charge, padded, has_frame-above, path_in-left, path_in-right, counted, in_state, holding, opened, ended, frame_at-other-without, sym, inl, inr}
+use Rattle.frame_table.specs.Frames.{has_parent}
+use Rattle.sched_laws.proofs.Holds.{found-own, frame_at-with_frame_words, frame_at-other-with_frame_words, children_of-with_frame_words, length-with_frame_words, with_frame_words-alike, charged-one, charged-with_frame_words, charged-append, charged-filter, charged-values, F, found-with_state, found-same}
 use Rattle.cactus_stack.proofs.LawFacts.{length-padded}
 
 -- what a frame has of children
 module _ (tree : Tree) (s : ℕ) where
   -- no child, as a fact of lists
   pub no-child : has_child tree s ≡ false → children_of tree s ≡ []
-  no-child none = empty (children_of tree s) none
-    where
-      empty : (xs : Tree) → ltb 0 (length xs) ≡ false → xs ≡ []
-      empty [] e = refl
-      empty (x ∷ xs) e = absurd (omega (arith, ltb-false 0 (length (x ∷ xs)) e))
+  no-child none = none-of-length _ (grind arith)
 
   none-has_child : children_of tree s ≡ [] → has_child tree s ≡ false
   none-has_child none = rw none refl
@@ -23,9 +20,8 @@ module _ (tree : Tree) (s : ℕ) where
   has_child-length other e = ap (λ (n : ℕ). ltb 0 n) e
 
 -- another state, and other words in a frame, change nobody's children
-module _ (n : ℕ) (tree : Tree) where
-  has_child-with_state : (state : State) (s : ℕ) → IsTree tree → has_child (with_state n state tree) s ≡ has_child tree s
-  has_child-with_state state s t = grind (arith, has_child-length, children_of-with_state, state-length)
+has_child-with_state : (n : ℕ) (tree : Tree) (state : State) (s : ℕ) → IsTree tree → has_child (with_state n state tree) s ≡ has_child tree s
+has_child-with_state n tree state s t = grind (arith, has_child-length, children_of-with_state, state-length)
 
 pub has_child-with_frame_words : (n : ℕ) (words : List ℕ) (tree : Tree) (s : ℕ) → IsTree tree → has_child (with_frame_words n words tree) s ≡ has_child tree s
 has_child-with_frame_words n words tree s t = grind (arith, has_child-length, children_of-with_frame_words, length-with_frame_words)
@@ -58,39 +54,29 @@ AreShapedIn bound jobs tree frames = AllBelow bound frames × AreMarkedChildless
 
 -- what is found has these parts of the shape, and frames have them where what is found does
 module _ (bound : ℕ) (jobs : List Job) (tree : Tree) where
-  parts-each : (frames : Tree) → AreShapedIn bound jobs tree frames → Each (λ f. ShapeOf bound jobs tree f.serial f) frames
-  parts-each [] p = tt
-  parts-each (x ∷ xs) p = (record { given = p.0.0; childless = p.1.0; root = p.2.0; words = p.3.0 }, parts-each xs (p.0.1, p.1.1, p.2.1, p.3.1))
+  part-at : (frames : Tree) (n : ℕ) (f : F) → AreShapedIn bound jobs tree frames → frame_at frames n ≡ Some f → ShapeOf bound jobs tree n f
+  part-at [] n f p at = absurd cc
+  part-at (x ∷ xs) n f p at = grind (arith, part-at xs n f, eqb-true)
 
   each-parts : (frames : Tree) → Each (λ f. ShapeOf bound jobs tree f.serial f) frames → AreShapedIn bound jobs tree frames
   each-parts [] each = (tt, tt, tt, tt)
-  each-parts (x ∷ xs) each =
-      let own = each.0 in let rest = each-parts xs each.1 in ((own.given, rest.0), (own.childless, rest.1), (own.root, rest.2), (own.words, rest.3))
+  each-parts (x ∷ xs) each = grind (arith, each-parts xs)
 
 pub shape-at : {tenant : Tenant} (s : IsShaped tenant) (n : ℕ) (f : F) → frame_at tenant.frames n ≡ Some f →
     ShapeOf (tenant.serials + 1) tenant.jobs tenant.frames n f
-shape-at {tenant} s n f at =
-    let P : F → Type 0 = λ x. ShapeOf (tenant.serials + 1) tenant.jobs tenant.frames x.serial x in
-    let each = parts-each (tenant.serials + 1) tenant.jobs tenant.frames tenant.frames (s.given, s.childless, s.roots, s.words) in
-    subst (λ (m : ℕ). ShapeOf (tenant.serials + 1) tenant.jobs tenant.frames m f) (found-serial tenant.frames n f at) (each-found P tenant.frames n f each at)
+shape-at {tenant} s n f at = part-at _ _ _ tenant.frames n f (s.given, s.childless, s.roots, s.words) at
 
 -- how many jobs live under a root
 live_count-append : (jobs : List Job) (root : ℕ) (more : List Job) → live_count root (jobs ++ more) ≡ live_count root jobs + live_count root more
 live_count-append jobs root more = grind (arith, filter-append, length-append)
 
-one-live : (root : ℕ) → live_count root (Live root ∷ []) ≡ 1
-one-live root = rw (eq-eqb root root refl) refl
-
-none-live : (s root : ℕ) → s ≢ root → live_count s (Live root ∷ []) ≡ 0
-none-live s root other = rw (ne_eqb root s (λ e. other (sym e))) refl
-
 -- a path that is there
 pub path-there : (tree : Tree) (root : ℕ) → path_in tree root ≡ root ∷ [] → has_frame tree root ≡ true
 path-there [] root e = absurd cc
-path-there (x ∷ xs) root e = elim (cases_Bool (eqb x.serial root)) [ inl same ↦ rw same refl | inr other ↦ rw other (path-there xs root (rw other at e)) ]
+path-there (x ∷ xs) root e = grind (arith, path-there xs root)
 
 -- no job lives under a serial that is no frame's
-pub no-live : (tree : Tree) (root : ℕ) (jobs : List Job) → has_frame tree root ≡ false → AreLiveRootsThere tree jobs → live_count root jobs ≡ 0
+no-live : (tree : Tree) (root : ℕ) (jobs : List Job) → has_frame tree root ≡ false → AreLiveRootsThere tree jobs → live_count root jobs ≡ 0
 no-live tree root [] lacks live = refl
 no-live tree root (x2 ∷ jobs) lacks live = grind (arith, no-live tree root jobs lacks, no-live tree root jobs lacks live.1, path-there)
 
@@ -108,25 +94,23 @@ live-one job a b h4 h5 = grind arith
 
 -- after the jobs under a root have ended, as many live under each other root as before
 module _ (root : ℕ) (job : Job) (end : IsEnd job) where
-  pub live_count-with_ended : (s : ℕ) (jobs : List Job) → s ≢ root → live_count s (with_ended root job jobs) ≡ live_count s jobs
+  live_count-with_ended : (s : ℕ) (jobs : List Job) → s ≢ root → live_count s (with_ended root job jobs) ≡ live_count s jobs
   live_count-with_ended s [] other = refl
   live_count-with_ended s (x ∷ xs) other = grind (arith, live_count-with_ended s xs other, live-one)
 
--- the roots of the live jobs, by their paths
-abbrev pub KeepsRoots : Tree → Tree → Type 0
-KeepsRoots old new = (root : ℕ) → path_in old root ≡ root ∷ [] → path_in new root ≡ root ∷ []
-
-pub live-kept : (old new : Tree) (jobs : List Job) → KeepsRoots old new → AreLiveRootsThere old jobs → AreLiveRootsThere new jobs
+-- live jobs have their root frames where the root frames stay
+live-kept : (old new : Tree) (jobs : List Job) → ((root : ℕ) → path_in old root ≡ root ∷ [] → path_in new root ≡ root ∷ []) →
+    AreLiveRootsThere old jobs → AreLiveRootsThere new jobs
 live-kept old new [] kept live = tt
 live-kept old new (x2 ∷ jobs) kept live = grind (arith, live-kept old new jobs kept, live-kept old new jobs kept live.1)
 
-pub live-append : (tree : Tree) (jobs more : List Job) → AreLiveRootsThere tree jobs → AreLiveRootsThere tree more → AreLiveRootsThere tree (jobs ++ more)
+live-append : (tree : Tree) (jobs more : List Job) → AreLiveRootsThere tree jobs → AreLiveRootsThere tree more → AreLiveRootsThere tree (jobs ++ more)
 live-append tree [] more p q = q
 live-append tree (job ∷ jobs) more p q = (p.0, live-append tree jobs more p.1 q)
 
 -- an ended job has no root to be there
 end-there : (tree : Tree) (job : Job) → IsEnd job → IsRootThere tree job
-end-there tree (Live root) end = absurd (false≢true (sym (end root) ∙ eq-eqb root root refl))
+end-there tree (Live root) end = let lives = end root in grind (arith, eq-eqb)
 end-there tree _ end = tt
 
 -- after the jobs under a root have ended, those that live have their root frames, where the other roots stayed
@@ -134,21 +118,10 @@ module _ (old new : Tree) (root : ℕ) (job : Job) where
   other-there : ((s : ℕ) → s ≢ root → path_in old s ≡ s ∷ [] → path_in new s ≡ s ∷ []) → is_live_at root job ≡ false → IsRootThere old job → IsRootThere new job
   other-there kept other there = grind (arith, eqb-false)
 
-  pub live-with_ended : (jobs : List Job) → IsEnd job → ((s : ℕ) → s ≢ root → path_in old s ≡ s ∷ [] → path_in new s ≡ s ∷ []) → AreLiveRootsThere old jobs →
+  live-with_ended : (jobs : List Job) → IsEnd job → ((s : ℕ) → s ≢ root → path_in old s ≡ s ∷ [] → path_in new s ≡ s ∷ []) → AreLiveRootsThere old jobs →
       AreLiveRootsThere new (with_ended root job jobs)
   live-with_ended [] end kept live = tt
   live-with_ended (x ∷ xs) end kept live = grind (arith, live-with_ended xs end kept, end-there, other-there)
-
--- the roots that pass a test are still there
-abbrev pub KeepsRootsOf : (F → Bool) → Tree → Type 0
-KeepsRootsOf keep tree = (root : ℕ) (f : F) → frame_at tree root ≡ Some f → f.path ≡ root ∷ [] → keep f ≡ true
-
-pub roots-stay : (keep : F → Bool) (tree : Tree) (s : ℕ) → IsTree tree → KeepsRootsOf keep tree → path_in tree s ≡ s ∷ [] →
-    path_in (filter keep tree) s ≡ s ∷ []
-roots-stay keep tree s t stays is =
-    let f = there-found tree s (path-there tree s is) in
-    let path = sym (found-path tree s f.0 f.1) ∙ is in
-    found-path (filter keep tree) s f.0 (frame_at-stays keep tree s f.0 (tree-rising tree t) f.1 (stays s f.0 f.1 path)) ∙ path
 
 -- What a step does to a tenant, move by move: each move keeps the shape.
 
@@ -163,20 +136,8 @@ module _ {tenant : Tenant} (s : IsShaped tenant) where
       charged_for frames ≤ tenant.reserve.segments → serials ≤ tenant.reserve.nodes →
       IsShaped (record tenant { serials = serials; jobs = jobs; frames = frames })
   shaped-by serials jobs frames t at live few charged opened =
-      let P : F → Type 0 = λ x. ShapeOf (serials + 1) jobs frames x.serial x in
-      let parts = each-parts (serials + 1) jobs frames frames (found-each P frames (tree-rising frames t) (λ n f is. at f.serial f (found-own frames n f is))) in
-      record {
-        tree = t;
-        given = parts.0;
-        childless = parts.1;
-        roots = parts.2;
-        live = live;
-        few_jobs = few;
-        words = parts.3;
-        charged = charged;
-        opened = opened;
-        ticks = s.ticks;
-      }
+      let parts = each-parts (serials + 1) jobs frames frames (found-each _ frames (tree-rising frames t) (λ n f is. at f.serial f (found-own frames n f is))) in
+      grind arith
 
   -- frames of the same serials and paths
   shaped-alike : (new : Tree) → AreAlike tenant.frames new → charged_for new ≤ tenant.reserve.segments →
@@ -191,37 +152,23 @@ module _ {tenant : Tenant} (s : IsShaped tenant) where
   shaped-in_state n state ok =
       let old = tenant.frames in
       let e = charged-values old (with_state n state old) (values_of-with_state n state old) in
-      let c = s.charged in
-      shaped-alike (with_state n state old) (with_state-alike n state old) (omega (arith, e, c)) parts
-    where
-      parts : (q : ℕ) (f : F) → frame_at (with_state n state tenant.frames) q ≡ Some f →
-          ShapeOf (tenant.serials + 1) tenant.jobs (with_state n state tenant.frames) q f
-      parts q f at = elim (cases_eq q n) [
-        | inl same ↦ (let g = found-with_state n state tenant.frames f (rw same at at) in let p = shape-at s n g.0 g.1 in grind (arith, g, p, has_child-with_state))
-        | inr other ↦ (let p = shape-at s q f (sym (frame_at-other-with_state n state tenant.frames q (λ e. other (sym e))) ∙ at) in
-            grind (arith, p, has_child-with_state))
-      ]
+      shaped-alike (with_state n state old) (with_state-alike n state old) (omega arith) (λ q f at. elim (cases_eq q n) [
+        | inl same ↦ (let g = found-with_state n state old f (rw same at at) in let p = shape-at s n g.0 g.1 in grind (arith, has_child-with_state))
+        | inr other ↦ (let p = shape-at s q f (sym (frame_at-other-with_state n state old q (λ e. other (sym e))) ∙ at) in grind (arith, has_child-with_state))
+      ])
 
   -- other words in a frame: 1 to 128, charged within what is reserved
   pub shaped-holding : (n : ℕ) (words : List ℕ) (f : F) → frame_at tenant.frames n ≡ Some f → (1 ≤ length words) × (length words ≤ 128) →
       charged_for tenant.frames + charge (length words) ≤ tenant.reserve.segments + charge (length f.value) → IsShaped (holding n words tenant)
   shaped-holding n words f at fit room =
       let old = tenant.frames in
-      shaped-alike (with_frame_words n words old) (with_frame_words-alike n words old)
-      (within _ (charge (length f.value)) (charged-with_frame_words n words old f (tree-rising old s.tree) at) room) parts
-    where
-      within : (a b : ℕ) {c r : ℕ} → a + b ≡ c → c ≤ r + b → a ≤ r
-      within a b e le = omega arith
-
-      parts : (q : ℕ) (g : F) → frame_at (with_frame_words n words tenant.frames) q ≡ Some g →
-          ShapeOf (tenant.serials + 1) tenant.jobs (with_frame_words n words tenant.frames) q g
-      parts q g at_q = elim (cases_eq q n) [
-        | inl same ↦ (let p = shape-at s n f at in
-            let e : record f { value = words } ≡ g = found-same _ n q _ g (sym same) (frame_at-with_frame_words n words tenant.frames f at) at_q in
-            grind (arith, e, p, has_child-with_frame_words))
-        | inr other ↦ (let p = shape-at s q g (sym (frame_at-other-with_frame_words n words tenant.frames q (λ e. other (sym e))) ∙ at_q) in
-            grind (arith, p, has_child-with_frame_words))
-      ]
+      let charges = charged-with_frame_words n words old f (tree-rising old s.tree) at in
+      shaped-alike (with_frame_words n words old) (with_frame_words-alike n words old) (omega arith)
+      (λ q g at_q. elim (cases_eq q n) [
+        | inl same ↦ (let p = shape-at s n f at in let here = frame_at-with_frame_words n words old f at in grind (arith, has_child-with_frame_words))
+        | inr other ↦ (let p = shape-at s q g (sym (frame_at-other-with_frame_words n words old q (λ e. other (sym e))) ∙ at_q) in
+            grind (arith, has_child-with_frame_words))
+      ])
 
   -- fewer frames, which are a tree, and jobs of which as many live under each root that stays
   shaped-fewer : (keep : F → Bool) (jobs : List Job) → IsTree (filter keep tenant.frames) → AreLiveRootsThere (filter keep tenant.frames) jobs → length jobs ≤ 256 →
@@ -229,21 +176,21 @@ module _ {tenant : Tenant} (s : IsShaped tenant) where
       IsShaped (record tenant { jobs = jobs; frames = filter keep tenant.frames })
   shaped-fewer keep jobs left live few same =
       let fewer = charged-filter keep tenant.frames in
-      let c = s.charged in
-      shaped-by tenant.serials jobs (filter keep tenant.frames) left parts live few (omega (arith, fewer, c)) s.opened
-    where
-      parts : (q : ℕ) (f : F) → frame_at (filter keep tenant.frames) q ≡ Some f → ShapeOf (tenant.serials + 1) jobs (filter keep tenant.frames) q f
-      parts q f at =
-          let o = filter-found keep tenant.frames q f (tree-rising tenant.frames s.tree) at in
-          let p = shape-at s q f o.0 in
-          let e = same q f o.0 o.1 in grind (arith, o, p, e, no-child-filter)
+      shaped-by tenant.serials jobs (filter keep tenant.frames) left (λ q f at.
+      let o = filter-found keep tenant.frames q f (tree-rising tenant.frames s.tree) at in
+      let p = shape-at s q f o.0 in
+      let e = same q f o.0 o.1 in grind (arith, no-child-filter)) live few (omega arith) s.opened
 
   -- the same jobs, where the roots are among the frames that stay
-  shaped-kept : (keep : F → Bool) → IsTree (filter keep tenant.frames) → KeepsRootsOf keep tenant.frames →
-      IsShaped (record tenant { frames = filter keep tenant.frames })
+  shaped-kept : (keep : F → Bool) → IsTree (filter keep tenant.frames) →
+      ((root : ℕ) (f : F) → frame_at tenant.frames root ≡ Some f → f.path ≡ root ∷ [] → keep f ≡ true) → IsShaped (record tenant { frames = filter keep tenant.frames })
   shaped-kept keep left stays =
-      shaped-fewer keep tenant.jobs left (live-kept tenant.frames _ tenant.jobs (λ root is. roots-stay keep tenant.frames root s.tree stays is) s.live) s.few_jobs
-      (λ n f at kept. refl)
+      let old = tenant.frames in
+      shaped-fewer keep tenant.jobs left (live-kept old (filter keep old) tenant.jobs (λ root is.
+      let f = there-found old root (path-there old root is) in
+      let path = sym (found-path old root f.0 f.1) ∙ is in
+      found-path (filter keep old) root f.0 (frame_at-stays keep old root f.0 (tree-rising old s.tree) f.1 (stays root f.0 f.1 path)) ∙ path) s.live)
+      s.few_jobs (λ n f at kept. refl)
 
   -- an abort
   pub shaped-aborted : (p : ℕ) → IsShaped (record tenant { frames = aborted p tenant.frames })
@@ -255,12 +202,7 @@ module _ (p : ℕ) where
       children_of tenant.frames p ≡ [] → IsShaped tenant → IsShaped (record tenant { frames = frames_without p tenant.frames })
   shaped-without tenant f q at named leaf s =
       shaped-kept s (λ x. not (eqb x.serial p)) (tree-without p tenant.frames s.tree leaf)
-      (λ root x at_x path. not_from_false (eqb x.serial p) (ne_eqb x.serial p (apart root x at_x path)))
-    where
-      apart : (root : ℕ) (x : F) → frame_at tenant.frames root ≡ Some x → x.path ≡ root ∷ [] → x.serial ≢ p
-      apart root x at_x path e =
-          let same = found-same tenant.frames root p x f (sym (found-serial tenant.frames root x at_x) ∙ e) at_x at in
-          let both : ◌≡◌ {A = Option ℕ} None (Some q) = sym (ap parent_of path) ∙ ap (λ (y : F). parent_of y.path) same ∙ named in absurd cc
+      (λ root x at_x path. grind (arith, found-serial, cases_eq))
 
   -- a job that ends, with all its frames
   pub shaped-ended : (job : Job) (tenant : Tenant) → IsEnd job → IsShaped tenant → IsShaped (ended p job tenant)
@@ -268,39 +210,22 @@ module _ (p : ℕ) where
       let cut = aborted p tenant.frames in
       let c = shaped-aborted s p in
       let e = length-with_ended p job tenant.jobs in
-      let few = s.few_jobs in
       shaped-fewer c (λ x. not (eqb x.serial p)) (with_ended p job tenant.jobs) (tree-without_job p tenant.frames s.tree)
-      (live-with_ended cut (frames_without p cut) p job tenant.jobs end stays c.live) (omega (arith, e, few)) same
-    where
-      stays : (r : ℕ) → r ≢ p → path_in (aborted p tenant.frames) r ≡ r ∷ [] → path_in (frames_without p (aborted p tenant.frames)) r ≡ r ∷ []
-      stays r other is =
-          let cut = aborted p tenant.frames in
-          let f = there-found cut r (path-there cut r is) in
-          found-path (frames_without p cut) r f.0 (frame_at-other-without p cut r (λ e. other (sym e)) ∙ f.1) ∙ sym (found-path cut r f.0 f.1) ∙ is
-
-      same : (n : ℕ) (f : F) → frame_at (aborted p tenant.frames) n ≡ Some f → not (eqb f.serial p) ≡ true →
-          live_count n (with_ended p job tenant.jobs) ≡ live_count n tenant.jobs
-      same n f at kept = grind (arith, live_count-with_ended, found-serial, eq-eqb)
+      (live-with_ended cut (frames_without p cut) p job tenant.jobs end (λ r other is.
+      let f = there-found cut r (path-there cut r is) in
+      found-path (frames_without p cut) r f.0 (frame_at-other-without p cut r (λ e. other (sym e)) ∙ f.1) ∙ sym (found-path cut r f.0 f.1) ∙ is) c.live)
+      (omega arith) (λ n f at kept. grind (arith, live_count-with_ended, found-serial, eq-eqb))
 
 -- what a frame of this size needs: words no longer than it, a node, and segments
 pub record HasRoomFor (words : List ℕ) (size : ℕ) (tenant : Tenant) : Type 0 where
-  pub some : 1 ≤ size
-  pub few : size ≤ 128
-  pub fits_in : length words ≤ size
+  pub fits : (1 ≤ size) × (size ≤ 128) × (length words ≤ size)
   pub node : tenant.serials < tenant.reserve.nodes
   pub segments : charged_for tenant.frames + charge size ≤ tenant.reserve.segments
 
--- a path of two serials or more is no root's
-no-root : (path : List ℕ) (last s : ℕ) → EndsIn path last → is_root (path ++ s ∷ []) ≡ false
-no-root [] last s ends = absurd ends
-no-root (x ∷ path) last s ends = ne_eqb (length (x ∷ path ++ s ∷ [])) 1 (λ e. let long = length-append path (s ∷ []) in omega (arith, e, long))
-
-new-root : (tree : Tree) (parent : Option ℕ) (serial : ℕ) → IsTree tree → has_parent tree parent ≡ true → is_root (path_under tree parent serial) ≡ true → parent ≡ None
-new-root tree None serial t there is = refl
-new-root tree (Some p) serial t there is =
-    let f = there-found tree p there in
-    let ends : EndsIn (path_in tree p) p = rw (found-path tree p f.0 f.1) (found-ends tree p f.0 t f.1) in
-    absurd (false≢true (sym (no-root (path_in tree p) p serial ends) ∙ is))
+-- a root has no parent
+pub root-path : (path : List ℕ) → is_root path ≡ true → parent_of path ≡ None
+root-path (x ∷ y ∷ path) is = grind (arith, eqb-true)
+root-path path is = refl
 
 -- a frame opened under one that neither computes nor has returned, or under none
 module _ {tenant : Tenant} (s : IsShaped tenant) (parent : Option ℕ) (home : ℕ) (words : List ℕ) (size : ℕ) (there : has_parent tenant.frames parent ≡ true)
@@ -322,41 +247,27 @@ module _ {tenant : Tenant} (s : IsShaped tenant) (parent : Option ℕ) (home : �
   new-child q child = grind (arith, parent_of-path_under, eqb-true)
 
   still-childless : (q : ℕ) → is_child_of q new.path ≡ false → has_child tenant.frames q ≡ false → has_child more q ≡ false
-  still-childless q other none =
-      none-has_child more q (children_of-push tenant.frames new q s.tree next ∙ (rw (no-child tenant.frames q none, other) refl))
+  still-childless q other none = grind (arith, none-has_child, children_of-push, no-child, next)
 
   shaped-push : (jobs : List Job) → ((p : ℕ) (f : F) → parent ≡ Some p → frame_at tenant.frames p ≡ Some f → mark_of_state f.state ≡ Neither) →
       ((n : ℕ) → n ≢ tenant.serials + 1 → live_count n jobs ≡ live_count n tenant.jobs) → (parent ≡ None → live_count (tenant.serials + 1) jobs ≡ 1) →
       AreLiveRootsThere more jobs → length jobs ≤ 256 → IsShaped (record (opened parent words size home tenant) { jobs = jobs })
   shaped-push jobs free same one live few =
-      let node = room.node in shaped-by s (tenant.serials + 1) jobs more (tree-push tenant.frames new s.tree next) parts live few charged (omega (arith, node))
+      let long = length-padded words size room.fits.2 in
+      shaped-by s (tenant.serials + 1) jobs more (tree-push tenant.frames new s.tree next) parts live few (grind (arith, charged-append, charged-one)) (omega arith)
     where
-      long : length (padded words size) ≡ size
-      long = length-padded words size room.fits_in
-
-      charged : charged_for more ≤ tenant.reserve.segments
-      charged = let l = long in let c = room.segments in grind (arith, charged-append, charged-one, l, c)
-
       old : (q : ℕ) (f : F) → frame_at tenant.frames q ≡ Some f → q ≢ tenant.serials + 1 → ShapeOf (tenant.serials + 1 + 1) jobs more q f
       old q f at other =
           let p = shape-at s q f at in
           let e = same q other in
-          elim (cases_Bool (is_child_of q new.path)) [
-            | inl child ↦ (let neither = free q f (new-child q child) at in grind (arith, p, e, neither))
-            | inr none ↦ grind (arith, p, e, still-childless q none)
-          ]
+          let child = cases_Bool (is_child_of q new.path) in grind (arith, free, new-child, still-childless)
 
       own : ShapeOf (tenant.serials + 1 + 1) jobs more (tenant.serials + 1) new
       own =
-          let l = long in
-          let some = room.some in
-          let few_words = room.few in
-          record {
-            given = omega arith;
-            childless = inl refl;
-            root = λ is. one (new-root tenant.frames parent (tenant.serials + 1) s.tree there is);
-            words = (omega (arith, l, some), omega (arith, l, few_words));
-          }
+          let fits = room.fits in
+          let long = length-padded words size fits.2 in
+          let named = parent_of-path_under tenant.frames parent (tenant.serials + 1) s.tree there in
+          let root = λ (is : is_root new.path ≡ true). one (sym named ∙ root-path new.path is) in grind arith
 
       parts : (q : ℕ) (f : F) → frame_at more q ≡ Some f → ShapeOf (tenant.serials + 1 + 1) jobs more q f
       parts q f at = elim (cases_eq new.serial q) [
@@ -371,11 +282,8 @@ module _ (home : ℕ) (words : List ℕ) (size : ℕ) (tenant : Tenant) where
       IsShaped tenant → IsShaped (opened (Some p) words size home tenant)
   shaped-child p f at free room s =
       let there = found-there tenant.frames p f at in
-      shaped-push s (Some p) home words size there room tenant.jobs parent-free (λ n other. refl) (λ none. absurd cc)
+      shaped-push s (Some p) home words size there room tenant.jobs (λ q g e at_q. grind arith) (λ n other. refl) (λ none. absurd cc)
       (still-live s (Some p) home words size there room) s.few_jobs
-    where
-      parent-free : (q : ℕ) (g : F) → Some p ≡ Some q → frame_at tenant.frames q ≡ Some g → mark_of_state g.state ≡ Neither
-      parent-free q g e at_q = grind arith
 
   -- a root opened, with the job that lives under it
   pub shaped-root : length tenant.jobs < 256 → HasRoomFor words size tenant → IsShaped tenant →
@@ -389,6 +297,5 @@ module _ (home : ℕ) (words : List ℕ) (size : ℕ) (tenant : Tenant) where
       let own : path_in (old ++ new ∷ []) root ≡ root ∷ [] = path_in-right old (new ∷ []) root lacks ∙ (rw (eq-eqb root root refl) refl) in
       let more = length-append tenant.jobs (Live root ∷ []) in
       shaped-push s None home words size refl room (tenant.jobs ++ Live root ∷ []) (λ p f is at. absurd cc)
-      (λ n other. live_count-append tenant.jobs n (Live root ∷ []) ∙ (rw (none-live n root other) omega arith))
-      (λ is. live_count-append tenant.jobs root (Live root ∷ []) ∙ (rw (none, one-live root) refl))
-      (live-append (old ++ new ∷ []) tenant.jobs (Live root ∷ []) (still-live s None home words size refl room) (own, tt)) (omega (arith, more, few))
+      (λ n other. grind (arith, live_count-append)) (λ is. grind (arith, live_count-append))
+      (live-append (old ++ new ∷ []) tenant.jobs (Live root ∷ []) (still-live s None home words size refl room) (own, tt)) (omega arith)

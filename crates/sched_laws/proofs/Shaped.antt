@@ -1,5 +1,5 @@
 -- Every step of the core keeps the shape of its tenant, and so every right answer that of all tenants.
-use Rattle.sched_laws.proofs.Common.{◌≡◌, ◌≢◌, if◌then◌else◌, ℕ, ◌+◌, ◌-◌, ◌*◌, ◌<◌, ◌≤◌, inl, inr, Bool, true, false, not, ◌||◌, ◌&&◌, eqb, ltb, List, [], ◌∷◌, ◌++◌, Option, Some, None, Result, Ok, Err, length, replicate, refl, ap, sym, ◌∙◌, subst, arith, length-append, length-replicate, false≢true, eqb-false, ltb-false, leb-true, leb-false, not-false, or_parts, and_parts, charge, growth_charge, Quota, State, Ready, Running, Computing, FrameId, frame_at, parent_of, root_of, children_of, is_ready, there-found, found-serial, tree-rising, under-there, under-below, aborted-itself, frame_at-other-without, Act, InletAct, Continuation, StepOf, Grow, Spawn, Go, Wait, Compute, Return, Live, Done, Spent as SpentJob, Cancelled as CancelledJob, Refusal, NotSpent, OldTenant, Lower, Admit, AdmitMore, Submit, Take, Steal, Advance, Answer, Inlet, Finish, Spend, Cancel, Leave, Functions, Tree, Tenant, admitted_with, frame_words, words_in, charged_for, left, stored, is_outside, has_child, job_at, kept_words, Neither, mark_of_state, Outcome, unless, lone_step, is_lower, raised, counted, holding, ended, is_frame_size, submit_tests, submitted, take_tests, steal_tests, taken_by, is_run_by, is_returned, act_by_sight, is_bad_then, is_spawn, segments_for, advance_tests, then_done, advanced, answer_tests, answered, inlet_tests, does_wait, staying, taken_in, finish_tests, finished, is_spendable, spent, at_frame, IsShaped}
+use Rattle.sched_laws.proofs.Common.{◌≡◌, ◌≢◌, if◌then◌else◌, ℕ, ◌+◌, ◌-◌, ◌*◌, ◌<◌, ◌≤◌, inl, Bool, true, false, not, ◌||◌, ◌&&◌, eqb, ltb, List, [], ◌∷◌, ◌++◌, Option, Some, None, Result, Ok, length, replicate, refl, ap, ◌∙◌, subst, arith, length-append, length-replicate, false≢true, eqb-false, ltb-false, leb-true, leb-false, not-false, or_parts, and_parts, Quota, State, Ready, Running, FrameId, frame_at, parent_of, root_of, children_of, is_ready, there-found, found-serial, tree-rising, under-there, under-below, aborted-itself, frame_at-other-without, Act, InletAct, Continuation, StepOf, Grow, Wait, Return, Live, Done, Spent as SpentJob, Cancelled as CancelledJob, Refusal, AdmitMore, Submit, Inlet, Leave, Functions, Tree, Tenant, admitted_with, frame_words, words_in, charged_for, left, stored, is_outside, has_child, job_at, kept_words, Neither, mark_of_state, Outcome, unless, lone_step, is_lower, raised, counted, holding, ended, is_frame_size, submit_tests, submitted, taken_by, is_run_by, is_returned, act_by_sight, is_bad_then, is_spawn, segments_for, advance_tests, then_done, advanced, answer_tests, answered, inlet_tests, does_wait, staying, taken_in, finish_tests, finished, spent, at_frame, IsShaped, sym, charge, growth_charge, Spawn, NotSpent, Lower, Take, Steal, Finish, Spend, take_tests, steal_tests, is_spendable, inr, Computing, Go, Compute}
 use Rattle.sched_laws.proofs.Holds.{frame_at-with_frame_words, charged-with_frame_words, F, found-own}
 use Rattle.sched_laws.proofs.Parts.{shape-at, no-child, has_child-with_frame_words, shaped-counted, shaped-in_state, shaped-holding, shaped-aborted, shaped-without, shaped-ended, shaped-child, shaped-root}
 use Rattle.sched_rules.proofs.StoreLemmas.{length-stored}
@@ -64,7 +64,6 @@ pub record HoldsOfEach {I A : Type 0} (functions : Functions I A) (tenant : Tena
 module _ {I A : Type 0} (functions : Functions I A) (tenant : Tenant) where
   pub by-effects : (step : StepOf A) (outcome : Outcome I) (P : Option Tenant → Type 0) → lone_step functions tenant step ≡ Ok outcome →
       HoldsOfEach functions tenant step P → P outcome.0
-  by-effects (Admit number quota) outcome P is each = (let e : ◌≡◌ {A = Result (Outcome I) Refusal} (Err OldTenant) (Ok outcome) = is in absurd cc)
   by-effects (AdmitMore number quota) outcome P is each =
       passed P ((is_lower tenant.reserve quota, Lower) ∷ []) (raised tenant quota) outcome is (λ p. each.at_raise number quota refl p.0)
   by-effects (Submit number words size) outcome P is each =
@@ -74,16 +73,13 @@ module _ {I A : Type 0} (functions : Functions I A) (tenant : Tenant) where
   by-effects (Steal worker from name) outcome P is each =
       passed-at P tenant.frames name.serial (steal_tests tenant worker from) (taken_by tenant worker) outcome is
       (λ f at p. each.at_take worker name.serial f at p.0 p.1.1.0)
-  by-effects (Advance worker name) outcome P is each = grind (arith, passed-at)
-  by-effects (Answer worker name answer) outcome P is each = grind (arith, passed-at, answered)
   by-effects (Inlet worker name) outcome P is each = grind (arith, frame-found, passed)
   by-effects (Finish worker name) outcome P is each =
       passed-at P tenant.frames name.serial (finish_tests tenant worker) (finished tenant) outcome is (each.at_finish worker name.serial)
   by-effects (Spend name) outcome P is each =
       passed-at P tenant.frames name.serial (λ f. (not (is_spendable functions tenant f), NotSpent) ∷ []) (spent tenant) outcome is
       (λ f at p. each.at_spend name.serial f at)
-  by-effects (Cancel number job) outcome P is each = grind (arith, came)
-  by-effects (Leave number) outcome P is each = grind (arith, came)
+  by-effects step outcome P is each = grind (arith, passed-at, came, answered)
 
 -- P holds of what each kind of step leaves. Those of workers but Finish count one more step, and change only frames and serials
 pub record HoldsOfKinds {A : Type 0} (tenant : Tenant) (step : StepOf A) (P : Option Tenant → Type 0) : Type 0 where
@@ -131,14 +127,14 @@ module _ {I A : Type 0} (functions : Functions I A) where
 -- a step that is left, a node, and segments
 module _ (tenant : Tenant) where
   step-left : (eqb (left tenant).steps 0) ≡ false → tenant.steps < 16 * tenant.reserve.nodes
-  step-left is = let some = eqb-false (left tenant).steps 0 is in omega (arith, some)
+  step-left is = let some = eqb-false (left tenant).steps 0 is in omega arith
 
   node-left : (eqb (left tenant).nodes 0) ≡ false → tenant.serials < tenant.reserve.nodes
-  node-left is = let some = eqb-false (left tenant).nodes 0 is in omega (arith, some)
+  node-left is = let some = eqb-false (left tenant).nodes 0 is in omega arith
 
   segments-left : (n : ℕ) → charged_for tenant.frames ≤ tenant.reserve.segments → ltb (left tenant).segments n ≡ false →
       charged_for tenant.frames + n ≤ tenant.reserve.segments
-  segments-left n within is = let enough = ltb-false (left tenant).segments n is in omega (arith, enough, within)
+  segments-left n within is = let enough = ltb-false (left tenant).segments n is in omega arith
 
 -- a frame of a size that can be opened
 size-parts : (words : List ℕ) (size : ℕ) → not (is_frame_size words size) ≡ false → (1 ≤ size) × (size ≤ 128) × (length words ≤ size)
@@ -156,11 +152,10 @@ pub returned-childless : (tenant : Tenant) (s : ℕ) (f : F) → IsShaped tenant
 returned-childless tenant s f shape at marked = grind (arith, shape-at, no-child)
 
 -- stores in a frame
-pub shaped-stored : (n : ℕ) (words : List ℕ) (tenant : Tenant) (f : F) → frame_at tenant.frames n ≡ Some f → length words ≡ length f.value →
+shaped-stored : (n : ℕ) (words : List ℕ) (tenant : Tenant) (f : F) → frame_at tenant.frames n ≡ Some f → length words ≡ length f.value →
     IsShaped tenant → IsShaped (holding n words tenant)
 shaped-stored n words tenant f at long s =
-    let fits = (shape-at s n f at).words in
-    shaped-holding s n words f at (omega (arith, fits.0, long), omega (arith, fits.1, long)) (let c = s.charged in rw long (omega (arith, c)))
+    let fits = (shape-at s n f at).words in shaped-holding s n words f at (omega arith, omega arith) (rw long (omega arith))
 
 -- what comes after the stores of an act
 grow-room : (c a b r : ℕ) → c + (a - b) ≤ r → c + a ≤ r + b
@@ -178,20 +173,19 @@ module _ {I A : Type 0} (functions : Functions I A) where
   then-shaped t worker name path words (Grow more) g at is free good node room s =
       let whole = length-append words (replicate more 0) in let zeros = length-replicate {A = ℕ} more 0 in
       let fits = (shape-at s name.serial g at).words in
-      let long : length (words ++ replicate more 0) ≡ length words + more = omega (arith, whole, zeros) in
+      let long : length (words ++ replicate more 0) ≡ length words + more = omega arith in
       let own : length g.value ≡ length words = ap length is in
-      shaped-holding s name.serial (words ++ replicate more 0) g at (omega (arith, fits.0, long, own), omega (arith, long, grow-fits (length words) more good))
+      let few = grow-fits (length words) more good in
+      shaped-holding s name.serial (words ++ replicate more 0) g at (omega arith, omega arith)
       (grown (charged_for t.frames) (length (words ++ replicate more 0)) (length g.value) t.reserve.segments (length words) more long own room)
     where
       grown : (c n o r w m : ℕ) → n ≡ w + m → o ≡ w → c + growth_charge o m ≤ r → c + charge n ≤ r + charge o
       grown c n o r w m long own le = grow-room c (charge n) (charge o) r (rw (long, ← own) le)
   then-shaped t worker name path words (Spawn given size) g at is free good node room s =
-      let fits = size-parts given size good in
-      shaped-child worker given size t name.serial g at free (record { some = fits.0; few = fits.1; fits_in = fits.2; node = node refl; segments = room }) s
+      shaped-child worker given size t name.serial g at free (record { fits = size-parts given size good; node = node refl; segments = room }) s
   then-shaped t worker name path words Go g at is free good node room s = s
-  then-shaped t worker name path words Wait g at is free good node room s = grind (arith, shaped-in_state)
   then-shaped t worker name path words Compute g at is free good node room s = shaped-in_state s name.serial (Computing worker) (inr good)
-  then-shaped t worker name path words Return g at is free good node room s = grind (arith, shaped-in_state)
+  then-shaped t worker name path words after g at is free good node room s = grind (arith, shaped-in_state)
 
   -- Advance
   advance-shaped : (tenant : Tenant) (worker : ℕ) (name : FrameId) (f : F) (act : Act) → frame_at tenant.frames name.serial ≡ Some f →
@@ -209,11 +203,10 @@ module _ {I A : Type 0} (functions : Functions I A) where
       let child = ap (has_child t.frames) (sym own) ∙ has_child-with_frame_words n words tenant.frames n s.tree in
       let charges = charged-with_frame_words n words tenant.frames f (tree-rising tenant.frames s.tree) at_own in
       let e = ap charge long in
-      let charged : charged_for t.frames ≡ charged_for tenant.frames = omega (arith, charges, e) in
+      let charged : charged_for t.frames ≡ charged_for tenant.frames = omega arith in
       let segments = segments-left tenant (segments_for f act.after) s.charged passed.1.1.1.1.0 in
       then-shaped (counted t) worker name f.path words act.after g at_g refl (run-free worker f.state (not-false (is_run_by worker f.state) passed.0))
-      (rw (long, child) good) (λ spawn. node-left tenant (rw spawn at passed.1.1.1.0))
-      (room act.after g _ (rw (← charged) at segments) long)
+      (rw (long, child) good) (λ spawn. node-left tenant (rw spawn at passed.1.1.1.0)) (room act.after g _ (rw (← charged) at segments) long)
       (shaped-counted (shaped-stored n words tenant f at_own long s) (step-left tenant passed.1.0))
     where
       room : (after : Continuation) (g : F) (c : ℕ) → c + segments_for f after ≤ tenant.reserve.segments → length g.value ≡ length f.value →
@@ -251,11 +244,8 @@ module _ {I A : Type 0} (functions : Functions I A) (tenant : Tenant) where
   step-shaped step outcome is s = by-effects functions tenant step outcome LeftShaped is (record {
     at_raise = λ number quota _ enough. grind (arith, or_parts, ltb-false);
     at_submit = λ number words size _ passed.
-        let fits = size-parts words size passed.0 in
         shaped-root 0 words size tenant (leb-false 256 (length tenant.jobs) passed.1.0) (record {
-          some = fits.0;
-          few = fits.1;
-          fits_in = fits.2;
+          fits = size-parts words size passed.0;
           node = node-left tenant passed.1.1.0;
           segments = segments-left tenant (charge size) s.charged passed.1.1.1.0;
         }) s;
@@ -280,15 +270,4 @@ module _ {I A : Type 0} (functions : Functions I A) (tenant : Tenant) where
 
 -- from nothing: an admission
 pub admitted-shaped : (quota : Quota) → IsShaped (admitted_with quota)
-admitted-shaped quota = record {
-  tree = tt;
-  given = tt;
-  childless = tt;
-  roots = tt;
-  live = tt;
-  few_jobs = omega arith;
-  words = tt;
-  charged = omega arith;
-  opened = omega arith;
-  ticks = omega arith;
-}
+admitted-shaped quota = grind arith

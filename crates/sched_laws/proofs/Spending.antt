@@ -1,8 +1,8 @@
 -- When a tenant's job may be given up: exactly where no step is left, its frame's Advance would be refused by what the
 -- act can't do, or its Inlet by a bad store.
-use Rattle.sched_laws.proofs.Common.{◌≡◌, ℕ, inl, inr, Bool, true, false, ◌||◌, ◌&&◌, eqb, List, [], ◌∷◌, Option, Some, None, refl, sym, ◌∙◌, arith, cases_Bool, false≢true, eq-eqb, eqb-true, or_cases, and_parts, State, Running, FrameId, frame_at, parent_of, Refusal, Advance, Inlet, BadAct, Functions, Tenant, left, unless, applies, refusal_in, lone_refusal, is_run, is_run_by, is_returned, act_by_sight, act_tests, advance_tests, advanced, inlet_under, is_bad_inlet, IsSpendable, IsActRefusal, IsStuck, IsBadInlet, MayBeSpent}
-use Rattle.std.specs.Prelude.{◌↔◌}
+use Rattle.sched_laws.proofs.Common.{◌≡◌, ◌↔◌, ℕ, inl, inr, Bool, true, false, eqb, List, [], ◌∷◌, Some, refl, sym, ◌∙◌, arith, cases_Bool, false≢true, eq-eqb, eqb-true, or_cases, and_parts, State, Running, FrameId, frame_at, parent_of, Refusal, Advance, Inlet, Functions, Tenant, left, unless, applies, refusal_in, lone_refusal, is_run, is_run_by, is_returned, act_by_sight, act_tests, advance_tests, advanced, inlet_under, is_bad_inlet, IsSpendable, IsActRefusal, IsStuck, IsBadInlet, MayBeSpent}
 use Rattle.sched_laws.proofs.Holds.{F}
+use Rattle.std.specs.Prelude.{◌↔◌}
 
 -- tests whose refusals are those of an act
 abbrev AreOfAct : List (Bool × Refusal) → Type 0
@@ -14,7 +14,7 @@ stuck : {X : Type 0} (tests : List (Bool × Refusal)) (effect : X) → AreOfAct 
     (refusal : Refusal) × IsActRefusal refusal × (refusal_in (unless tests effect) ≡ Some refusal)
 stuck [] effect acts is = absurd (false≢true is)
 stuck (test ∷ tests) effect acts is = elim (cases_Bool test.0) [
-  | inl first ↦ (test.1, acts.0, rw first refl)
+  | inl first ↦ (test.1, acts.0, rw first)
   | inr other ↦ rw other (stuck tests effect acts.1 (rw other at is))
 ]
 
@@ -45,50 +45,25 @@ module _ {I A : Type 0} (functions : Functions I A) (tenant : Tenant) (name : Fr
       let w = runner frame.state run in
       let act = act_by_sight functions tenant frame in
       let effect = advanced functions tenant w.0 name frame act in
-      let s = stuck (act_tests tenant frame act) effect (inl refl, (inr (inl refl), (inr (inr refl), tt))) acts in
+      let s = stuck (act_tests tenant frame act) effect (grind arith) acts in
       (w.0, s.0, s.1, advance-refusal functions tenant w.0 name frame at ∙ (rw (w.1, some) s.2))
 
   stuck-back : IsStuck functions tenant name → IsSpendable functions tenant frame
   stuck-back s =
-      let refused = sym (advance-refusal functions tenant s.0 name frame at) ∙ s.3 in
-      let act = s.2 in grind (arith, refused, act, run-by)
+      let refused = sym (advance-refusal functions tenant s.0 name frame at) ∙ s.3 in grind (arith, run-by)
 
   bad-forth : eqb (left tenant).steps 0 ≡ false → is_returned frame.state ≡ true → is_bad_inlet functions tenant frame (parent_of frame.path) ≡ true →
       IsBadInlet functions tenant name
-  bad-forth some returned bad worker =
-      inlet-refusal functions tenant worker name frame at ∙ by (parent_of frame.path) bad
-    where
-      by : (parent : Option ℕ) → is_bad_inlet functions tenant frame parent ≡ true → refusal_in (inlet_under functions tenant worker name frame parent) ≡ Some BadAct
-      by None bad = absurd (false≢true bad)
-      by (Some parent) bad = rw (returned, some, bad) refl
+  bad-forth some returned bad worker = grind (arith, inlet-refusal)
 
   bad-back : IsBadInlet functions tenant name → IsSpendable functions tenant frame
-  bad-back b = by (parent_of frame.path) (sym (inlet-refusal functions tenant 1 name frame at) ∙ b 1)
-    where
-      by : (parent : Option ℕ) → refusal_in (inlet_under functions tenant 1 name frame parent) ≡ Some BadAct →
-          ((eqb (left tenant).steps 0) || (is_run frame.state && applies (act_tests tenant frame (act_by_sight functions tenant frame)))
-          || (is_returned frame.state && is_bad_inlet functions tenant frame parent)) ≡ true
-      by None is = absurd cc
-      by (Some parent) is = grind arith
+  bad-back b = let is = b 1 in grind (arith, inlet-refusal)
 
   may-forth : IsSpendable functions tenant frame → MayBeSpent functions tenant name
-  may-forth is =
-      let acts = applies (act_tests tenant frame (act_by_sight functions tenant frame)) in
-      let bad = is_bad_inlet functions tenant frame (parent_of frame.path) in
-      elim (cases_Bool (eqb (left tenant).steps 0)) [
-        | inl none ↦ inl (eqb-true (left tenant).steps 0 none)
-        | inr some ↦ elim (or_cases (is_run frame.state && acts) (is_returned frame.state && bad) (rw some at is)) [
-          | inl runs ↦ (let both = and_parts (is_run frame.state) acts runs in inr (inl (stuck-forth some both.0 both.1)))
-          | inr back ↦ (let both = and_parts (is_returned frame.state) bad back in inr (inr (bad-forth some both.0 both.1)))
-        ]
-      ]
+  may-forth is = grind (arith, eqb-true, cases_Bool, or_cases, and_parts, stuck-forth, bad-forth)
 
   pub may-be-spent : IsSpendable functions tenant frame ↔ MayBeSpent functions tenant name
   may-be-spent = (
     may-forth,
-    (λ may. elim may [
-      | inl none ↦ rw (eq-eqb (left tenant).steps 0 none) refl
-      | inr (inl s) ↦ stuck-back s
-      | inr (inr b) ↦ bad-back b
-    ]),
+    (λ may. grind (arith, eq-eqb, stuck-back, bad-back)),
   )

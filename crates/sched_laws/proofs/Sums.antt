@@ -32,14 +32,13 @@ reserved-total b (e ∷ es) = rw (← reserved-total b es) (sum_by-cons (λ (a :
 -- the same of the book
 module _ (shared : CoreState) where
   within-both : IsReservedWithin shared → Within shared.totals shared.tenants
-  within-both within true = let a = within.segments in let c = reserved-total true shared.tenants in omega (arith, a, c)
-  within-both within false = let a = within.nodes in let c = reserved-total false shared.tenants in omega (arith, a, c)
+  within-both within true = let c = reserved-total true shared.tenants in omega arith
+  within-both within false = let c = reserved-total false shared.tenants in omega arith
 
   both-within : Within shared.totals shared.tenants → IsReservedWithin shared
   both-within both =
       let a = both true in let b = both false in
-      let c = reserved-total true shared.tenants in let d = reserved-total false shared.tenants in
-      record { segments = omega (arith, a, c); nodes = omega (arith, b, d) }
+      let c = reserved-total true shared.tenants in let d = reserved-total false shared.tenants in record { segments = omega arith; nodes = omega arith }
 
 -- a sum over all tenants, after tenant n has changed, come or gone
 module _ (m : Tenant → ℕ) (n : ℕ) where
@@ -58,44 +57,43 @@ module _ (m : Tenant → ℕ) (n : ℕ) where
 -- what the tests of the totals mean
 module _ (before : CoreState) (quota : Quota) where
   has-room : is_full (reservations_in before) quota ≡ false → (b : Bool) → reserved b before.tenants + part b quota ≤ part b before.totals
-  has-room none b = let c = reserved-total true before.tenants in let d = reserved-total false before.tenants in grind (arith, or_parts, ltb-false, c, d)
+  has-room none b = let c = reserved-total true before.tenants in let d = reserved-total false before.tenants in grind (arith, or_parts, ltb-false)
 
   no-beyond : (own : Quota) → is_beyond (reservations_in before) own quota ≡ false →
       (b : Bool) → reserved b before.tenants + part b quota ≤ part b before.totals + part b own
-  no-beyond own enough b = let c = reserved-total true before.tenants in let d = reserved-total false before.tenants in grind (arith, or_parts, ltb-false, c, d)
+  no-beyond own enough b = let c = reserved-total true before.tenants in let d = reserved-total false before.tenants in grind (arith, or_parts, ltb-false)
 
   within-beyond : (own : Quota) → ((b : Bool) → reserved b before.tenants + part b quota ≤ part b before.totals + part b own) →
       is_beyond (reservations_in before) own quota ≡ false
   within-beyond own both =
       let c = reserved-total true before.tenants in let d = reserved-total false before.tenants in
-      let p = both true in let q = both false in grind (arith, le-ltb, c, d, p, q)
+      let p = both true in let q = both false in grind (arith, le-ltb)
 
 -- a raised reservation that isn't beyond the totals stays within them
 module _ (before : CoreState) (number : ℕ) (old : Tenant) (quota : Quota) (at : tenant_in before.tenants number ≡ Some old) where
   -- with a further reservation in the place of the tenant's own
-  further : (b : Bool) → reserved b (with_tenant number (record old { reserve = quota }) before.tenants) + part b old.reserve ≡ reserved b before.tenants + part b quota
-  further b = total-changed (λ t. part b t.reserve) number old (record old { reserve = quota }) before.tenants at
+  abbrev further : CoreState
+  further = record before { tenants = with_tenant number (record old { reserve = quota }) before.tenants }
 
-  further-within : is_beyond (reservations_in before) old.reserve quota ≡ false →
-      Within before.totals (with_tenant number (record old { reserve = quota }) before.tenants)
-  further-within enough b = grind (arith, no-beyond, further)
+  reserved-further : (b : Bool) → reserved b further.tenants + part b old.reserve ≡ reserved b before.tenants + part b quota
+  reserved-further b = total-changed (λ t. part b t.reserve) number old (record old { reserve = quota }) before.tenants at
+
+  further-within : is_beyond (reservations_in before) old.reserve quota ≡ false → Within before.totals further.tenants
+  further-within enough b = grind (arith, no-beyond, reserved-further)
 
   -- a raised reservation is beyond exactly where a total is passed
-  pub beyond-exactly : (is_beyond (reservations_in before) old.reserve quota ≡ false)
-      ↔ IsReservedWithin (record before { tenants = with_tenant number (record old { reserve = quota }) before.tenants })
+  pub beyond-exactly : (is_beyond (reservations_in before) old.reserve quota ≡ false) ↔ IsReservedWithin further
   beyond-exactly = (
-    (λ enough. both-within (record before { tenants = with_tenant number (record old { reserve = quota }) before.tenants }) (further-within enough)),
-    (λ within. within-beyond before quota old.reserve (λ b.
-        let a = further b in
-        let w = within-both (record before { tenants = with_tenant number (record old { reserve = quota }) before.tenants }) within b in omega (arith, a, w))),
+    (λ enough. both-within further (further-within enough)),
+    (λ within. within-beyond before quota old.reserve (λ b. let a = reserved-further b in let w = within-both further within b in omega arith)),
   )
 
 -- a taken step keeps the reservations within the totals
 module _ {I A : Type 0} (functions : Functions I A) (before : CoreState) (within : IsReservedWithin before) where
   -- so does a tenant that reserves what it did
-  kept-within : (number : ℕ) (old new : Tenant) → tenant_in before.tenants number ≡ Some old → new.reserve ≡ old.reserve →
+  kept-within : (number : ℕ) (old : Tenant) → tenant_in before.tenants number ≡ Some old → (new : Tenant) → new.reserve ≡ old.reserve →
       Within before.totals (with_tenant number new before.tenants)
-  kept-within number old new at same b = grind (arith, total-changed, within-both)
+  kept-within number old at new same b = grind (arith, total-changed, within-both)
 
   taken-within : (step : StepOf A) (outcome : Outcome I) → step_result functions before step ≡ Ok outcome →
       Within before.totals (with_outcome (tenant_of step) outcome.0 before.tenants)
@@ -103,17 +101,18 @@ module _ {I A : Type 0} (functions : Functions I A) (before : CoreState) (within
       by-taken functions before step outcome (λ o. Within before.totals (with_outcome (tenant_of step) o before.tenants)) is (record {
         at_admit = λ number quota admits passed b.
             let more = total-more (λ t. part b t.reserve) (tenant_of step) (admitted_with quota) before.tenants in
-            let free = has-room before quota passed.1.0 b in omega (arith, more, free);
+            let free = has-room before quota passed.1.0 b in omega arith;
         at_step = λ tenant o at taken allowed.
+            let kept = kept-within (tenant_of step) tenant at in
             by-kinds functions tenant step o (λ left. Within before.totals (with_outcome (tenant_of step) left before.tenants)) taken (record {
               at_raise = λ number quota raises. further-within before (tenant_of step) tenant quota at (allowed number quota raises);
-              at_submit = λ serials root frames. kept-within (tenant_of step) tenant _ at refl;
-              at_work = λ serials frames. kept-within (tenant_of step) tenant _ at refl;
-              at_finish = λ root words. kept-within (tenant_of step) tenant _ at refl;
-              at_spend = λ s f found. kept-within (tenant_of step) tenant _ at refl;
-              at_cancel = λ number root found. kept-within (tenant_of step) tenant _ at refl;
+              at_submit = λ serials root frames. kept _ refl;
+              at_work = λ serials frames. kept _ refl;
+              at_finish = λ root words. kept _ refl;
+              at_spend = λ s f found. kept _ refl;
+              at_cancel = λ number root found. kept _ refl;
               at_leave = λ number leaves b.
-                  let less = total-less (λ t. part b t.reserve) (tenant_of step) before.tenants in let w = within-both before within b in omega (arith, less, w);
+                  let less = total-less (λ t. part b t.reserve) (tenant_of step) before.tenants in let w = within-both before within b in omega arith;
             });
       })
 
@@ -143,21 +142,21 @@ charged-reserved (e ∷ es) all = grind (arith, charged-reserved es all.1)
 -- all that is charged is within the totals, and what is free is the rest of them
 module _ (shared : CoreState) (all : AreShaped shared.tenants) (within : IsReservedWithin shared) where
   pub covered : IsCovered shared
-  covered = let a = charged-reserved shared.tenants all in let b = within-both shared within true in omega (arith, a, b)
+  covered = let a = charged-reserved shared.tenants all in omega (arith, within-both shared within true)
 
   pub free-whole : free_in shared + charged_in shared.tenants ≡ shared.totals.segments
-  free-whole = let c : charged_in shared.tenants ≤ shared.totals.segments = covered in omega (arith, c)
+  free-whole = let c : charged_in shared.tenants ≤ shared.totals.segments = covered in omega arith
 
 -- what a tenant has left and what it has used are together what it reserved
 module _ (tenant : Tenant) (shape : IsShaped tenant) where
   pub left-segments : (left tenant).segments + charged_for tenant.frames ≡ tenant.reserve.segments
-  left-segments = let c = shape.charged in omega (arith, c)
+  left-segments = omega arith
 
   pub left-nodes : (left tenant).nodes + tenant.serials ≡ tenant.reserve.nodes
-  left-nodes = let c = shape.opened in omega (arith, c)
+  left-nodes = omega arith
 
   pub left-steps : (left tenant).steps + tenant.steps ≡ 16 * tenant.reserve.nodes
-  left-steps = let c = shape.ticks in omega (arith, c)
+  left-steps = omega arith
 
 -- nothing is cut off
 pub ruleset none_cut_off = (left-segments, left-nodes, left-steps, covered, free-whole)

@@ -1,13 +1,5 @@
 -- The jobs of one tenant in the core's store: found by number, begun and ended.
-use Rattle.sched_store.proofs.Common.{◌≡◌, ◌≢◌, ℕ, zero, suc, ◌<◌, ◌≤◌, ◌+◌, ◌-◌, true, false, List, [], ◌∷◌, ◌++◌, length, get_or, drop, Some, None, refl, ap}
-use Rattle.sched_store.proofs.Common.{◌∙◌, arith, inl, inr, set, cases_Bool, true≢false, ne_eqb, or_parts, or_from, Job, Live}
-use Rattle.sched_store.proofs.Common.{is_live_at, job_at, number_from, with_ended, is_live, is_live_in, AreLiveOnce, JobListOf}
-use Rattle.sched_store.proofs.Common.{owner_of_jobs, jobs_of, with_jobs, find_by_number, change_by_number}
-use Rattle.std.proofs.Math.Bool.{or-true}
-use Rattle.std.specs.Prelude.{Option, IfSome, IfNone, option_copied}
-use Rattle.std.specs.Borrow.{Bor}
-use Rattle.numbered_list.proofs.Edits.{said-found, put-changed, found-said, found-none}
-use Rattle.sched_store.proofs.Common.{drop_all}
+use Rattle.sched_store.proofs.Lookups.{◌≡◌, ◌≢◌, ℕ, zero, suc, ◌<◌, ◌≤◌, ◌+◌, ◌-◌, true, false, List, [], ◌∷◌, ◌++◌, length, get_or, drop, Some, None, refl, ◌∙◌, arith, inl, inr, set, cases_Bool, true≢false, ne_eqb, or_parts, or_from, Job, Live, is_live_at, job_at, number_from, with_ended, is_live, is_live_in, AreLiveOnce, drop_all}
 
 abbrev pub Jobs : Type 0
 Jobs = List Job
@@ -36,7 +28,7 @@ none-number_from first root (job ∷ jobs) some is = grind (arith, or_from, none
 live-there : (root at : ℕ) (jobs : Jobs) (d : Job) → at < length jobs → is_live_at root (get_or jobs at d) ≡ true → is_live_in root jobs ≡ true
 live-there root at [] d within live = absurd (omega arith)
 live-there root zero (job ∷ jobs) d within live = rw live refl
-live-there root (suc at) (job ∷ jobs) d within live = rw (live-there root at jobs d (omega arith) live) (or-true (is_live_at root job))
+live-there root (suc at) (job ∷ jobs) d within live = grind (arith, or_from, live-there root at jobs d)
 
 -- a job that lives under a root is the one that is found, as there is no other
 pub number_from-there : (first at root : ℕ) (jobs : Jobs) (d : Job) → AreLiveOnce jobs → at < length jobs → is_live_at root (get_or jobs at d) ≡ true → number_from first root jobs ≡ first + at
@@ -73,10 +65,7 @@ ended-from first zero root ended (job ∷ jobs) once some is =
           | inr other ↦ not-below (from + 1) number root jobs (omega arith) some (rw other at is)
         ]
 ended-from first (suc at) root ended (job ∷ jobs) once some is =
-    elim (cases_Bool (is_live_at root job)) [
-      | inl live ↦ grind arith
-      | inr other ↦ rw other (ap (λ (rest : Jobs). job ∷ rest) (ended-from (first + 1) at root ended jobs once.1 (omega arith) grind arith))
-    ]
+    grind (arith, ended-from (first + 1) at root ended jobs once.1)
 
 -- no two jobs live under one root
 
@@ -105,27 +94,6 @@ job-read jobs number job some within is = grind (arith, job_at-there)
 pub job-past : (jobs : Jobs) (number : ℕ) → number ≢ 0 → length jobs ≤ number - 1 → None ≡ job_at jobs number
 job-past [] number some past = refl
 job-past (job ∷ jobs) number some past = grind (arith, job-past jobs (number - 1))
-
--- A tenant's list of jobs that was found, and what other jobs in it leave.
-
-abbrev All : Type 0
-All = List JobListOf
-
-module _ (n : ℕ) (job_lists : All) (job_list : JobListOf) where
-  -- the list of jobs that was found, with other jobs
-  pub found-changed : (changed : JobListOf) (change : List Job → List Job) → find_by_number owner_of_jobs n job_lists ≡ Some job_list → changed ≡ (job_list.0, change job_list.1) → change_by_number owner_of_jobs n (λ was. changed) job_lists ≡ with_jobs n change job_lists
-  found-changed changed change is new = grind (arith, put-changed)
-
-  pub jobs-found : find_by_number owner_of_jobs n job_lists ≡ Some job_list → jobs_of job_lists n ≡ job_list.1
-  jobs-found is = grind (arith, said-found)
-
--- the jobs of the list that is looked for
-module _ (n : ℕ) (job_lists : All) (found : Option (Bor JobListOf)) (is : option_copied found ≡ find_by_number owner_of_jobs n job_lists) where
-  pub found-jobs : IfSome found (λ job_list. jobs_of job_lists n ≡ job_list.now.1)
-  found-jobs = found-said owner_of_jobs (λ (l : JobListOf). l.1) [] n job_lists found is
-
-  pub none-found : IfNone found (jobs_of job_lists n ≡ [])
-  none-found = grind (arith, found-none)
 
 pub ruleset job_laws = (job_at-zero, job-read, job-past)
 

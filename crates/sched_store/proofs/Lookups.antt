@@ -1,22 +1,44 @@
--- What is found in the core that a store stands for: tenants, jobs, frames and what they see.
-use Rattle.std.proofs.Common.{◌≡◌, ℕ, ◌<◌, List, [], ◌∷◌, Some, None, ◌⊎◌, refl, subst, arith, inl, inr, suc, true, false, length, ap, sym, ◌≤◌, ◌+◌, Option, IfSome, is_some, option_map, option_and_then, IsSome}
-use Rattle.sched_store.proofs.Common.{eq-eqb, eqb-true}
-use Rattle.sched_store.proofs.Common.{account_of, AllEntries, IsRising, charged_segments, Account, has_by_number, change_by_number}
-use Rattle.sched_store.proofs.Common.{remove_by_number, inserted, JobListOf, owner_of_jobs, numbers_by, numbers_of, is_there, jobs_of, numbers_in, IsStored}
-use Rattle.sched_store.proofs.Common.{frame_in_trees, AreAtMost, node_above, sum_by-cons, node_words, total_charge, Nodes, IsOpen, IsSight, Left}
-use Rattle.sched_store.proofs.Common.{left_in_book, Reservations, FrameId, frame_at, Frame, has_frame, parent_of, name_of}
-use Rattle.sched_store.proofs.Common.{entry_of_frame, newest_ready_of, IsTree, map_value, frames_of, Tenant, Tree, TenantTree, charged_for}
-use Rattle.sched_store.proofs.Common.{account_in, job_at, sight, words_in, tenant_in, accounts_in, charged_in, reservations_in, is_full, is_beyond, Parts}
-use Rattle.sched_store.proofs.Common.{with_words_of_nodes, tenant_from, tenants_from, shared_of, tree_of, frames_in_core, jobs_in, AreAfter}
-use Rattle.sched_store.proofs.Common.{AreTenantsRising, IsAccountFor, places_of, CoreState, AreRising, sight_of, Quota, Entry, found-there, tree-induction, found-serial}
-use Rattle.sched_store.proofs.Common.{AllEntries-of, IsWithinReserve, reverse-append, map-append, Each, found-each, tree-rising}
-use Rattle.numbered_list.specs.Places.{AreAbove}
-use Rattle.numbered_list.proofs.Edits.{said-lacks, has-above, has-found, lacks-said}
-use Rattle.tenant_quota.proofs.Places.{entry-of}
-use Rattle.frame_table.proofs.TreeValues.{frame_at-map_values, tree-map_values}
+-- What is found in the core that a store stands for: tenants, jobs, frames and what they see; and the names that the
+-- proofs of the store use, imported in one place.
+pub use Rattle.cactus_stack.proofs.LawFacts.{one-sight, charge-without, gone, kept, length-padded, lt-of-some, still-none}
+pub use Rattle.cactus_stack.specs.Nodes.{node_words, total_charge, Nodes, IsOpen, IsSight, HasAllChildren, HasNoChild, IsUnused, Node, charge, charge_of, free_segments, growth_charge, node_at, node_parent, padded, with_node, with_node_words, without, words_of_node}
+pub use Rattle.frame_table.proofs.TreeChanges.{tree-aborted, tree-without}
+pub use Rattle.frame_table.proofs.TreeLaws.{found-there, tree-induction, found-serial, found-each, tree-rising, IsPlaced, placed, found-path, found-own, there-found}
+pub use Rattle.frame_table.proofs.TreeValues.{frame_at-map_values, tree-map_values, children_of-map_values, aborted-map_values, frames_under-map_values, frames_without-map_values}
+pub use Rattle.frame_table.specs.Frames.{frame_at, Frame, has_frame, parent_of, name_of, entry_of_frame, newest_ready_of, IsTree, TenantTree, path_in, children_of, AllBelow, HasValue, IsReadyAt, aborted, frames_under, frames_without, goes_under, has_parent, names_of, new_frame, ready_frames, values_of, with_state}
+pub use Rattle.frame_table.specs.Tables.{frames_of, places_of, KeepsOtherFrames, KeepsOtherTenants, tenant_count}
+pub use Rattle.frame_table.specs.TreeLaws.{map_value, Each, AllAboveSerial, AreSerialsRising, is_child_of, map_values}
+use Rattle.frame_table.specs.declared.names.Entry.{Entry}
+pub use Rattle.frame_table.specs.declared.names.FrameId.{FrameId}
+pub use Rattle.numbered_list.proofs.Edits.{said-lacks, has-above, has-found, lacks-said, found-none, found-said, said-found}
+pub use Rattle.numbered_list.specs.Places.{has_by_number, change_by_number, remove_by_number, inserted, AreRising, AreAbove, find_by_number}
+pub use Rattle.sched_rules.specs.Changes.{on_tenant, with_change, with_reserve, without_frame, without_under}
+pub use Rattle.sched_rules.specs.Cores.{tenant_in, accounts_in, charged_in, reservations_in, CoreState, is_beyond, is_full, reserved_by, without_tenant}
 use Rattle.sched_rules.specs.Headline.{AreNumbersTaken, AreNumbersGiven}
-use Rattle.sched_rules.specs.Views.{left_in_core, job_of, named, free_in, frame_in_core, newest_ready_in}
-use Rattle.cactus_stack.proofs.LawFacts.{one-sight}
+pub use Rattle.sched_rules.specs.Lone.{counted, holding, in_state, is_frame_size, opened}
+pub use Rattle.sched_rules.specs.Trees.{Tenant, Tree, charged_for, account_in, job_at, sight, words_in, is_root, has_child, admitted_with, frame_words, is_live_at, is_outside, number_from, stored, with_ended}
+pub use Rattle.sched_rules.specs.Views.{left_in_core, job_of, named, free_in, frame_in_core, newest_ready_in, live_of, ready_count}
+pub use Rattle.sched_rules.specs.declared.job.Job.{Job}
+pub use Rattle.sched_rules.specs.declared.job.Job.TheVariants.{Live}
+pub use Rattle.sched_store.specs.Changes.{with_admitted, with_departed}
+pub use Rattle.sched_store.specs.Inside.{parts_of}
+pub use Rattle.sched_store.specs.JobLists.{JobListOf, owner_of_jobs, numbers_by, numbers_of, is_there, jobs_of, AreLiveOnce, is_live, is_live_in, with_jobs, without_jobs}
+pub use Rattle.sched_store.specs.Parts.{Parts, with_words_of_nodes, tenant_from, tenants_from, shared_of}
+pub use Rattle.sched_store.specs.Reads.{tree_of, frames_in_core, jobs_in, AreAfter, AreTenantsRising, sight_of, path_of, IsAboveOwn, IsReadyIn, TenantHasLeft, words_under, serials_in}
+pub use Rattle.sched_store.specs.Stored.{numbers_in, IsStored, frame_in_trees, AreAtMost, node_above, IsAccountFor, AreFramesNodes, ArePlaces, HasFrame, IsFrameNode, node_of}
+pub use Rattle.std.proofs.Common.{◌≡◌, ℕ, ◌<◌, List, [], ◌∷◌, Some, None, ◌⊎◌, refl, subst, arith, inl, inr, suc, true, false, length, ap, sym, ◌≤◌, ◌+◌, Option, IfSome, is_some, option_map, option_and_then, IsSome, ◌∙◌, IsTrue, not, Bool, All, AllPairs, Contains, IsSomeAnd, add-one, drop, drop-cons, eqb, get_or, get_or-set_other, get_or-set_same, replicate, sum_by, zero, ◌*◌, ◌++◌, ◌-◌, ◌^◌, ◌≢◌}
+pub use Rattle.std.proofs.Math.ListN.{set}
+pub use Rattle.std.proofs.lemmas.Bool.{eq-eqb, eqb-true, cases_Bool, cases_eq, eqb-false, false≢true, lt-ltb, ne_eqb, or_from, or_parts, true≢false}
+pub use Rattle.std.proofs.lemmas.List.{reverse-append, map-append, length-map, length-append, drop_all, length-replicate, length-set, nil_from_length, set-set}
+pub use Rattle.std.proofs.lemmas.List.Sums.{sum_by-cons, sum_by-set}
+pub use Rattle.std.specs.List.{filter}
+use Rattle.std.specs.Option.{is_none}
+pub use Rattle.tenant_quota.proofs.Edits.{AllEntries-of, AllEntries-map, sum_by-le-with}
+use Rattle.tenant_quota.proofs.Places.{entry-of}
+pub use Rattle.tenant_quota.specs.Accounts.{account_of, AllEntries, IsRising, charged_segments, IsWithinReserve, charged_by, credited_by, left_in, owner_of_account, reserved_segments, ticked, with_changed}
+pub use Rattle.tenant_quota.specs.Reservations.{left_in_book, Reservations, ChangesOnly, HasChargedAtLeast, IsSoundBook, changed}
+pub use Rattle.tenant_quota.specs.declared.account.Account.{Account}
+pub use Rattle.tenant_quota.specs.declared.account.Left.{Left}
 
 abbrev pub Entries : Type 0
 Entries = List (ℕ × Account)
@@ -46,6 +68,14 @@ tree_in parts number = with_words_of_nodes parts.nodes (frames_of parts.trees nu
 abbrev pub with_words : Parts → Option (Frame ℕ) → Option (Frame (List ℕ))
 with_words parts o = option_map (map_value (node_words parts.nodes)) o
 
+-- the frame of this serial in a tenant's tree
+abbrev pub IsAt : Trees → ℕ → ℕ → Frame ℕ → Type 0
+IsAt trees number serial frame = frame_in_trees trees number serial ≡ Some frame
+
+-- the core has a frame of this name
+abbrev pub IsNamed : Parts → FrameId → Type 0
+IsNamed parts name = IsSome (named (shared_of parts) name)
+
 -- the account of a tenant
 abbrev pub Owns : Parts → ℕ → Account → Type 0
 Owns parts number account = account_of number parts.book.accounts ≡ Some account
@@ -62,13 +92,13 @@ none-or-some None = inl refl
 none-or-some (Some a) = inr (a, refl)
 
 -- what is true of each account, along the list of accounts
-pub lower-missing : (number : ℕ) (entries : List (ℕ × Account)) → AllEntries (λ later. number < later.0) entries → account_of number entries ≡ None
+lower-missing : (number : ℕ) (entries : Entries) → AllEntries (λ later. number < later.0) entries → account_of number entries ≡ None
 lower-missing number entries all = grind (arith, said-lacks, has-above)
 
-pub account-tail : (number : ℕ) (account : Account) (entry : ℕ × Account) (entries : List (ℕ × Account)) → IsRising (entry ∷ entries) → account_of number entries ≡ Some account → account_of number (entry ∷ entries) ≡ Some account
+account-tail : (number : ℕ) (account : Account) (entry : ℕ × Account) (entries : Entries) → IsRising (entry ∷ entries) → account_of number entries ≡ Some account → account_of number (entry ∷ entries) ≡ Some account
 account-tail number account entry entries rising there = let none = lower-missing entry.0 entries rising.0 in grind (arith, none, eqb-true)
 
-pub each-entry : (P : ℕ → Account → Type 0) (entries : List (ℕ × Account)) → IsRising entries → ((number : ℕ) (account : Account) → account_of number entries ≡ Some account → P number account) → AllEntries (λ entry. P entry.0 entry.1) entries
+each-entry : (P : ℕ → Account → Type 0) (entries : Entries) → IsRising entries → ((number : ℕ) (account : Account) → account_of number entries ≡ Some account → P number account) → AllEntries (λ entry. P entry.0 entry.1) entries
 each-entry P [] rising all = tt
 each-entry P (entry ∷ entries) rising all =
     (all entry.0 entry.1 (rw (eq-eqb entry.0 entry.0 refl) refl), each-entry P entries rising.1 (λ number account there. grind (arith, account-tail)))
@@ -98,7 +128,7 @@ module _ {X : Type 0} (number_of : X → ℕ) where
   has-numbers n (x ∷ xs) = grind (arith, has-numbers n xs)
 
 -- a tenant has a list of jobs exactly where it has an account
-module _ (n : ℕ) (job_lists : List JobListOf) (entries : List (ℕ × Account)) where
+module _ (n : ℕ) (job_lists : List JobListOf) (entries : Entries) where
   pub job_list-there : (a : Account) → numbers_of job_lists ≡ numbers_in entries → account_of n entries ≡ Some a → is_there n job_lists ≡ true
   job_list-there a same there = grind (arith, has-found, entry-of, has-numbers)
 
@@ -130,19 +160,12 @@ tenant_in-tenants_from parts [] number = refl
 tenant_in-tenants_from parts (entry ∷ entries) number = grind (arith, tenant_in-tenants_from parts entries number, eqb-true)
 
 -- what is true of each frame that is found is true of each frame
-pub each-frame : {parts : Parts} → IsStored parts → (number : ℕ) (P : Frame ℕ → Type 0) → ((serial : ℕ) (x : Frame ℕ) → frame_in_trees parts.trees number serial ≡ Some x → P x) → Each P (frames_of parts.trees number)
+pub each-frame : {parts : Parts} → IsStored parts → (number : ℕ) (P : Frame ℕ → Type 0) → ((serial : ℕ) (x : Frame ℕ) → IsAt parts.trees number serial x → P x) → Each P (frames_of parts.trees number)
 each-frame {parts} stored number P all = grind (arith, found-each, tree-rising)
 
-module _ (parts : Parts) (number : ℕ) where
-  -- a tenant is what its account stands for
-  pub tenant-found : tenant_in (shared_of parts).tenants number ≡ option_map (tenant_from parts number) (account_of number parts.book.accounts)
-  tenant-found = grind (arith, tenant_in-tenants_from)
-
-  pub tenant-there : is_some (tenant_in (shared_of parts).tenants number) ≡ is_some (account_of number parts.book.accounts)
-  tenant-there = grind (arith, tenant-found)
-
-named-frames : (parts : Parts) (name : FrameId) → named (shared_of parts) name ≡ frame_at (frames_in_core (shared_of parts) name.tenant) name.serial
-named-frames parts name = grind arith
+-- a tenant is what its account stands for
+pub tenant-found : (parts : Parts) (number : ℕ) → tenant_in (shared_of parts).tenants number ≡ option_map (tenant_from parts number) (account_of number parts.book.accounts)
+tenant-found parts number = grind (arith, tenant_in-tenants_from)
 
 module _ {parts : Parts} (stored : IsStored parts) where
   -- its frames are those of the table, each with the words of its node
@@ -151,7 +174,10 @@ module _ {parts : Parts} (stored : IsStored parts) where
 
   -- a frame is that of the table, with the words of its node
   pub named-found : (name : FrameId) → named (shared_of parts) name ≡ with_words parts (framed parts name)
-  named-found name = grind (arith, named-frames, frames-found, frame_at-map_values)
+  named-found name = grind (arith, by, frames-found, frame_at-map_values)
+    where
+      by : named (shared_of parts) name ≡ frame_at (frames_in_core (shared_of parts) name.tenant) name.serial
+      by = grind arith
 
   -- its jobs are those of its list
 
@@ -166,15 +192,18 @@ module _ {parts : Parts} (stored : IsStored parts) where
   pub left-found : (number : ℕ) → left_in_core (shared_of parts) number ≡ left_in_book number parts.book
   left-found number = grind (arith, tenant-found)
 
-abbrev ChargesFrames : Parts → ℕ → Account → Type 0
-ChargesFrames parts number account = account_in (tenant_from parts number account) ≡ account
-
 -- the accounts that the core shows are the book's
 module _ (parts : Parts) where
-  all-charged : IsStored parts → AllEntries (λ entry. ChargesFrames parts entry.0 entry.1) parts.book.accounts
-  all-charged stored = each-entry (ChargesFrames parts) parts.book.accounts stored.book.rising (λ number account is. grind arith)
+  abbrev ChargesFrames : ℕ → Account → Type 0
+  ChargesFrames number account = account_in (tenant_from parts number account) ≡ account
 
-  accounts_in-tenants_from : (entries : Entries) → AllEntries (λ entry. ChargesFrames parts entry.0 entry.1) entries → accounts_in (tenants_from parts entries) ≡ entries
+  abbrev AllCharged : Entries → Type 0
+  AllCharged entries = AllEntries (λ entry. ChargesFrames entry.0 entry.1) entries
+
+  all-charged : IsStored parts → AllCharged parts.book.accounts
+  all-charged stored = each-entry ChargesFrames parts.book.accounts stored.book.rising (λ number account is. grind arith)
+
+  accounts_in-tenants_from : (entries : Entries) → AllCharged entries → accounts_in (tenants_from parts entries) ≡ entries
   accounts_in-tenants_from [] all = refl
   accounts_in-tenants_from (entry ∷ entries) all = rw (all.0, accounts_in-tenants_from entries all.1) refl
 
@@ -182,7 +211,7 @@ module _ (parts : Parts) where
   pub reservations-found : IsStored parts → reservations_in (shared_of parts) ≡ parts.book
   reservations-found stored = grind (arith, accounts_in-tenants_from, all-charged)
 
-  charged_in-tenants_from : (entries : Entries) → AllEntries (λ entry. ChargesFrames parts entry.0 entry.1) entries → charged_in (tenants_from parts entries) ≡ charged_segments entries
+  charged_in-tenants_from : (entries : Entries) → AllCharged entries → charged_in (tenants_from parts entries) ≡ charged_segments entries
   charged_in-tenants_from [] all = refl
   charged_in-tenants_from (entry ∷ entries) all =
       let own : charged_for (tree_in parts entry.0) ≡ entry.1.charged = ap (λ (a : Account). a.charged) all.0 in
@@ -198,9 +227,6 @@ module _ (parts : Parts) where
   taken-tenants_from newest [] all = tt
   taken-tenants_from newest (entry ∷ entries) all = (all.0, taken-tenants_from newest entries all.1)
 
-  pub known-found : IsStored parts → AreNumbersGiven (shared_of parts)
-  known-found stored = grind (arith, taken-tenants_from)
-
   after-tenants_from : (number : ℕ) (entries : Entries) → AllEntries (λ later. number < later.0) entries → AreAfter number (tenants_from parts entries)
   after-tenants_from number [] all = tt
   after-tenants_from number (entry ∷ entries) all = grind (arith, after-tenants_from number entries all.1)
@@ -209,13 +235,17 @@ module _ (parts : Parts) where
   rising-tenants_from [] rising = tt
   rising-tenants_from (entry ∷ entries) rising = grind (arith, after-tenants_from, rising-tenants_from entries rising.1)
 
-  pub rising-found : IsStored parts → AreTenantsRising (shared_of parts).tenants
-  rising-found stored = grind (arith, rising-tenants_from)
+module _ {parts : Parts} (stored : IsStored parts) where
+  pub known-found : AreNumbersGiven (shared_of parts)
+  known-found = grind (arith, taken-tenants_from)
+
+  pub rising-found : AreTenantsRising (shared_of parts).tenants
+  rising-found = grind (arith, rising-tenants_from)
 
   -- what a tenant has left is free
-  pub left-free : IsStored parts → (left : Option Left) → IfSome left (λ l. charged_segments parts.book.accounts + l.segments ≤ parts.book.segments) → IfSome left (λ l. l.segments ≤ free_in (shared_of parts))
-  left-free stored None there = tt
-  left-free stored (Some left) there = grind (arith, charged_in-tenants_from, all-charged)
+  pub left-free : (left : Option Left) → IfSome left (λ l. charged_segments parts.book.accounts + l.segments ≤ parts.book.segments) → IfSome left (λ l. l.segments ≤ free_in (shared_of parts))
+  left-free None there = tt
+  left-free (Some left) there = grind (arith, charged_in-tenants_from, all-charged)
 
 -- a job is one of its tenant's
 pub job-kept : (core : CoreState) (number job : ℕ) → job_of core number job ≡ job_at (jobs_in core number) job
@@ -223,13 +253,9 @@ job-kept core number job = grind arith
 
 pub ruleset job_reads = (job-kept)
 
--- whether a reservation has room, and whether a raise is beyond the totals, is what the book says
-module _ (parts : Parts) (stored : IsStored parts) where
-  pub full-found : (quota : Quota) → is_full parts.book quota ≡ is_full (reservations_in (shared_of parts)) quota
-  full-found quota = ap (λ (book : Reservations). is_full book quota) (sym (reservations-found parts stored))
-
-  pub beyond-found : (own quota : Quota) → is_beyond parts.book own quota ≡ is_beyond (reservations_in (shared_of parts)) own quota
-  beyond-found own quota = ap (λ (book : Reservations). is_beyond book own quota) (sym (reservations-found parts stored))
+-- what the book says is what all reservations say
+pub book-says : {parts : Parts} → IsStored parts → (says : Reservations → Bool) → says (reservations_in (shared_of parts)) ≡ says parts.book
+book-says {parts} stored says = ap says (reservations-found parts stored)
 
 -- What is asked of frames with words is what is asked of the table's frames.
 
@@ -279,7 +305,7 @@ module _ {parts : Parts} (stored : IsStored parts) where
       by (Some tenant) = refl
 
 -- a frame that is there
-module _ {parts : Parts} (stored : IsStored parts) (name : FrameId) (is : IsSome (named (shared_of parts) name)) where
+module _ {parts : Parts} (stored : IsStored parts) (name : FrameId) (is : IsNamed parts name) where
   pub there-frame : (frame : Frame ℕ) × (framed parts name ≡ Some frame)
   there-frame = grind (arith, named-found)
 
@@ -289,25 +315,25 @@ module _ {parts : Parts} (stored : IsStored parts) (name : FrameId) (is : IsSome
 -- What a frame sees: the stack's way from node to node is the frame's path.
 
 -- the words that a serial stands for are those of its frame's node
-words-at : (parts : Parts) (number serial : ℕ) (frame : Frame ℕ) → frame_in_trees parts.trees number serial ≡ Some frame → words_in (tree_in parts number) serial ≡ node_words parts.nodes frame.value
+words-at : (parts : Parts) (number serial : ℕ) (frame : Frame ℕ) → IsAt parts.trees number serial frame → words_in (tree_in parts number) serial ≡ node_words parts.nodes frame.value
 words-at parts number serial frame at = grind (arith, frame_at-map_values)
-
--- the stack's sight of a node is the sight along its frame's path
-abbrev Sees : Parts → ℕ → Frame ℕ → Type 0
-Sees parts number frame = (serial : ℕ) → frame_in_trees parts.trees number serial ≡ Some frame → IsSight parts.nodes (Some frame.value) (sight (tree_in parts number) frame.path)
 
 -- what a frame sees through its node is what it sees in the core
 module _ {parts : Parts} (stored : IsStored parts) (number : ℕ) where
+  -- the stack's sight of a node is the sight along its frame's path
+  abbrev SeesPath : Frame ℕ → Type 0
+  SeesPath frame = IsSight parts.nodes (Some frame.value) (sight (tree_in parts number) frame.path)
+
   -- its own words, and what is seen from above it
-  sees-first : (serial : ℕ) (frame : Frame ℕ) (levels : List (List ℕ)) → frame_in_trees parts.trees number serial ≡ Some frame → sight (tree_in parts number) frame.path ≡ words_in (tree_in parts number) frame.serial ∷ levels →
-      IsSight parts.nodes (node_above (frames_of parts.trees number) (parent_of frame.path)) levels → IsSight parts.nodes (Some frame.value) (sight (tree_in parts number) frame.path)
+  sees-first : (serial : ℕ) (frame : Frame ℕ) (levels : List (List ℕ)) → IsAt parts.trees number serial frame → sight (tree_in parts number) frame.path ≡ words_in (tree_in parts number) frame.serial ∷ levels →
+      IsSight parts.nodes (node_above (frames_of parts.trees number) (parent_of frame.path)) levels → SeesPath frame
   sees-first serial frame levels at whole above =
       let belongs = stored.frames_nodes.nodes_of_frames number serial frame at in
       rw whole (belongs.is_open, rw (found-serial (frames_of parts.trees number) serial frame at) (sym (words-at parts number serial frame at)), rw belongs.parent above)
 
-  sees : (serial : ℕ) (frame : Frame ℕ) → frame_in_trees parts.trees number serial ≡ Some frame → IsSight parts.nodes (Some frame.value) (sight (tree_in parts number) frame.path)
+  sees : (serial : ℕ) (frame : Frame ℕ) → IsAt parts.trees number serial frame → SeesPath frame
   sees serial frame at =
-      tree-induction (Sees parts number) (frames_of parts.trees number) (stored.forest number)
+      tree-induction (λ (f : Frame ℕ). (s : ℕ) → IsAt parts.trees number s f → SeesPath f) (frames_of parts.trees number) (stored.forest number)
       (λ f top s at_s. grind (arith, sees-first)) (λ f u above_sees s at_s. grind (arith, sees-first, map-append, reverse-append)) serial frame at serial at
 
 -- so what the stack shows is what the frame sees
@@ -325,5 +351,38 @@ module _ {parts : Parts} (stored : IsStored parts) (name : FrameId) where
       let value : entry.value ≡ f.frame.value = ap (λ (e : Entry ℕ). e.value) f.is in
       subst (λ (n : ℕ). IsOpen parts.nodes n) (sym value) (stored.frames_nodes.nodes_of_frames name.tenant name.serial f.frame f.there).is_open
 
-  pub there-not-missing : IsSome (named (shared_of parts) name) → None ≡ entry_in parts name → ⊥
+  pub there-not-missing : IsNamed parts name → None ≡ entry_in parts name → ⊥
   there-not-missing some is = grind (arith, nothing-found)
+
+-- What a frame's words are, seen through its node.
+
+module _ {parts : Parts} (stored : IsStored parts) (name : FrameId) where
+  -- the path of a frame that is there
+  pub path-shown : IsNamed parts name → path_of (named (shared_of parts) name) ≡ path_in (family parts name) name.serial
+  path-shown some = grind (arith, named-found, found-path)
+
+some-length : (frames : Frames) (frame : Frame ℕ) → IsPlaced frames frame → 1 ≤ length frame.path
+some-length frames frame (inl top) = grind arith
+some-length frames frame (inr under) = grind (arith, length-append)
+
+-- a frame has no parent exactly where its path has one serial
+root-by-length : (frames : Frames) (frame : Frame ℕ) → IsTree frames → IsPlaced frames frame → is_none (parent_of frame.path) ≡ is_root frame.path
+root-by-length frames frame tree (inl top) = rw (top.0, top.1) refl
+root-by-length frames frame tree (inr under) =
+    let above = some-length frames under.above (placed frames under.parent under.above tree under.there) in
+    let long = ap length under.path ∙ length-append under.above.path (frame.serial ∷ []) in grind arith
+
+-- an entry has a parent exactly where the core's frame is no root
+module _ {parts : Parts} (stored : IsStored parts) (name : FrameId) {entry : Entry ℕ}
+    (is : Some entry ≡ entry_in parts name) where
+  pub child-or-root : is_some entry.parent ≡ not (is_root (path_of (named (shared_of parts) name)))
+  child-or-root =
+      let f = found stored name is in
+      let F = family parts name in
+      let root = root-by-length F f.frame (stored.forest name.tenant) (placed F name.serial f.frame (stored.forest name.tenant) f.there) in
+      grind (arith, f, root)
+
+-- a frame has a child exactly where it has one in the table
+pub child-shown : {parts : Parts} → IsStored parts → (name : FrameId) (has : Bool) → (IsTrue has → 0 < length (children_of (family parts name) name.serial)) × (0 < length (children_of (family parts name) name.serial) → IsTrue has) →
+    has ≡ has_child (frames_in_core (shared_of parts) name.tenant) name.serial
+child-shown {parts} stored name has is = grind (arith, frames-found, children_of-map_values, length-map)

@@ -1,21 +1,9 @@
 -- A frame is opened in the core's store, with a node for its words and a charge to its tenant.
-use Rattle.std.proofs.Common.{◌≡◌, ◌≢◌, ℕ, ◌<◌, ◌≤◌, ◌+◌, ◌-◌, true, List, [], ◌∷◌, ◌++◌, length, Option, Some, None, refl, ap, sym, ◌∙◌, arith, inl, inr, ◌⊎◌, get_or-set_other, get_or-set_same, IfSome}
-use Rattle.sched_store.proofs.Common.{Account, CoreState, map_value, Each, Tree, charged_for, Parts, with_words_of_nodes}
-use Rattle.sched_store.proofs.Common.{shared_of, false≢true, frames_in_core, serials_in, TenantHasLeft, length-set}
-use Rattle.sched_store.proofs.Common.{charged_by, charged_segments, left_in, Reservations, ChangesOnly}
-use Rattle.sched_store.proofs.Common.{IsSoundBook, frames_of, KeepsOtherFrames, places_of, IsStored, AreFramesNodes}
-use Rattle.sched_store.proofs.Common.{frame_in_trees, node_of, node_above, Frame, frame_at, has_parent, parent_of, AllBelow, IsTree}
-use Rattle.sched_store.proofs.Common.{new_frame, found-there, below-found, frame_at-push, frame_at-other-push, frame_at-left}
-use Rattle.sched_store.proofs.Common.{under-there, there-found, Nodes, Node, node_at, node_words, words_of_node, with_node}
-use Rattle.sched_store.proofs.Common.{IsOpen, IsUnused, padded, charge, charge_of, total_charge}
+use Rattle.sched_store.proofs.Lookups.{◌≡◌, ◌≢◌, ℕ, ◌<◌, ◌≤◌, ◌+◌, ◌-◌, true, List, [], ◌∷◌, ◌++◌, length, Option, Some, None, refl, ap, sym, ◌∙◌, arith, inl, inr, ◌⊎◌, get_or-set_other, get_or-set_same, IfSome, Account, CoreState, map_value, Each, Tree, charged_for, Parts, with_words_of_nodes, shared_of, false≢true, frames_in_core, TenantHasLeft, length-set, charged_by, charged_segments, left_in, Reservations, ChangesOnly, IsSoundBook, frames_of, KeepsOtherFrames, places_of, IsStored, AreFramesNodes, frame_in_trees, node_of, node_above, Nodes, Node, node_at, node_words, words_of_node, with_node, IsOpen, IsUnused, padded, charge, charge_of, total_charge, opened, is_frame_size, sum_by-set, length-padded, Frame, frame_at, has_parent, parent_of, AllBelow, IsTree, new_frame, Frames, Trees, each-frame, tree_in, Owns, its-account, frames-found, IsAt, serials_in, tenant-found}
+use Rattle.frame_table.proofs.TreeLaws.{found-there, below-found, frame_at-push, frame_at-other-push, frame_at-left, under-there, there-found}
 use Rattle.frame_table.proofs.TreeValues.{tree-new_frame, parent_of-path_under, append-map_values, new_frame-map_values, has_frame-map_values}
-use Rattle.sched_rules.specs.Lone.{opened, is_frame_size}
-use Rattle.std.proofs.lemmas.List.Sums.{sum_by-set}
-use Rattle.sched_store.proofs.Words.{with_words_of_nodes-same}
-use Rattle.sched_store.proofs.States.{charged-cons}
-use Rattle.sched_store.proofs.Steps.{TenantStep, other-tenants, Stepped, stepped, left-account}
-use Rattle.sched_store.proofs.Lookups.{Frames, Trees, each-frame, tree_in, Owns, its-account, frames-found, tenant-found}
-use Rattle.cactus_stack.proofs.LawFacts.{length-padded}
+use Rattle.sched_store.proofs.FrameSteps.{with_words_of_nodes-same, charged-cons}
+use Rattle.sched_store.proofs.Steps.{TenantStep, Stepped, stepped, left-account}
 
 -- what is opened: the tenant's next serial, under a parent, with these words
 pub record OpensFrame (old : Parts) (nodes : Nodes) (trees : Trees) (book : Reservations) (number : ℕ) (parent : Option ℕ) (above : Option ℕ) (words : List ℕ) (size home node : ℕ) (account : Account) : Type 0 where
@@ -48,7 +36,7 @@ module _ (old new : Trees) (added : Frame ℕ) (number : ℕ) (frames : frames_o
       ((m ≡ number) × (s ≡ added.serial)) ⊎ (frame_in_trees new m s ≡ frame_in_trees old m s)
   added-cases kept above m s = grind (arith, frame_at-other-push)
 
-  added-here : AllBelow added.serial (frames_of old number) → frame_in_trees new number added.serial ≡ Some added
+  added-here : AllBelow added.serial (frames_of old number) → IsAt new number added.serial added
   added-here above = grind (arith, frame_at-push)
 
 above-kept : (frames others : Frames) (parent : Option ℕ) → has_parent frames parent ≡ true → node_above (frames ++ others) parent ≡ node_above frames parent
@@ -147,7 +135,7 @@ module _ (old : Parts) (nodes : Nodes) (trees : Trees) (book : Reservations) (nu
         there = opens.there;
         sound = opens.sound;
         book = opens.changes.whole;
-        trees = other-tenants opens.kept;
+        trees = grind arith;
         count = opens.kept.count;
         tree = grind (arith, tree-new_frame);
         frames_nodes = opened-nodes;
@@ -163,7 +151,7 @@ module _ (old : Parts) (nodes : Nodes) (trees : Trees) (book : Reservations) (nu
         jobs = λ other differs. refl;
         places = λ worker m s frame is held. elim (added-cases old.trees trees added number opens.frames opens.kept account_is.serials m s) [
           | inl (same, at) ↦ absurd (
-              let now : frame_in_trees trees number added.serial ≡ Some frame = rw (← same, ← at) is in
+              let now : IsAt trees number added.serial frame = rw (← same, ← at) is in
               let e : added ≡ frame = cc (added-here old.trees trees added number opens.frames account_is.serials, now) in
               false≢true (rw (← e) at held))
           | inr was ↦ stored.places worker m s frame (sym was ∙ is) held

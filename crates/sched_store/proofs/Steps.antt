@@ -1,18 +1,6 @@
 -- A change of one tenant in the core's store: what the store keeps true, and the core that it stands for.
-use Rattle.std.proofs.Common.{◌≡◌, ◌≢◌, ℕ, ◌<◌, ◌≤◌, eqb, List, [], ◌∷◌, length, Some, None, option_map, refl, ap, sym, ◌∙◌, arith, inl, inr, true, Option, IsSome, IsSomeAnd, suc, ◌*◌, sum_by, IfSome, is_some}
-use Rattle.sched_store.proofs.Common.{Job, Left, Account, FrameId, sum_by-cons, map_value, Each, CoreState, tenant_in, with_change, on_tenant}
-use Rattle.sched_store.proofs.Common.{words_under, IsReadyIn, left_in_core, ready_count, live_of, tree-rising, found-each, found-serial, Tenant, Tree}
-use Rattle.sched_store.proofs.Common.{charged_for, frame_words, total_charge, Nodes, node_words, charge, cases_Bool, eqb-true, eqb-false, false≢true}
-use Rattle.sched_store.proofs.Common.{IsTree, Frame, names_of, ready_frames, IsReadyAt, frames_of, tenant_count, KeepsOtherFrames}
-use Rattle.sched_store.proofs.Common.{KeepsOtherTenants, Reservations, changed, IsSoundBook, ChangesOnly, left_in_book, Parts, with_words_of_nodes, tenant_from}
-use Rattle.sched_store.proofs.Common.{tenants_from, shared_of, jobs_of, numbers_of, JobListOf, owner_of_jobs, is_there, with_jobs, IsStored, IsAccountFor}
-use Rattle.sched_store.proofs.Common.{AreFramesNodes, ArePlaces, frame_in_trees, owner_of_account, account_of, with_changed}
-use Rattle.sched_store.proofs.Common.{charged_segments, AllEntries, IsRising, ticked, left_in}
-use Rattle.numbered_list.proofs.Edits.{with-same, said-with-own, said-with-other, length-with, all-with}
-use Rattle.sched_store.proofs.Lookups.{within-reserve, Frames, Trees, tree_in, with_words, Owns, Entries, none-or-some, numbers-with, job_list-there, tenant-there, left-found, named-found, tenant-found}
-use Rattle.sched_store.proofs.Common.{find_by_number, change_by_number}
-use Rattle.sched_store.proofs.Jobs.{found-changed}
-use Rattle.sched_rules.specs.Lone.{counted}
+use Rattle.sched_store.proofs.Lookups.{◌≡◌, ◌≢◌, ℕ, ◌<◌, ◌≤◌, eqb, List, [], ◌∷◌, length, Some, None, option_map, refl, ap, sym, ◌∙◌, arith, inl, inr, true, Option, IsSome, IsSomeAnd, ◌*◌, sum_by, IfSome, is_some, Job, Left, Account, FrameId, sum_by-cons, map_value, Each, CoreState, tenant_in, with_change, on_tenant, words_under, IsReadyIn, left_in_core, ready_count, live_of, tree-rising, found-each, Tenant, Tree, charged_for, frame_words, total_charge, Nodes, node_words, charge, cases_Bool, eqb-true, eqb-false, false≢true, IsTree, Frame, names_of, ready_frames, IsReadyAt, frames_of, tenant_count, KeepsOtherTenants, Reservations, changed, IsSoundBook, ChangesOnly, left_in_book, Parts, with_words_of_nodes, tenant_from, tenants_from, shared_of, jobs_of, numbers_of, JobListOf, owner_of_jobs, is_there, with_jobs, IsStored, IsAccountFor, AreFramesNodes, ArePlaces, frame_in_trees, owner_of_account, account_of, with_changed, charged_segments, AllEntries, IsRising, ticked, left_in, counted, length-map, found-own, find_by_number, change_by_number, within-reserve, Frames, tree_in, with_words, Owns, Entries, none-or-some, numbers-with, job_list-there, left-found, named-found, tenant-found, IsAt}
+use Rattle.numbered_list.proofs.Edits.{put-changed, with-same, said-with-own, said-with-other, length-with, all-with}
 use Rattle.frame_table.proofs.Finds.{none-of-length}
 
 -- a number, and what is beside it changed
@@ -30,15 +18,8 @@ account-changed n f entries =
     said-with-own owner_of_account (λ e. Some e.1) None (option_map f) n (with_second f) entries (λ e own. own) (λ e. refl) (λ lacks. refl)
 
 -- a change that changes nothing
-pub changed-nothing : (book : Reservations) (n : ℕ) → book ≡ changed book n (λ a. a)
-changed-nothing book n = ap (λ (entries : Entries). at-entries entries) (sym (with-same owner_of_account n book.accounts))
-  where
-    at-entries : Entries → Reservations
-    at-entries entries = record book { accounts = entries }
-
--- a table that keeps all places
-pub other-tenants : {old new : Trees} {number : ℕ} → KeepsOtherFrames old new number → KeepsOtherTenants old new number
-other-tenants kept = grind arith
+pub changed-nothing : (book : Reservations) (n : ℕ) → changed book n (λ a. a) ≡ book
+changed-nothing book n = λ i. record book { accounts = with-same owner_of_account n book.accounts i }
 
 -- one tenant's account, frames, places, words or jobs change, and no other tenant's
 pub record TenantStep (old new : Parts) (number : ℕ) (f : Account → Account) (account : Account) : Type 0 where
@@ -58,19 +39,16 @@ pub record TenantStep (old new : Parts) (number : ℕ) (f : Account → Account)
   pub places : ArePlaces new.trees new.places
   pub newest : new.newest ≡ old.newest
 
--- the accounts after such a change of one tenant
-module _ {old new : Parts} {number : ℕ} where
-  -- what a store keeps true is true after such a change
-  pub step-stored : {f : Account → Account} {account : Account} → IsStored old → TenantStep old new number f account → IsStored new
-  step-stored {f} stored step = grind (arith, length-with, numbers-with, all-with, said-with-other, account-changed)
+-- what a store keeps true is true after such a change
+step-stored : {old new : Parts} {number : ℕ} {f : Account → Account} {account : Account} → IsStored old → TenantStep old new number f account → IsStored new
+step-stored stored step = grind (arith, length-with, numbers-with, all-with, said-with-other, account-changed)
 
 -- the tenants after such a change
 module _ (old new : Parts) (number : ℕ) where
   others-same : (entries : Entries) → SameOthers old new number → AllEntries (λ later. number < later.0) entries → tenants_from new entries ≡ tenants_from old entries
   others-same [] others all = refl
   others-same (entry ∷ entries) others all =
-      let first : tenant_from new entry.0 entry.1 ≡ tenant_from old entry.0 entry.1 = others entry.0 entry.1 (λ e. omega (arith, all.0, e)) in
-      rw (first, others-same entries others all.1) refl
+      rw (others entry.0 entry.1 (λ e. omega (arith, all.0, e)), others-same entries others all.1) refl
 
   tenants-changed : (f : Account → Account) (change : Tenant → Tenant) (account : Account) (entries : Entries) → IsRising entries → SameOthers old new number →
       account_of number entries ≡ Some account → tenant_from new number (f account) ≡ change (tenant_from old number account) →
@@ -98,15 +76,13 @@ stepped change stored step own = grind (arith, step-stored, tenants-changed)
 
 -- Steps that are counted, and jobs that begin and end: no frame changes.
 
--- the account of a tenant that is there
-module _ (parts : Parts) (number : ℕ) where
-  -- the same of a core that the parts show
-  pub there-account-in : {core : CoreState} → shared_of parts ≡ core → IsSome (tenant_in core.tenants number) → (a : Account) × (Owns parts number a)
-  there-account-in is there = grind (arith, tenant-there)
+-- the account of a tenant that is there in a core that the parts show, and its list of jobs
+module _ {parts : Parts} (stored : IsStored parts) (number : ℕ) {core : CoreState} (shows : shared_of parts ≡ core) (there : IsSome (tenant_in core.tenants number)) where
+  pub there-account : (a : Account) × Owns parts number a
+  there-account = grind (arith, tenant-found)
 
--- and so is its list of jobs
-pub has-job_list : {parts : Parts} (number : ℕ) {core : CoreState} → IsStored parts → shared_of parts ≡ core → IsSome (tenant_in core.tenants number) → is_there number parts.job_lists ≡ true
-has-job_list {parts} number stored is there = grind (arith, there-account-in, job_list-there)
+  pub has-job_list : is_there number parts.job_lists ≡ true
+  has-job_list = grind (arith, there-account, job_list-there)
 
 module _ {parts : Parts} (stored : IsStored parts) (number : ℕ) (P : Left → Type 0) (is : IsSomeAnd (left_in_core (shared_of parts) number) P) where
   -- what the book says it has left
@@ -122,7 +98,7 @@ module _ {old : Parts} {book : Reservations} {number : ℕ} {account : Account} 
   ticked-step = grind arith
 
   pub count-step : Stepped old (record old { book = book }) number counted
-  count-step = stepped counted stored (ticked-step) refl
+  count-step = stepped counted stored ticked-step refl
 
 -- jobs begin and end
 
@@ -147,7 +123,7 @@ module _ {old : Parts} (number : ℕ) {account : Account} (change : List Job →
   pub jobs-put : {job_list changed : JobListOf} → find_by_number owner_of_jobs number old.job_lists ≡ Some job_list → changed ≡ (job_list.0, change job_list.1) → JobsPut old number changed change
   jobs-put {job_list} {changed} found is =
       let jobs = jobs-with_jobs number change old.job_lists (job_list-there number old.job_lists old.book.accounts account stored.job_lists there) in
-      rw (found-changed number old.job_lists job_list changed change found is) (stepped (jobs_changed change) stored (jobs-step) (rw jobs refl))
+      rw (put-changed owner_of_jobs number (with_second change) old.job_lists job_list changed found is) (stepped (jobs_changed change) stored jobs-step (rw jobs refl))
 
 -- What is counted over a tenant's frames and over all tenants: words, and frames that are ready.
 
@@ -160,11 +136,11 @@ count-with_words_of_nodes nodes [] = refl
 count-with_words_of_nodes nodes (x ∷ xs) = grind (arith, count-with_words_of_nodes nodes xs)
 
 -- where no tenant has a ready frame none is counted
-pub none-counted : (parts : Parts) (entries : List (ℕ × Account)) → ((tenant : ℕ) → ready_frames (frames_of parts.trees tenant) ≡ []) → ready_count (tenants_from parts entries) ≡ 0
+pub none-counted : (parts : Parts) (entries : Entries) → ((tenant : ℕ) → ready_frames (frames_of parts.trees tenant) ≡ []) → ready_count (tenants_from parts entries) ≡ 0
 none-counted parts [] none = refl
 none-counted parts (entry ∷ entries) none = grind (arith, count-with_words_of_nodes, none-counted parts entries none)
 
-counted-none : (parts : Parts) (entries : List (ℕ × Account)) → ready_count (tenants_from parts entries) ≡ 0 → (tenant : ℕ) (account : Account) → account_of tenant entries ≡ Some account → length (ready_frames (frames_of parts.trees tenant)) ≡ 0
+counted-none : (parts : Parts) (entries : Entries) → ready_count (tenants_from parts entries) ≡ 0 → (tenant : ℕ) (account : Account) → account_of tenant entries ≡ Some account → length (ready_frames (frames_of parts.trees tenant)) ≡ 0
 counted-none parts [] none tenant account there = absurd cc
 counted-none parts (entry ∷ entries) none tenant account there = grind (arith, counted-none parts entries, count-with_words_of_nodes, eqb-true)
 
@@ -196,17 +172,11 @@ named-words parts tenant (x ∷ xs) each =
     let first = ap length each.0 in
     omega (arith, names, words, first, named-words parts tenant xs each.1)
 
-pub length-with_words_of_nodes : (nodes : Nodes) (xs : Frames) → length (with_words_of_nodes nodes xs) ≡ length xs
-length-with_words_of_nodes nodes [] = refl
-length-with_words_of_nodes nodes (x ∷ xs) = ap suc (length-with_words_of_nodes nodes xs)
-
 -- how many words a tenant has alive, by the names of its frames
 module _ {parts : Parts} (stored : IsStored parts) (tenant : ℕ) where
-  words-at : (serial : ℕ) (frame : Frame ℕ) → frame_in_trees parts.trees tenant serial ≡ Some frame → words_under (shared_of parts) (record { tenant = tenant; serial = frame.serial }) ≡ node_words parts.nodes frame.value
+  words-at : (serial : ℕ) (frame : Frame ℕ) → IsAt parts.trees tenant serial frame → words_under (shared_of parts) (record { tenant = tenant; serial = frame.serial }) ≡ node_words parts.nodes frame.value
   words-at serial frame at =
-      let here = found-serial (frames_of parts.trees tenant) serial frame at in
-      let found : frame_in_trees parts.trees tenant frame.serial ≡ Some frame = grind arith in
-      ap frame_words (named-found stored (record { tenant = tenant; serial = frame.serial }) ∙ ap (with_words parts) found)
+      ap frame_words (named-found stored (record { tenant = tenant; serial = frame.serial }) ∙ ap (with_words parts) (found-own (frames_of parts.trees tenant) serial frame at))
 
   -- they are few
   pub words-few : sum_by (words_counted parts) (names_of tenant (frames_of parts.trees tenant)) ≤ 65536
@@ -217,4 +187,4 @@ module _ {parts : Parts} (stored : IsStored parts) (tenant : ℕ) where
 
   -- what a tenant that is there has alive
   pub live-found : (count words : ℕ) → is_some (tenant_in (shared_of parts).tenants tenant) ≡ true → count ≡ length (frames_of parts.trees tenant) → words ≡ sum_by (words_counted parts) (names_of tenant (frames_of parts.trees tenant)) → Some (count, words) ≡ live_of (shared_of parts) tenant
-  live-found count words some counted summed = grind (arith, tenant-found, length-with_words_of_nodes, named-words, found-each, tree-rising, words-at)
+  live-found count words some counted summed = grind (arith, tenant-found, length-map, named-words, found-each, tree-rising, words-at)

@@ -1,6 +1,5 @@
 -- Where a job stands in a seat's list of what it asked for at a desk.
-use Rattle.std.proofs.Common.{◌≡◌, ℕ, zero, suc, ◌-◌, ◌<◌, ◌≤◌, List, [], ◌∷◌, length, get_or, Some, None, refl, sym, ap, ◌∙◌, arith}
-use Rattle.std.proofs.lemmas.Bool.{ne_eqb}
+use Rattle.std.proofs.Common.{◌≡◌, ℕ, zero, suc, ◌-◌, ◌<◌, ◌≤◌, List, [], ◌∷◌, length, get_or, Some, None, refl, arith}
 use Rattle.hall.specs.declared.desk_rules.asked.SeatAsked.{SeatAsked}
 use Rattle.hall.specs.desk_rules.Asked.{seat_asked_at}
 
@@ -10,16 +9,14 @@ at-zero (first ∷ later) = at-zero later
 
 pub at-past : (asked : List SeatAsked) (job : ℕ) → length asked < job → seat_asked_at asked job ≡ None
 at-past [] job past = refl
-at-past (first ∷ later) job past = rw (ne_eqb job 1 (omega arith)) (at-past later (job - 1) (omega arith))
+at-past (first ∷ later) job past = grind (arith, at-past later (job - 1))
 
 at-there : (asked : List SeatAsked) (at : ℕ) (d : SeatAsked) → at < length asked → seat_asked_at asked (suc at) ≡ Some (get_or asked at d)
 at-there [] at d within = absurd (omega arith)
 at-there (first ∷ later) zero d within = refl
 at-there (first ∷ later) (suc at) d within =
-    let number : suc (suc at) - 1 ≡ suc at = omega arith in
-    rw (ne_eqb (suc (suc at)) 1 (λ e. omega (arith, e))) (ap (seat_asked_at later) number ∙ at-there later at d (omega arith))
+    let number : suc (suc at) - 1 ≡ suc at = omega arith in grind (arith, at-there later at d)
 
 pub at-read : (asked : List SeatAsked) (job : ℕ) (d : SeatAsked) → 1 ≤ job → job - 1 < length asked → d ≡ get_or asked (job - 1) d → Some d ≡ seat_asked_at asked job
 at-read asked job d some within is =
-    let number : suc (job - 1) ≡ job = omega arith in
-    ap (λ (a : SeatAsked). Some a) is ∙ sym (at-there asked (job - 1) d within) ∙ ap (seat_asked_at asked) number
+    let number : suc (job - 1) ≡ job = omega arith in grind (arith, at-there asked (job - 1) d)

@@ -1,12 +1,11 @@
 -- By which refusals a seat's ask can be refused at a desk.
-use Rattle.std.proofs.Common.{◌≡◌, ℕ, length, Bool, true, false, Option, Some, None, refl, sym, subst, lit<, Result, Ok, Err}
+use Rattle.std.proofs.Common.{arith, ◌≡◌, ℕ, length, Bool, true, false, Option, Some, None, refl, sym, subst, lit<, Result, Ok, Err}
 use Rattle.std.specs.Prelude.{◌==◌, nat_le, nat_lt, not, Contains, IfErr, if◌then◌else◌}
 use Rattle.cactus_stack.specs.Nodes.{charge}
 use Rattle.sched_rules.specs.declared.refusal.Refusal.{Refusal}
 use Rattle.sched_rules.specs.declared.refusal.Refusal.TheVariants.{NoSegments, NoNodes, NoJobsLeft, BadAct}
 use Rattle.sched_rules.specs.declared.step.StepOf.TheVariants.{Submit}
 use Rattle.sched_rules.specs.declared.step.DidOf.{DidOf}
-use Rattle.sched_rules.specs.Cores.{tenant_in}
 use Rattle.sched_rules.specs.Functions.{Functions}
 use Rattle.sched_rules.specs.Lone.{Outcome, is_frame_size, lone, refusal_in, submitted}
 use Rattle.sched_rules.specs.Headline.{IsOneStep}
@@ -38,8 +37,4 @@ submit-within {I} functions (Some tenant) number own opp depth =
     submit-tested {X = Outcome I} (submitted tenant number (root_words own opp depth) frame_size) (not (is_frame_size (root_words own opp depth) frame_size)) (nat_le 256 (length tenant.jobs)) ((left tenant).nodes == 0) (nat_lt (left tenant).segments (charge frame_size)) refl
 
 pub ask-refused : (before after : HallOf) (number own opp depth : ℕ) (answer : Result (DidOf Leaf) Refusal) → IsOneStep (jamboree before.grain) before.shared (Submit number (root_words own opp depth) frame_size) answer after.shared → IfErr answer (Contains ask_refusals)
-ask-refused before after number own opp depth answer one =
-    let right = one.answered.1 refl in
-    let functions = jamboree before.grain in
-    let tenant = tenant_in before.shared.tenants number in
-    within (Contains ask_refusals) (lone functions tenant (Submit number (root_words own opp depth) frame_size)) answer right.own_state (λ none. right.else_taken none refl) (submit-within functions tenant number own opp depth)
+ask-refused before after number own opp depth answer one = grind (arith, within, submit-within)

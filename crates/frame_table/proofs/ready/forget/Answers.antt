@@ -1,8 +1,8 @@
 -- One tenant's list of ready frames (`ready::forget`): the frame that is forgotten goes, and the list stays where it
 -- was not there.
-use Rattle.frame_table.proofs.Common.{refl, ap, ◌∙◌, arith, ReadyFrame, ℕ}
-use Rattle.frame_table.proofs.Places.{remove-rising, filter-not-absent, alike}
-use Rattle.frame_table.proofs.ready.forget.Goals.{else-at-len-via-then-at-len+else-at-serial, else-at-len-via-else-at-len}
+use Rattle.frame_table.proofs.Common.{ReadyFrame, ap, arith, refl, ℕ, ◌∙◌}
+use Rattle.frame_table.proofs.Places.{alike, filter-not-absent, remove-rising}
+use Rattle.frame_table.proofs.ready.forget.Goals.{else-at-len-via-else-at-len, else-at-len-via-then-at-len+else-at-serial}
 use Rattle.frame_table.proofs.ready.forget.Goals as goal
 
 pub returns-then-at-serial : goal.returns-then-at-serial

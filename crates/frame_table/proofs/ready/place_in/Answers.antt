@@ -1,8 +1,9 @@
 -- One tenant's list of ready frames (`ready::place_in`): the place of a serial, at each way out of the search for it.
-use Rattle.frame_table.proofs.Common.{◌-◌, length, nat_lt, arith, rules, ReadyFrame, ℕ}
-use Rattle.std.proofs.lemmas.List.Sorted.{IsPartitionPoint-from_clause, IsPartitionedBy-ltb}
-use Rattle.frame_table.proofs.Places.{rises-by-not-falls, place-by-count, place-before, counts-below}
+use Rattle.frame_table.proofs.Common.{ReadyFrame, arith, length, ℕ, ◌-◌}
+use Rattle.frame_table.proofs.Places.{counts-below, place-before, place-by-count, rises-by-not-falls}
 use Rattle.numbered_list.proofs.Places.{count_below-found, count_below-le-length, point-is-count_below}
+use Rattle.std.proofs.Common.{nat_lt, rules}
+use Rattle.std.proofs.lemmas.List.Sorted.{IsPartitionPoint-from_clause, IsPartitionedBy-ltb}
 use Rattle.frame_table.proofs.ready.place_in.Goals as goal
 
 pub returns-then-count-eq0-clause-place : goal.returns-then-count-eq0-clause-place

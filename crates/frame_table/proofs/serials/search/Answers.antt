@@ -1,7 +1,7 @@
 -- The frame table's binary search for a serial (`serials::search`): the place that it finds holds the serial, and
 -- where it finds none no place does.
+use Rattle.frame_table.proofs.Places.{absent-between, rises-by-not-falls}
 use Rattle.std.proofs.lemmas.List.Sorted.{searched}
-use Rattle.frame_table.proofs.Places.{rises-by-not-falls, absent-between}
 use Rattle.frame_table.proofs.serials.search.Goals as goal
 
 pub returns-in-Ok-clause-found : goal.returns-in-Ok-clause-found

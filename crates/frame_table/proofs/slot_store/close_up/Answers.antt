@@ -1,8 +1,8 @@
 -- The frame table closes the gaps in its list of keys after an abort (`slot_store::close_up`): what is left is the
 -- keys that have a slot, in their order.
-use Rattle.frame_table.proofs.Common.{◌<◌, length, refl, sym, arith}
-use Rattle.std.proofs.lemmas.List.Filters.{FiltersInPlace-more_set, FiltersInPlace-more_no, FiltersInPlace-all}
-use Rattle.frame_table.proofs.slot_store.close_up.Goals.{then-contains, else-contains}
+use Rattle.frame_table.proofs.slot_store.close_up.Goals.{else-contains, then-contains}
+use Rattle.std.proofs.Common.{arith, length, refl, sym, ◌<◌}
+use Rattle.std.proofs.lemmas.List.Filters.{FiltersInPlace-all, FiltersInPlace-more_no, FiltersInPlace-more_set}
 use Rattle.frame_table.proofs.slot_store.close_up.Goals as goal
 
 pub loop-at-init : goal.loop-at-init

@@ -1,7 +1,7 @@
 -- The frame table's guess where a frame's slot is (`slot_store::guessed_key`): a key that is returned is the key of
 -- the slot with that serial.
-use Rattle.std.proofs.Common.{sym}
 use Rattle.frame_table.proofs.Keys.{key-found}
+use Rattle.std.proofs.Common.{sym}
 use Rattle.frame_table.proofs.slot_store.guessed_key.Goals as goal
 
 pub returns-then-kept-serial : goal.returns-then-kept-serial

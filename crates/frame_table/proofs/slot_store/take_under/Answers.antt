@@ -1,12 +1,8 @@
 -- The frame table's first pass of an abort (`slot_store::take_under`): each slot below the frame is removed, its value
 -- appended, and no other slot changes.
-use Rattle.std.proofs.Common.{take_all, ◌≤◌, []}
-use Rattle.frame_table.proofs.Common.{slots_in}
-use Rattle.frame_table.proofs.SlotStores.{slots_in-length}
-use Rattle.frame_table.proofs.Common.{◌<◌, length, get_or, refl, sym, ◌∙◌, arith, append-nil}
-use Rattle.std.proofs.lemmas.List.{get_or_default}
-use Rattle.frame_table.proofs.SlotStores.{as-before, left-stays, left-goes}
-use Rattle.frame_table.proofs.slot_store.take_under.Goals.{then-is_taken, else-is_taken}
+use Rattle.frame_table.proofs.Common.{[], append-nil, arith, get_or, get_or_default, length, refl, slots_in, sym, take_all, ◌<◌, ◌∙◌, ◌≤◌}
+use Rattle.frame_table.proofs.SlotStores.{as-before, left-goes, left-stays, slots_in-length}
+use Rattle.frame_table.proofs.slot_store.take_under.Goals.{else-is_taken, then-is_taken}
 use Rattle.frame_table.proofs.slot_store.take_under.Goals as goal
 
 pub loop-at-init : goal.loop-at-init

@@ -1,6 +1,7 @@
 -- The frame table walks over a tenant's frames, or over one frame's children (`walk::next_serial`): at each turn, no slot
 -- passed so far is one that is looked for. It ends, as fewer slots are left each time.
-use Rattle.frame_table.proofs.Common.{◌≡◌, ◌-◌, length, drop, slots_of}
+use Rattle.frame_table.specs.Slots.{slots_of}
+use Rattle.std.proofs.Common.{drop, length, ◌-◌, ◌≡◌}
 use Rattle.frame_table.proofs.walk.next_serial.Given as goal
 
 abbrev pub invariant-loop-at : goal.invariant-loop-at

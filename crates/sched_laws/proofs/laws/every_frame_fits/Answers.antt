@@ -8,8 +8,8 @@ returns g c =
     let own = g.met.P.Procedure in
     record {
       each_step = λ procedure origins before steps answers known shaped core right.
-          stays-fitting (g.P.Procedure.functions procedure) (g.P.Procedure.fits procedure) (g.P.Procedure.rooted procedure) origins before steps answers
-          (record { next = own.next_keeps procedure; inlet = own.inlet_keeps procedure; accept = own.accept_keeps procedure }) known shaped core right;
+          stays-fitting (g.P.Procedure.functions procedure) (g.P.Procedure.fits procedure) (g.P.Procedure.rooted procedure)
+          (record { next = own.next_keeps procedure; inlet = own.inlet_keeps procedure; accept = own.accept_keeps procedure }) origins before steps answers known shaped core right;
       at_end = λ procedure origins before steps answers known shaped core right roots.
           run-fits (g.P.Procedure.functions procedure) (g.P.Procedure.fits procedure) (g.P.Procedure.rooted procedure) origins before steps answers
           (record { next = own.next_keeps procedure; inlet = own.inlet_keeps procedure; accept = own.accept_keeps procedure }) known shaped core right roots;

@@ -4,4 +4,4 @@ use Rattle.sched_laws.proofs.FitAnswers.{known-answer}
 use Rattle.sched_laws.proofs.laws.every_number_stays_taken.Goals as goal
 
 pub returns : goal.returns
-returns g c procedure before step answer known right = known-answer (g.P.Procedure.functions procedure) before step answer known right
+returns g c procedure = known-answer (g.P.Procedure.functions procedure)

@@ -4,4 +4,4 @@ use Rattle.sched_laws.proofs.Sums.{beyond-exactly}
 use Rattle.sched_laws.proofs.totals.more_is_beyond_exactly_where_a_total_is_passed.Goals as goal
 
 pub returns : goal.returns
-returns c = λ before number tenant quota at. beyond-exactly before number tenant quota at
+returns c = beyond-exactly

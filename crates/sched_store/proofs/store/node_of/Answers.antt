@@ -1,7 +1,6 @@
 -- The core's store looks up a frame's node (`store::node_of`): a frame that is there has one, so the case without is
 -- never reached.
-use Rattle.sched_store.proofs.Common.{sym, ◌∙◌, frame_at, frames_of, there-found}
-use Rattle.sched_store.proofs.Lookups.{entry-none}
+use Rattle.sched_store.proofs.Lookups.{sym, ◌∙◌, frame_at, frames_of, there-found, entry-none}
 use Rattle.sched_store.proofs.store.node_of.Goals as goal
 
 pub unreachable-requires : goal.unreachable-requires

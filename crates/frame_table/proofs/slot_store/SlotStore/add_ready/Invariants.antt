@@ -1,6 +1,6 @@
 -- The frame table lists a tenant's ready frames (`SlotStore::add_ready`): at each turn of the loop, those listed so
 -- far and those of the slots still to come are all that were to be listed, and the list has room for them.
-use Rattle.frame_table.proofs.Common.{◌≡◌, ◌+◌, ◌≤◌, ◌++◌, length, drop, ready_in}
+use Rattle.frame_table.proofs.Common.{drop, length, ready_in, ◌++◌, ◌+◌, ◌≡◌, ◌≤◌}
 use Rattle.frame_table.proofs.slot_store.SlotStore.add_ready.Given as goal
 
 abbrev pub invariant-loop-at : goal.invariant-loop-at

@@ -1,8 +1,7 @@
 -- The frame table aborts below a frame (`SlotStore::cut`): after its two passes just the slots below the frame are
 -- gone, their values are appended, and the store is sound.
-use Rattle.frame_table.proofs.Common.{refl, slots_in, Leaves}
-use Rattle.frame_table.proofs.Cutting.{cut-store, cut-slots}
-use Rattle.frame_table.proofs.Aborts.{leaves-early, none-early, keys-early}
+use Rattle.frame_table.proofs.Common.{Leaves, refl, slots_in}
+use Rattle.frame_table.proofs.Cutting.{cut-slots, cut-store, keys-early, leaves-early, none-early}
 use Rattle.frame_table.proofs.slot_store.SlotStore.cut.Given.{Over}
 use Rattle.frame_table.proofs.slot_store.SlotStore.cut.Goals.{After-take_under}
 use Rattle.frame_table.proofs.slot_store.SlotStore.cut.Goals as goal

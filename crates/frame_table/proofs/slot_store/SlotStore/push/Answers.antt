@@ -1,7 +1,7 @@
 -- The frame table gets a slot more (`SlotStore::push`): the parent counts it, and the store stays sound.
-use Rattle.frame_table.proofs.Common.{[], refl}
 use Rattle.frame_table.proofs.Keys.{re-keyed}
-use Rattle.frame_table.proofs.SlotStores.{slots_in-length, push-store, push-slots}
+use Rattle.frame_table.proofs.SlotStores.{push-slots, push-store, slots_in-length}
+use Rattle.std.proofs.Common.{[], refl}
 use Rattle.frame_table.proofs.slot_store.SlotStore.push.Goals as goal
 
 pub invariant_of-self : goal.invariant_of-self

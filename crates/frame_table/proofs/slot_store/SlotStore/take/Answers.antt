@@ -1,14 +1,14 @@
 -- The frame table loses a slot (`SlotStore::take`): what is left is sound, and the parent counts one child less.
+use Rattle.frame_table.proofs.Cutting.{has-taken, taken-knows, taken-read, taken-rises, taken-slots, taken-store}
 use Rattle.frame_table.proofs.Keys.{are-keys, re-keyed}
-use Rattle.frame_table.proofs.Cutting.{has-taken, taken-slots, taken-store, taken-knows, taken-rises, taken-read}
-use Rattle.frame_table.proofs.Common.{refl}
+use Rattle.std.proofs.Common.{refl}
 use Rattle.frame_table.proofs.slot_store.SlotStore.take.Goals as goal
 
 pub disown-requires : goal.disown-requires
 disown-requires g c =
     let q = rw (← c.self.view_is) at c.requires in
     let taken = has-taken c.self.invariant q.rise q.within c.remove-key.ensures.value c.remove-gone.ensures.value c.remove-gone.ensures.updates in
-    let are = are-keys _ _ _ _ (taken-store taken q.leaf c.remove-gone.ensures.len c.remove-gone.ensures.capacity) in
+    let are = are-keys (taken-store taken q.leaf c.remove-gone.ensures.len c.remove-gone.ensures.capacity) in
     rw c.remove-key.ensures.left (record {
       keys = are;
       rise = taken-rises taken;
@@ -23,13 +23,11 @@ invariant_of-self g c =
     let store = taken-store taken q.leaf c.remove-gone.ensures.len c.remove-gone.ensures.capacity in
     rw c.remove-key.ensures.left (re-keyed store (rw c.remove-key.ensures.left at c.disown.ensures.keys) c.disown.ensures.capacity)
 
-pub returns-clause-left : goal.returns-clause-left
-returns-clause-left g c =
+pub returns : goal.returns
+returns g c =
     let q = rw (← c.self.view_is) at c.requires in
     let taken = has-taken c.self.invariant q.rise q.within c.remove-key.ensures.value c.remove-gone.ensures.value c.remove-gone.ensures.updates in
-    rw (← c.self.view_is, c.remove-key.ensures.left, (rw c.remove-key.ensures.left at c.disown.ensures.slots), taken-slots taken) refl
-
-pub returns-clause-value : goal.returns-clause-value
-returns-clause-value g c =
-    let q = rw (← c.self.view_is) at c.requires in
-    rw (← c.self.view_is) (taken-read (has-taken c.self.invariant q.rise q.within c.remove-key.ensures.value c.remove-gone.ensures.value c.remove-gone.ensures.updates))
+    rw (← c.self.view_is) (record {
+      left = rw (c.remove-key.ensures.left, (rw c.remove-key.ensures.left at c.disown.ensures.slots), taken-slots taken) refl;
+      value = taken-read taken;
+    })

@@ -1,7 +1,7 @@
 -- The frame table loses all frames of a tenant (`FrameTable::remove_all`): its tree stands without a frame, with as many
 -- places as before, and the others are as they were.
-use Rattle.std.proofs.Common.{refl, ◌∙◌, arith}
-use Rattle.frame_table.proofs.Tenants.{has-tree, new-sound, here-now, new-keeps}
+use Rattle.frame_table.proofs.Tenants.{has-tree, here-now, new-keeps, new-sound}
+use Rattle.std.proofs.Common.{arith, refl, ◌∙◌}
 use Rattle.frame_table.proofs.table.FrameTable.remove_all.Goals as goal
 
 pub invariant_of-self : goal.invariant_of-self

@@ -1,7 +1,6 @@
 -- A tenant comes to the frame table (`FrameTable::reserve_first`): there is one more tree, without a frame.
-use Rattle.frame_table.proofs.Common.{◌<◌, [], length, arith, length-inserted, owner_of_tree}
-use Rattle.frame_table.proofs.Tenants.{reserve-sound, reserve-here, more-room}
-use Rattle.numbered_list.proofs.Edits.{said-inserted-other}
+use Rattle.frame_table.proofs.Common.{[], arith, length, length-inserted, owner_of_tree, said-inserted-other, ◌<◌}
+use Rattle.frame_table.proofs.Tenants.{more-room, reserve-here, reserve-sound}
 use Rattle.frame_table.proofs.table.FrameTable.reserve_first.Goals as goal
 
 pub invariant_of-self-in_err-tree : goal.invariant_of-self-in_err-tree

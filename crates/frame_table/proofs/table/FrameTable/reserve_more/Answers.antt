@@ -1,7 +1,8 @@
 -- A tenant gets more places in the frame table (`FrameTable::reserve_more`): its tree has them, or is as it was where
 -- memory is refused.
-use Rattle.frame_table.proofs.Common.{Result, Ok, Err, OnErr, arith, refl, length-with, owner_of_tree}
-use Rattle.frame_table.proofs.Tenants.{has-tree, here-now, raised-keeps, raised-sound, unraised, unraised-sound}
+use Rattle.frame_table.proofs.Common.{arith, length-with, owner_of_tree, refl}
+use Rattle.frame_table.proofs.Tenants.{has-tree, here-now, others-keep, raised-sound, unraised, unraised-sound}
+use Rattle.std.proofs.Common.{Err, Ok, OnErr, Result}
 use Rattle.frame_table.proofs.table.FrameTable.reserve_more.Goals as goal
 
 on-err : {T E : Type 0} (r : Result T E) (P : Type 0) → P → OnErr r P
@@ -27,15 +28,13 @@ invariant_of-self-2 g c =
     rw c.in_ok-raise.ensures.ok (raised-sound tree _ more c.requires.few (omega (arith, c.in_ok-reserve.ensures.ok, c.clear.ensures.len))
     (omega (arith, c.clear.ensures.capacity, c.reserve.ensures.capacity)))
 
-pub returns-clause-places : goal.returns-clause-places
-returns-clause-places g c = rw c.in_ok-raise.ensures.ok (here-now (has-tree c.self.invariant c.get_mut-tree.ensures.value) refl).places
-
-pub returns-clause-frames : goal.returns-clause-frames
-returns-clause-frames g c =
-    let tree = has-tree c.self.invariant c.get_mut-tree.ensures.value in rw (← c.self.view_is, tree.own.frames, c.in_ok-raise.ensures.ok) (here-now tree refl).frames
-
-pub returns-clause-kept : goal.returns-clause-kept
-returns-clause-kept g c = rw (← c.self.view_is, c.in_ok-raise.ensures.ok) (raised-keeps (has-tree c.self.invariant c.get_mut-tree.ensures.value) _)
-
-pub returns-clause-count : goal.returns-clause-count
-returns-clause-count g c = rw (← c.self.view_is) (length-with owner_of_tree c.args.tenant (λ was. c.raise.new.self) c.self.inside.trees)
+pub returns : goal.returns
+returns g c =
+    let tree = has-tree c.self.invariant c.get_mut-tree.ensures.value in
+    rw (← c.self.view_is, c.in_ok-raise.ensures.ok) (record {
+      places = (here-now tree refl).places;
+      frames = rw tree.own.frames (here-now tree refl).frames;
+      kept = others-keep _ _ _ tree.own.named;
+      count = length-with owner_of_tree c.args.tenant _ c.self.inside.trees;
+      err = tt;
+    })

@@ -1,11 +1,10 @@
 -- One tenant's tree in the frame table gets a frame (`TenantFrames::add`): its slot, its serial, and its entry among
 -- the ready ones.
 use Rattle.frame_table.proofs.Changes.{keeps-added}
-use Rattle.frame_table.proofs.Common.{[], frames_from, length-append, new_frame, ◌∷◌}
+use Rattle.frame_table.proofs.Common.{[], arith, frames_from, length-append, new_frame, refl, ◌∷◌}
 use Rattle.frame_table.proofs.Finds.{keeps-view, kept-length}
 use Rattle.frame_table.proofs.Keys.{added-index}
 use Rattle.frame_table.proofs.Readies.{added-ready, is-tenant}
-use Rattle.frame_table.proofs.Common.{refl, arith}
 use Rattle.frame_table.proofs.tree.TenantFrames.add.Goals as goal
 
 pub invariant_of-self : goal.invariant_of-self

@@ -1,8 +1,8 @@
 -- One tenant's tree in the frame table (`TenantFrames::contains`): the answer is true exactly where a frame has this
 -- serial.
-use Rattle.frame_table.proofs.Common.{◌∙◌}
 use Rattle.frame_table.proofs.Finds.{has_slot-kept}
 use Rattle.frame_table.proofs.Keys.{found-there}
+use Rattle.std.proofs.Common.{◌∙◌}
 use Rattle.frame_table.proofs.tree.TenantFrames.contains.Goals as goal
 
 pub returns : goal.returns

@@ -1,6 +1,6 @@
 -- One tenant's tree in the frame table (`TenantFrames::find`): what is told of a frame is what its slot keeps.
 use Rattle.frame_table.proofs.Finds.{kept-found}
-use Rattle.frame_table.proofs.Common.{arith}
+use Rattle.std.proofs.Common.{arith}
 use Rattle.frame_table.proofs.tree.TenantFrames.find.Goals as goal
 
 pub returns-in-Some-clause-entry : goal.returns-in-Some-clause-entry

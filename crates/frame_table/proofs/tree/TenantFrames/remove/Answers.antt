@@ -1,15 +1,11 @@
 -- One tenant's tree in the frame table loses a leaf (`TenantFrames::remove`): its slot, its serial, and its entry
 -- among the ready ones.
-use Rattle.frame_table.proofs.Changes.{count-without}
-use Rattle.frame_table.proofs.Common.{ap}
-use Rattle.frame_table.proofs.Changes.{keeps-left, left-counted}
-use Rattle.frame_table.proofs.Common.{IsSeenAt, Slot, [], children_of, frames_from, get_or, is_ready, length-map, length-remove, recounted, remove, sym, ◌-◌, ◌∙◌, ◌≡◌}
+use Rattle.frame_table.proofs.Changes.{count-without, keeps-left, left-counted}
+use Rattle.frame_table.proofs.Common.{IsSeenAt, Slot, [], ap, arith, children_of, frames_from, get_or, if_named, is_ready, length-map, length-remove, recounted, refl, remove, sym, ◌-◌, ◌∙◌, ◌≡◌}
 use Rattle.frame_table.proofs.Finds.{keeps-rises, keeps-view, kept-found}
 use Rattle.frame_table.proofs.Keys.{removed-index, seen-by, serials_of-recounted}
 use Rattle.frame_table.proofs.Readies.{is-tenant, ready_in-recounted, ready_in-remove, tenant-rises}
 use Rattle.frame_table.proofs.TreeLaws.{tree-rising}
-use Rattle.frame_table.specs.Slots.{if_named}
-use Rattle.frame_table.proofs.Common.{refl, arith}
 use Rattle.frame_table.proofs.tree.TenantFrames.remove.Given.{Over}
 use Rattle.frame_table.proofs.tree.TenantFrames.remove.Goals.{After-known_place-at}
 use Rattle.frame_table.proofs.tree.TenantFrames.remove.Goals as goal
@@ -41,22 +37,15 @@ invariant_of-self g c =
     (rw (ready_in-recounted c.take-slot.result.parent (λ n. n - 1) less, c.self.invariant.ready_frames) gone)
     (omega (arith, c.self.invariant.within, length-remove slots c.known_place-at.result seen.within, length-map less (if_named c.take-slot.result.parent (recounted (λ n. n - 1))))))
 
-pub returns-clause-left : goal.returns-clause-left
-returns-clause-left g c =
-    let seen = seen g (goal.at.returns-clause-left g c).After-known_place-at c.take-slot.ensures.value in
-    let leaf = leaf g (goal.at.returns-clause-left g c).After-known_place-at in
-    rw (← c.self.view_is, c.take-slot.ensures.left, keeps-view (keeps-left c.self.invariant.sound seen leaf)) refl
-
-pub returns-clause-value : goal.returns-clause-value
-returns-clause-value g c =
-    let f = kept-found c.self.invariant.sound (seen g (goal.at.returns-clause-value g c).After-known_place-at c.take-slot.ensures.value) in
-    rw (← c.self.view_is, f.at) (ap (λ (s : Slot g.row.T.Denot). s.value) (sym f.is))
-
-pub returns-clause-count : goal.returns-clause-count
-returns-clause-count g c =
+pub returns : goal.returns
+returns g c =
     let k = c.self.invariant.sound in
-    let seen = seen g (goal.at.returns-clause-count g c).After-known_place-at c.take-slot.ensures.value in
-    let leaf = leaf g (goal.at.returns-clause-count g c).After-known_place-at in
+    let seen = seen g (goal.at.returns g c).After-known_place-at c.take-slot.ensures.value in
+    let left = keeps-view (keeps-left k seen (leaf g (goal.at.returns g c).After-known_place-at)) in
     let f = kept-found k seen in
     let state = ap (λ (s : Slot g.row.T.Denot). s.state) f.is in
-    rw (← c.self.view_is, c.take-slot.ensures.left, keeps-view (keeps-left k seen leaf), state) (count-without (λ x. is_ready x.state) c.args.serial _ f.frame (tree-rising _ k.tree) f.at)
+    rw (← c.self.view_is) (record {
+      left = rw (c.take-slot.ensures.left, left) refl;
+      value = rw f.at (ap (λ (s : Slot g.row.T.Denot). s.value) (sym f.is));
+      count = rw (c.take-slot.ensures.left, left, state) (count-without (λ x. is_ready x.state) c.args.serial _ f.frame (tree-rising _ k.tree) f.at);
+    })

@@ -1,13 +1,11 @@
 -- An abort in one tenant's tree of the frame table (`TenantFrames::remove_under`): at a leaf nothing goes, else slots,
 -- serials and ready frames are cut.
-use Rattle.frame_table.proofs.Aborts.{CutsReady, childless-serial, cut-length, cut-ready, leaf-aborted, leaf-none-under}
 use Rattle.frame_table.proofs.Changes.{cleared, keeps-cut, keeps-cut-at, keeps-gone}
-use Rattle.frame_table.proofs.Common.{IsSeenAt, [], append-nil, children_of, frames_from, kept_slots, length-set, recounted, set, sym, ◌∙◌, ◌≡◌}
+use Rattle.frame_table.proofs.Common.{IsSeenAt, [], append-nil, arith, children_of, frames_from, kept_slots, length-set, length-take, recounted, refl, set, sym, ◌∙◌, ◌≡◌}
+use Rattle.frame_table.proofs.Cutting.{CutsReady, childless-serial, cut-length, cut-ready, leaf-aborted, leaf-none-under}
 use Rattle.frame_table.proofs.Finds.{counted-children, keeps-rises, keeps-view, kept-length, none-of-length}
 use Rattle.frame_table.proofs.Keys.{cut-index, seen-by}
 use Rattle.frame_table.proofs.Readies.{is-tenant, tenant-rises}
-use Rattle.std.proofs.Common.{length-take}
-use Rattle.frame_table.proofs.Common.{refl, arith}
 use Rattle.frame_table.proofs.tree.TenantFrames.remove_under.Given.{Over}
 use Rattle.frame_table.proofs.tree.TenantFrames.remove_under.Goals.{After-at-slot}
 use Rattle.frame_table.proofs.tree.TenantFrames.remove_under.Goals as goal
@@ -22,14 +20,6 @@ module _ (g : Over) (c : After-at-slot g) where
 
   cuts : CutsReady c.self.inside.store.slots (kept_slots c.args.serial (set c.self.inside.store.slots c.known_place-at.result (recounted (λ m. 0) c.at-slot.result))) c.known_place-at.result c.args.serial c.self.inside.store.places c.self.inside.ready.list
   cuts = cut-ready c.self.invariant.sound seen c.self.invariant.ready_frames c.self.invariant.within
-
-pub returns-then-slot-eq0-clause-left : goal.returns-then-slot-eq0-clause-left
-returns-then-slot-eq0-clause-left g c =
-    rw (← c.self.view_is, leaf-aborted c.args.serial _ c.self.invariant.sound.tree (leaf g (goal.at.returns-then-slot-eq0-clause-left g c).After-at-slot c.if-slot-eq0.true)) refl
-
-pub returns-then-slot-eq0-clause-values : goal.returns-then-slot-eq0-clause-values
-returns-then-slot-eq0-clause-values g c =
-    rw (← c.self.view_is, leaf-none-under c.args.serial _ c.self.invariant.sound.tree (leaf g (goal.at.returns-then-slot-eq0-clause-values g c).After-at-slot c.if-slot-eq0.true)) (sym (append-nil _))
 
 pub cut-requires : goal.cut-requires
 cut-requires g c =
@@ -71,11 +61,20 @@ invariant_of-self g c =
     cuts.ready
     (omega (arith, cut-length c.self.invariant.sound seen, c.self.invariant.within)))
 
-pub returns-clause-left : goal.returns-clause-left
-returns-clause-left g c =
-    rw (← c.self.view_is, c.cut.ensures.kept, c.put.ensures, keeps-view (keeps-cut c.self.invariant.sound (seen g (goal.at.returns-clause-left g c).After-at-slot))) refl
+pub returns-then-slot-eq0 : goal.returns-then-slot-eq0
+returns-then-slot-eq0 g c =
+    let leaf = leaf g (goal.at.returns-then-slot-eq0 g c).After-at-slot c.if-slot-eq0.true in
+    rw (← c.self.view_is) (record {
+      left = rw (leaf-aborted c.args.serial _ c.self.invariant.sound.tree leaf) refl;
+      values = rw (leaf-none-under c.args.serial _ c.self.invariant.sound.tree leaf) (sym (append-nil _));
+      capacity = refl;
+    })
 
-pub returns-clause-values : goal.returns-clause-values
-returns-clause-values g c =
-    let clear = cleared c.self.invariant.sound (seen g (goal.at.returns-clause-values g c).After-at-slot) in
-    rw (← c.self.view_is, ← keeps-gone clear c.args.serial) (rw c.put.ensures at c.cut.ensures.values)
+pub returns : goal.returns
+returns g c =
+    let seen = seen g (goal.at.returns g c).After-at-slot in
+    rw (← c.self.view_is) (record {
+      left = rw (c.cut.ensures.kept, c.put.ensures, keeps-view (keeps-cut c.self.invariant.sound seen)) refl;
+      values = rw (← keeps-gone (cleared c.self.invariant.sound seen) c.args.serial) (rw c.put.ensures at c.cut.ensures.values);
+      capacity = c.cut.ensures.capacity;
+    })

@@ -1,7 +1,8 @@
 -- The frame table's list with free places at both ends (`ListWindow::insert`): the element stands at its place, those
 -- before and behind it in their order; the reserved place is enough.
-use Rattle.frame_table.proofs.Common.{IsOk, not, refl, sym, ap, ◌∙◌, arith, false≢true, length-drop}
 use Rattle.frame_table.proofs.Places.{inserted-back}
+use Rattle.std.proofs.Common.{IsOk, ap, arith, length-drop, not, refl, sym, ◌∙◌}
+use Rattle.std.proofs.lemmas.Bool.{false≢true}
 use Rattle.frame_table.proofs.window.ListWindow.insert.Goals as goal
 
 pub unreachable-requires : goal.unreachable-requires

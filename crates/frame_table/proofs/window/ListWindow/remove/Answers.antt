@@ -1,7 +1,7 @@
 -- The frame table's list with free places at both ends (`ListWindow::remove`): what is left is the other elements in
 -- their order, whichever side was moved.
+use Rattle.frame_table.proofs.Places.{place-within, removed-back}
 use Rattle.std.proofs.Common.{refl}
-use Rattle.frame_table.proofs.Places.{removed-back, place-within}
 use Rattle.frame_table.proofs.window.ListWindow.remove.Goals as goal
 
 pub returns-clause-left : goal.returns-clause-left

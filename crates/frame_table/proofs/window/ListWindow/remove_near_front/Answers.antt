@@ -1,7 +1,7 @@
 -- The frame table's list with free places at both ends (`ListWindow::remove_near_front`): the element is gone after
 -- those before it were moved one place on.
-use Rattle.frame_table.proofs.Common.{◌≡◌, ◌+◌, refl, copy_within}
-use Rattle.frame_table.proofs.Places.{removed-front, place-within}
+use Rattle.frame_table.proofs.Common.{copy_within, refl, ◌+◌, ◌≡◌}
+use Rattle.frame_table.proofs.Places.{place-within, removed-front}
 use Rattle.frame_table.proofs.window.ListWindow.remove_near_front.Goals as goal
 
 pub returns : goal.returns

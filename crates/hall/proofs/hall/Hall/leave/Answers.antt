@@ -1,7 +1,6 @@
 -- The hall does a tenant's Leave (`Hall::leave`): the tenant's own journal is taken out, and its steps are counted as
 -- gone; or the step is refused, and nothing changes.
-use Rattle.hall.proofs.Common.{◌≡◌, ℕ, ◌+◌, [], length, sym, ◌∙◌, ap, refl, rules, journal_in, owner_of_journal, said-found}
-use Rattle.hall.proofs.Lists.{steps_of}
+use Rattle.hall.proofs.Common.{arith, ◌≡◌, ℕ, ◌+◌, length, sym, ◌∙◌, ap, refl, rules, journal_in, said-found}
 use Rattle.hall.proofs.Halls.{leaves-off}
 use Rattle.hall.proofs.hall.Hall.leave.Given.{Over}
 use Rattle.hall.proofs.hall.Hall.leave.Goals.{After-len}
@@ -9,7 +8,7 @@ use Rattle.hall.proofs.hall.Hall.leave.Goals as goal
 
 -- the journal that was taken out is the tenant's
 long : (g : Over) (c : After-len g) → c.len.result ≡ length (journal_in c.self.inside.journals c.args.number)
-long g c = c.len.ensures ∙ ap length (sym (said-found owner_of_journal steps_of [] c.args.number c.self.inside.journals c.remove-journal.result c.remove-journal.ensures.value))
+long g c = grind (arith, said-found)
 
 pub remove-journal-requires-clause-there : goal.remove-journal-requires-clause-there
 remove-journal-requires-clause-there g c =

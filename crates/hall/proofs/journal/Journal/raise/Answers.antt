@@ -1,7 +1,6 @@
 -- A tenant's journal in the hall gets an AdmitMore (`Journal::raise`): there is room for all entries that it has and
 -- for the new ones; the long one stands for the step.
-use Rattle.hall.proofs.Common.{◌≡◌, ◌+◌, ◌*◌, List, [], ◌∷◌, ◌++◌, Result, Ok, Err, false, length-append, refl, ap, ◌∙◌, arith, is_err, true≢false, AdmitMore, JournalEntry, Long, Raised, JournalOf, longer, raise_count}
-use Rattle.std.proofs.Common.{OnOk}
+use Rattle.hall.proofs.Common.{◌≡◌, ◌+◌, ◌*◌, List, [], ◌∷◌, ◌++◌, length-append, refl, ap, ◌∙◌, arith, AdmitMore, JournalEntry, Long, Raised, JournalOf, longer, raise_count}
 use Rattle.hall.proofs.Lists.{raise-more}
 use Rattle.hall.proofs.Entries.{seen, counts, long_count-more, written-raise}
 use Rattle.hall.proofs.journal.Journal.raise.Given.{Over}
@@ -9,10 +8,6 @@ use Rattle.hall.proofs.journal.Journal.raise.Goals.{After-push_reserved, After-p
 use Rattle.hall.proofs.journal.Journal.raise.Goals as goal
 
 -- what a request for memory that was granted made
-got : {T E P : Type 0} (answer : Result T E) → is_err answer ≡ false → OnOk answer P → P
-got (Ok value) made it = it
-got (Err error) made it = absurd (true≢false made)
-
 -- the entries and the long entries after the step
 pushed : (g : Over) (c : After-push_reserved g) → c.push_reserved.new.self.items ≡ c.self.inside.entries.items ++ Long ∷ []
 pushed g c = grind arith

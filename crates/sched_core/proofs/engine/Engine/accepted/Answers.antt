@@ -1,25 +1,20 @@
 -- The core judges an Answer (`Engine::accepted`): it is refused exactly where the definition of the step refuses it,
 -- by the same number.
-use Rattle.sched_core.proofs.Common.{not, ◌≡◌, refl, sym, arith, err_from_is_err_and, Answer, words_under}
-use Rattle.sched_core.proofs.Deciding.{passed-on, lost, answer-told}
+use Rattle.frame_table.proofs.TreeLaws.{missing}
+use Rattle.sched_core.proofs.Common.{not, ◌≡◌, arith, err_from_is_err_and, words_under}
+use Rattle.sched_core.proofs.Deciding.{answer-told}
 use Rattle.sched_core.proofs.engine.Engine.accepted.Goals as goal
 
 pub returns-in_err-seen-clause-refusal : goal.returns-in_err-seen-clause-refusal
-returns-in_err-seen-clause-refusal g c =
-    let p = err_from_is_err_and c.from_residual.result c.from_residual.ensures.1 in
-    passed-on p.1 p.2 _ (lost _ (g.P.Procedure.functions c.args.self.now.procedure) c.args.self.now.store
-    (Answer c.args.worker c.args.name c.args.answer.now) c.args.name refl refl (λ tenant none. rw none refl) c.in_err-seen.ensures.frame)
+returns-in_err-seen-clause-refusal g c = grind (arith, missing)
 
 pub returns-in_err-first_of_four-clause-refusal : goal.returns-in_err-first_of_four-clause-refusal
 returns-in_err-first_of_four-clause-refusal g c =
     let s = c.in_ok-seen.ensures.frame in
     let words = c.in_ok-seen.ensures.words in
     let functions = g.P.Procedure.functions c.args.self.now.procedure in
-    let other : c.ne.result ≡ not (functions.same (functions.asked c.args.answer.now) (functions.input (words_under c.args.self.now.store c.args.name))) =
-    cc (g.met.P.Procedure.compares c.args.self.now.procedure, words) in
-    let p = err_from_is_err_and c.from_residual-in_err-first_of_four.result c.from_residual-in_err-first_of_four.ensures.1 in
-    passed-on p.1 p.2 _ (sym (answer-told functions c.args.worker c.args.answer.now s.2
-    (rw (← c.number.ensures.value) c.is_computed_by.ensures) (grind arith) (cc words) c.in_err-first_of_four.ensures))
+    let other : c.ne.result ≡ not (functions.same (functions.asked c.args.answer.now) (functions.input (words_under c.args.self.now.store c.args.name))) = cc (g.met.P.Procedure.compares c.args.self.now.procedure, words) in
+    let p = err_from_is_err_and c.from_residual-in_err-first_of_four.result c.from_residual-in_err-first_of_four.ensures.1 in rw (p.1, p.2) (answer-told functions c.args.worker c.args.answer.now s.2 (rw (← c.number.ensures.value) c.is_computed_by.ensures) (grind arith) (cc words) c.in_err-first_of_four.ensures)
 
 pub returns-clause-refusal : goal.returns-clause-refusal
 returns-clause-refusal g c = grind arith

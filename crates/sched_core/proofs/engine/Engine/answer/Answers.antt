@@ -1,7 +1,7 @@
 -- The core does an Answer (`Engine::answer`): the computing frame stores what the procedure makes of it and runs
 -- again, and the outcome is the definition's.
-use Rattle.sched_core.proofs.Common.{not-false, refl, found-serial}
-use Rattle.sched_core.proofs.TakenStep.{step_result-taken, then-run, step-left}
+use Rattle.sched_core.proofs.Common.{arith, not-false, found-serial}
+use Rattle.sched_core.proofs.TakenStep.{then-run, step-left}
 use Rattle.sched_core.proofs.Ending.{with-named}
 use Rattle.sched_core.proofs.Acting.{IsAnswered, is-answered, computes-holds, may-hold}
 use Rattle.sched_core.proofs.engine.Engine.answer.Given.{Over}
@@ -31,5 +31,4 @@ run-requires-clause-left g c =
 pub returns-clause-step_result : goal.returns-clause-step_result
 returns-clause-step_result g c =
     let a = accepted g (goal.at.returns-clause-step_result g c).After-store_all in
-    step_result-taken a.going.among refl
-    (rw (found-serial a.going.tenant.frames c.args.name.serial a.going.frame a.going.found) (then-run a.has_words _ _ c.run.ensures.ran).is)
+    let w = then-run a.has_words _ _ c.run.ensures.ran in grind (arith, found-serial)

@@ -12,6 +12,6 @@ end_at-requires-clause-there g c =
 pub returns-clause-step_result : goal.returns-clause-step_result
 returns-clause-step_result g c =
     let l = cancel-going c.args.self.now.store c.args.number c.args.job _ (g.P.Procedure.functions c.args.self.now.procedure) c.in_ok-serial.ensures.root in
-    let w = begins c.args.number c.args.self.now.store l.owner in
+    let w = begins _ c.args.self.now.store l.owner in
     let w1 = then-changed (ended c.in_ok-serial.serial CancelledJob) w c.end_at.ensures in
     step_result-taken l.among refl w1.is

@@ -1,12 +1,8 @@
 -- The core judges an Advance (`Engine::may_advance`): its refusal, or none, is that of the step's definition.
-use Rattle.sched_core.proofs.Common.{◌∙◌, ap, refl}
+use Rattle.sched_core.proofs.Common.{refl, arith}
 use Rattle.sched_core.proofs.Deciding.{advance-told}
 use Rattle.sched_core.proofs.engine.Engine.may_advance.Goals as goal
 
 pub returns : goal.returns
-returns g c =
-    let s = c.in_ok-found.ensures.frame in
-    let functions = g.P.Procedure.functions c.args.self.now.procedure in
-    let does = c.next-act.ensures ∙ ap functions.next c.in_ok-found.ensures.sight in
-    let told = c.may_do.ensures s.0 s.1 _ s.2.seen_so refl c.in_ok-found.ensures.words in
-    record { refusal = advance-told functions c.args.worker does told s.2 }
+returns g c = let s = c.in_ok-found.ensures.frame in
+    let told = c.may_do.ensures s.0 s.1 _ s.2.seen_so refl c.in_ok-found.ensures.words in grind (arith, advance-told)

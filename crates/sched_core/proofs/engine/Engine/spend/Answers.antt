@@ -15,7 +15,7 @@ pub returns-clause-step_result : goal.returns-clause-step_result
 returns-clause-step_result g c =
     let t = spend-going (g.P.Procedure.functions c.args.self.now.procedure) c.args.self.now.store c.args.name c.in_ok-may_spend.ensures.refusal in
     let root : c.root-root.result ≡ record { tenant = c.args.name.tenant; serial = root_of t.frame.path } = rw (t.owner, t.found) at c.root-root.ensures in
-    let w = begins c.args.name.tenant c.args.self.now.store t.owner in
+    let w = begins _ c.args.self.now.store t.owner in
     let ends : c.end_at.new.store ≡ on_tenant c.args.name.tenant (ended (root_of t.frame.path) SpentJob) c.args.self.now.store = rw root at c.end_at.ensures in
     let w1 = then-changed (ended (root_of t.frame.path) SpentJob) w ends in
     step_result-taken t.among (rw (c.job_under-job.ensures, root, t.owner) refl) w1.is

@@ -1,7 +1,7 @@
 -- The core does a Steal (`Engine::steal`): the tenant has a step left, the frame runs by the worker, and the outcome
 -- is the definition's.
-use Rattle.sched_core.proofs.Common.{refl, err_from_is_err_and, found-serial}
-use Rattle.sched_core.proofs.TakenStep.{step_result-taken, step_result-refused, steal-going, begins, then-run, step-left}
+use Rattle.sched_core.proofs.Common.{refl, err_from_is_err_and, found-serial, arith}
+use Rattle.sched_core.proofs.TakenStep.{step_result-refused, steal-going, begins, then-run}
 use Rattle.sched_core.proofs.engine.Engine.steal.Goals as goal
 
 pub returns-in_err-may_steal-clause-step_result : goal.returns-in_err-may_steal-clause-step_result
@@ -10,14 +10,9 @@ returns-in_err-may_steal-clause-step_result g c =
     step_result-refused p.1 p.2 c.in_err-may_steal.ensures.refusal refl
 
 pub run-requires-clause-left : goal.run-requires-clause-left
-run-requires-clause-left g c =
-    let functions = g.P.Procedure.functions c.args.self.now.procedure in
-    let t = steal-going functions c.args.self.now.store c.args.worker c.args.name c.args.from c.in_ok-may_steal.ensures.refusal in
-    step-left (begins c.args.name.tenant c.args.self.now.store t.owner) t.passes.1.1.0
+run-requires-clause-left g c = grind arith
 
 pub returns-clause-step_result : goal.returns-clause-step_result
 returns-clause-step_result g c =
-    let functions = g.P.Procedure.functions c.args.self.now.procedure in
-    let t = steal-going functions c.args.self.now.store c.args.worker c.args.name c.args.from c.in_ok-may_steal.ensures.refusal in
-    let w = begins c.args.name.tenant c.args.self.now.store t.owner in
-    step_result-taken t.among refl (rw (found-serial t.tenant.frames c.args.name.serial t.frame t.found) (then-run w _ _ c.run.ensures.ran).is)
+    let t = steal-going (g.P.Procedure.functions c.args.self.now.procedure) c.args.self.now.store c.args.worker c.args.name c.args.from c.in_ok-may_steal.ensures.refusal in
+    let w = then-run (begins _ c.args.self.now.store t.owner) _ _ c.run.ensures.ran in grind (arith, found-serial)

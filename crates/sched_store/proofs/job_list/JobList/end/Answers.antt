@@ -1,10 +1,7 @@
 -- A tenant's jobs in the core's store (`JobList::end`): the live job of this root is replaced by how it ended; where
 -- there is none the list stays.
-use Rattle.sched_store.proofs.Jobs.{none-number_from}
-use Rattle.sched_store.proofs.Jobs.{ended-none}
-use Rattle.sched_store.proofs.Jobs.{ended-from}
-use Rattle.sched_store.proofs.Common.{arith, length-set}
-use Rattle.sched_store.proofs.Jobs.{once-ended}
+use Rattle.sched_store.proofs.Lookups.{arith, length-set}
+use Rattle.sched_store.proofs.Jobs.{none-number_from, ended-none, ended-from, once-ended}
 use Rattle.sched_store.proofs.job_list.JobList.end.Goals as goal
 
 pub invariant_of-self : goal.invariant_of-self

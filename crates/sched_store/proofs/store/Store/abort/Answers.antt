@@ -1,9 +1,7 @@
 -- The core's store aborts below a frame (`Store::abort`): just the frames below it go, with their nodes, and what they
 -- were charged is free again.
-use Rattle.sched_store.proofs.Common.{arith, without_under, parts_of, aborted, tree-aborted, sym, node_words}
-use Rattle.frame_table.proofs.TreeValues.{aborted-map_values}
-use Rattle.sched_store.proofs.Removing.{stays, with_parts, abort-closes, abort-gone, AreFreed, nodes-free, gone-step, abort-count}
-use Rattle.sched_store.proofs.Lookups.{there-has}
+use Rattle.sched_store.proofs.Lookups.{arith, without_under, parts_of, aborted, tree-aborted, sym, node_words, aborted-map_values, there-has}
+use Rattle.sched_store.proofs.Removing.{stays, with_parts, abort-closes, AreFreed, nodes-free, gone-step, abort-count}
 use Rattle.sched_store.proofs.Steps.{Stepped}
 use Rattle.sched_store.proofs.store.Store.abort.Goals.{After-free_count, After-give_back}
 use Rattle.sched_store.proofs.store.Store.abort.Goals as goal
@@ -11,8 +9,7 @@ use Rattle.sched_store.proofs.store.Store.abort.Goals as goal
 -- what the nodes gave back
 freed : (g : _) (c : After-free_count g) → AreFreed (parts_of c.self.inside) c.args.name (stays c.args.name.serial) c.free_count-before.result c.free_count.result
 freed g c =
-    nodes-free _ _ _ _ c.self.invariant (rw (← c.self.view_is) at c.requires)
-    (abort-gone (parts_of c.self.inside) _ c.args.name c.remove_under-nodes.result.now c.remove_under-nodes.ensures.values c.close_all.ensures) c.free_count-before.ensures c.free_count.ensures
+    nodes-free {nodes = c.close_all.new.self} c.args.name (stays c.args.name.serial) _ _ c.self.invariant (rw (← c.self.view_is) at c.requires) grind arith c.free_count-before.ensures c.free_count.ensures
 
 -- what the table, the stack and the book told
 told : (g : _) (c : After-give_back g) → Stepped (parts_of c.self.inside) (with_parts (parts_of c.self.inside) c.close_all.new.self c.remove_under-nodes.follows.lender-at-none c.give_back.new.self) c.args.name.tenant (without_under c.args.name.serial)

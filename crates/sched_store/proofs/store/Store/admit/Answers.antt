@@ -1,8 +1,7 @@
 -- The core's store admits a tenant (`Store::admit`): it then has an account, an empty tree and an empty list of jobs,
 -- all other tenants stay, and the store is sound.
-use Rattle.sched_store.proofs.Common.{List, ap, ◌∙◌, arith, with_admitted, parts_of, JobListOf, shared_of}
-use Rattle.sched_store.proofs.Lookups.{job_lists-rise}
-use Rattle.sched_store.proofs.Admitting.{CanBeAdmitted, can-be-admitted, IsAdmitted, admit-stored, admit-shared}
+use Rattle.sched_store.proofs.Lookups.{List, ap, ◌∙◌, arith, with_admitted, parts_of, JobListOf, shared_of, job_lists-rise}
+use Rattle.sched_store.proofs.TenantSteps.{CanBeAdmitted, can-be-admitted, IsAdmitted, admit-stored, admit-shared}
 use Rattle.sched_store.proofs.store.Store.admit.Goals.{After-segments, After-unwrap}
 use Rattle.sched_store.proofs.store.Store.admit.Goals as goal
 

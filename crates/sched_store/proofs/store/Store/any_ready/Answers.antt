@@ -1,5 +1,5 @@
 -- The core's store finds a ready frame of some tenant (`Store::any_ready`): None exactly where no tenant has one.
-use Rattle.sched_store.proofs.Common.{parts_of}
+use Rattle.sched_store.specs.Inside.{parts_of}
 use Rattle.sched_store.proofs.Steps.{ready-found, none-counted, nobody-ready}
 use Rattle.sched_store.proofs.store.Store.any_ready.Goals as goal
 

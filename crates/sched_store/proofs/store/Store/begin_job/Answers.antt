@@ -1,27 +1,25 @@
 -- The core's store begins a job (`Store::begin_job`): the tenant's list has one job more, all else stays, and the
 -- store is sound.
-use Rattle.sched_store.proofs.Common.{◌++◌, ◌∷◌, [], ◌∙◌, Live, parts_of}
-use Rattle.sched_store.proofs.Jobs.{jobs-found as job_list-jobs}
-use Rattle.sched_store.proofs.Lookups.{jobs-found, job_lists-rise}
-use Rattle.sched_store.proofs.Steps.{JobsPut, there-account-in, has-job_list, jobs-put}
+use Rattle.sched_store.proofs.Lookups.{owner_of_jobs, JobListOf, ◌++◌, ◌∷◌, [], ◌∙◌, Live, parts_of, said-found, jobs-found, job_lists-rise}
+use Rattle.sched_store.proofs.Steps.{JobsPut, there-account, has-job_list, jobs-put}
 use Rattle.sched_store.proofs.store.Store.begin_job.Goals.{After-begin}
 use Rattle.sched_store.proofs.store.Store.begin_job.Goals as goal
 
 -- the list of jobs that was found has the jobs
 put : (g : _) (c : After-begin g) → JobsPut (parts_of c.self.inside) c.args.tenant c.begin.new.self (λ jobs. jobs ++ Live c.args.root ∷ [])
 put g c =
-    let own = there-account-in (parts_of c.self.inside) c.args.tenant c.self.view_is c.requires.there in
+    let own = there-account c.self.invariant c.args.tenant c.self.view_is c.requires.there in
     jobs-put c.args.tenant (λ jobs. jobs ++ Live c.args.root ∷ []) c.self.invariant own.1 c.get_mut-job_list.ensures.value c.begin.ensures
 
 pub get_mut-job_list-requires : goal.get_mut-job_list-requires
 get_mut-job_list-requires g c = record {
   rising = job_lists-rise c.self.invariant;
-  there = has-job_list c.args.tenant c.self.invariant c.self.view_is c.requires.there;
+  there = has-job_list c.self.invariant c.args.tenant c.self.view_is c.requires.there;
 }
 
 pub begin-requires : goal.begin-requires
 begin-requires g c =
-    let found = jobs-found c.self.invariant c.args.tenant ∙ job_list-jobs c.args.tenant c.self.inside.job_lists c.get_mut-job_list.result.now c.get_mut-job_list.ensures.value in
+    let found = jobs-found c.self.invariant c.args.tenant ∙ said-found owner_of_jobs (λ (l : JobListOf). l.1) [] c.args.tenant c.self.inside.job_lists c.get_mut-job_list.result.now c.get_mut-job_list.ensures.value in
     record { room = rw found at (rw (← c.self.view_is) at c.requires.room); fresh = rw found at (rw (← c.self.view_is) at c.requires.fresh) }
 
 pub invariant_of-self : goal.invariant_of-self

@@ -1,6 +1,6 @@
 -- The core's store counts a step (`Store::count_step`): the tenant's account has one step less left, which it had, and
 -- nothing else changes.
-use Rattle.sched_store.proofs.Common.{◌≤◌, refl}
+use Rattle.std.proofs.Common.{◌≤◌, refl}
 use Rattle.sched_store.proofs.Steps.{left-account, book-left, count-step}
 use Rattle.sched_store.proofs.store.Store.count_step.Goals as goal
 

@@ -1,7 +1,5 @@
 -- The core's store looks a frame up (`Store::find`): its state and its parent are those of the tenant's tree.
-use Rattle.sched_store.proofs.Common.{sym, ◌∙◌}
-use Rattle.sched_store.proofs.Lookups.{frame-found, no-frame-found, tree-found}
-use Rattle.sched_store.proofs.Removing.{child-or-root}
+use Rattle.sched_store.proofs.Lookups.{sym, ◌∙◌, frame-found, no-frame-found, tree-found, child-or-root}
 use Rattle.sched_store.proofs.store.Store.find.Goals as goal
 
 pub returns-in-Some : goal.returns-in-Some

@@ -1,7 +1,6 @@
 -- The core's store tells its free segments (`Store::free_segments`): the stack's count is the total less what all
 -- tenants' frames take.
-use Rattle.sched_store.proofs.Common.{refl, total_charge}
-use Rattle.sched_store.proofs.Lookups.{free-found}
+use Rattle.sched_store.proofs.Lookups.{refl, total_charge, free-found}
 use Rattle.sched_store.proofs.store.Store.free_segments.Goals as goal
 
 pub returns : goal.returns

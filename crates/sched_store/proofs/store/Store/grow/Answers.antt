@@ -1,9 +1,8 @@
 -- The core's store makes a frame longer (`Store::grow`): its words are followed by zeros, its tenant is charged the
 -- segments, which it had left, and nobody else is touched.
-use Rattle.sched_store.proofs.Common.{◌≤◌, ◌++◌, length, replicate, arith, ap, ◌∙◌, growth_charge, parts_of, shared_of, words_under}
-use Rattle.sched_store.proofs.Lookups.{there-has}
+use Rattle.sched_store.proofs.Lookups.{◌≤◌, ◌++◌, length, replicate, arith, ap, ◌∙◌, growth_charge, parts_of, shared_of, words_under, there-has}
 use Rattle.sched_store.proofs.Steps.{book-left}
-use Rattle.sched_store.proofs.Words.{WordsSet, HasNode, has-node, has-free, growth-added, growth-set}
+use Rattle.sched_store.proofs.FrameSteps.{WordsSet, HasNode, has-node, has-free, growth-added, growth-set}
 use Rattle.sched_store.proofs.store.Store.grow.Goals.{After-node_of-node, After-unwrap-2}
 use Rattle.sched_store.proofs.store.Store.grow.Goals as goal
 

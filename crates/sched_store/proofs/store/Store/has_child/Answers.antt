@@ -1,5 +1,5 @@
 -- The core's store tells whether a frame has a child (`Store::has_child`): as the tenant's tree says.
-use Rattle.sched_store.proofs.Removing.{child-shown}
+use Rattle.sched_store.proofs.Lookups.{child-shown}
 use Rattle.sched_store.proofs.store.Store.has_child.Goals as goal
 
 pub returns : goal.returns

@@ -1,8 +1,7 @@
 -- A worker gets a frame in the core's store (`Store::hold`): the frame runs or computes by this worker, the worker's
 -- place names it, and the store is sound.
-use Rattle.sched_store.proofs.Common.{◌≡◌, length, Some, set, parts_of}
-use Rattle.sched_store.proofs.Lookups.{there-frame, there-has}
-use Rattle.sched_store.proofs.States.{StateSet, held-set}
+use Rattle.sched_store.proofs.Lookups.{◌≡◌, length, Some, set, parts_of, there-frame, there-has}
+use Rattle.sched_store.proofs.FrameSteps.{StateSet, held-set}
 use Rattle.sched_store.proofs.store.Store.hold.Goals.{After-set_state}
 use Rattle.sched_store.proofs.store.Store.hold.Goals as goal
 

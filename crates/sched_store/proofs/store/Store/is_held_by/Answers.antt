@@ -1,6 +1,5 @@
 -- The core's store tests whether a worker runs or computes a frame (`Store::is_held_by`): as the frame's state says.
-use Rattle.sched_store.proofs.Common.{arith, refl, sym, ◌∙◌}
-use Rattle.sched_store.proofs.Lookups.{found, nothing-found}
+use Rattle.sched_store.proofs.Lookups.{arith, refl, sym, ◌∙◌, found, nothing-found}
 use Rattle.sched_store.proofs.store.Store.is_held_by.Goals as goal
 
 pub returns-in-Some : goal.returns-in-Some

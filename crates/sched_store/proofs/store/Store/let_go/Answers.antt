@@ -1,8 +1,7 @@
 -- A worker gives a frame back in the core's store (`Store::let_go`): the frame is in its new state, the worker's place
 -- is empty, and the store is sound.
-use Rattle.sched_store.proofs.Common.{None, set, parts_of}
-use Rattle.sched_store.proofs.Lookups.{named-found, there-frame, there-has}
-use Rattle.sched_store.proofs.States.{StateSet, let-go-set}
+use Rattle.sched_store.proofs.Lookups.{None, set, parts_of, named-found, there-frame, there-has}
+use Rattle.sched_store.proofs.FrameSteps.{StateSet, let-go-set}
 use Rattle.sched_store.proofs.store.Store.let_go.Goals.{After-set_state}
 use Rattle.sched_store.proofs.store.Store.let_go.Goals as goal
 

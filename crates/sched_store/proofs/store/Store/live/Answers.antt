@@ -1,7 +1,6 @@
 -- The core's store counts a tenant's frames and words (`Store::live`): the sums fit in 64 bits, and are those of all
 -- its frames.
-use Rattle.sched_store.proofs.Common.{◌≡◌, ◌≤◌, ℕ, length, sum_by, is_some, true, sym, ◌∙◌, ap, subst, arith, sum_by-cons, FrameId, names_of, frames_of}
-use Rattle.sched_store.proofs.Common.{CoreState, tenant_in, live_of, words_under}
+use Rattle.sched_store.proofs.Lookups.{◌≡◌, ◌≤◌, ℕ, length, sum_by, is_some, true, sym, ◌∙◌, ap, subst, arith, sum_by-cons, FrameId, names_of, frames_of, CoreState, tenant_in, live_of, words_under}
 use Rattle.sched_store.proofs.Steps.{words-few, live-found}
 use Rattle.sched_store.proofs.store.Store.live.Goals as goal
 

@@ -1,7 +1,5 @@
 -- The core's store looks a frame up with its words (`Store::look_up`): all that it tells is that frame's.
-use Rattle.sched_store.proofs.Common.{arith, parts_of}
-use Rattle.sched_store.proofs.Lookups.{found as entry-found, frame-found, no-frame-found, tree-found, rising-found, sight-found, entry-open}
-use Rattle.sched_store.proofs.Removing.{child-or-root}
+use Rattle.sched_store.proofs.Lookups.{arith, found as entry-found, frame-found, no-frame-found, tree-found, rising-found, sight-found, entry-open, child-or-root}
 use Rattle.sched_store.proofs.store.Store.look_up.Goals as goal
 
 pub own-requires : goal.own-requires
@@ -12,7 +10,6 @@ sight-requires g c = entry-open c.self.invariant c.args.name c.in-Some.ensures.e
 
 pub returns-in-Some : goal.returns-in-Some
 returns-in-Some g c =
-    let parts = parts_of c.self.inside in
     let found = c.in-Some.ensures.entry in
     record {
       frame = rw (← c.self.view_is) (frame-found c.self.invariant c.args.name found);
@@ -20,7 +17,7 @@ returns-in-Some g c =
       words = (let f = entry-found c.self.invariant c.args.name found in rw (← c.self.view_is, c.own.ensures) grind (arith, f));
       sight = rw (← c.self.view_is) (sight-found c.self.invariant c.args.name found c.sight.ensures);
       tree = rw (← c.self.view_is) (tree-found c.self.invariant c.args.name.tenant);
-      rising = rw (← c.self.view_is) (rising-found parts c.self.invariant);
+      rising = rw (← c.self.view_is) (rising-found c.self.invariant);
     }
 
 pub returns-in-None : goal.returns-in-None
@@ -30,5 +27,5 @@ returns-in-None g c = record {
   words = tt;
   sight = tt;
   tree = rw (← c.self.view_is) (tree-found c.self.invariant c.args.name.tenant);
-  rising = rw (← c.self.view_is) (rising-found (parts_of c.self.inside) c.self.invariant);
+  rising = rw (← c.self.view_is) (rising-found c.self.invariant);
 }

@@ -1,6 +1,6 @@
 -- A new store of a core (`Store::new`): it has no tenant, and keeps what a store keeps.
-use Rattle.sched_store.proofs.Common.{arith}
-use Rattle.sched_store.proofs.Admitting.{new-stored}
+use Rattle.std.proofs.Common.{arith}
+use Rattle.sched_store.proofs.TenantSteps.{new-stored}
 use Rattle.sched_store.proofs.store.Store.new.Goals as goal
 
 pub invariant_of-result : goal.invariant_of-result

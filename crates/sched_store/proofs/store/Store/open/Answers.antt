@@ -1,9 +1,9 @@
 -- The core's store opens a frame (`Store::open`): the tenant's tree has it with its words, its account is charged, and
 -- nobody else is touched.
-use Rattle.sched_store.proofs.Common.{◌≤◌, refl, arith, charge, parts_of}
+use Rattle.sched_store.proofs.Lookups.{◌≤◌, refl, arith, charge, parts_of}
 use Rattle.sched_store.proofs.Steps.{book-left}
-use Rattle.sched_store.proofs.Words.{has-free}
-use Rattle.sched_store.proofs.OpenFrame.{serials-found, left-for, parent-found, parent-open, place-left, size-some, Opened, open-step}
+use Rattle.sched_store.proofs.FrameSteps.{has-free}
+use Rattle.sched_store.proofs.OpenFrame.{left-for, parent-found, parent-open, place-left, size-some, Opened, open-step, serials-found}
 use Rattle.sched_store.proofs.store.Store.open.Goals.{After-add}
 use Rattle.sched_store.proofs.store.Store.open.Goals as goal
 

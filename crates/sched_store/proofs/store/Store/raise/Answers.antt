@@ -1,7 +1,7 @@
 -- The core's store raises a tenant's reservation (`Store::raise`): its account has it and its places grow, or memory
 -- was refused and nothing changes.
-use Rattle.sched_store.proofs.Common.{refl, ◌∙◌, arith, with_reserve, parts_of}
-use Rattle.sched_store.proofs.Admitting.{CanBeRaised, can-be-raised, with_more, raised}
+use Rattle.sched_store.proofs.Lookups.{refl, ◌∙◌, arith, with_reserve, parts_of}
+use Rattle.sched_store.proofs.TenantSteps.{CanBeRaised, can-be-raised, with_more, raised}
 use Rattle.sched_store.proofs.Steps.{Stepped}
 use Rattle.sched_store.proofs.store.Store.raise.Goals.{After-segments, After-unwrap}
 use Rattle.sched_store.proofs.store.Store.raise.Goals as goal

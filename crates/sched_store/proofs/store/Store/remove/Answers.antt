@@ -1,8 +1,6 @@
 -- The core's store removes a frame without a child (`Store::remove`): it goes with its node, and what it was charged
 -- is free again.
-use Rattle.frame_table.proofs.TreeValues.{frames_without-map_values}
-use Rattle.sched_store.proofs.Common.{arith, without_frame, frames_without, parts_of, tree-without, sym, node_words}
-use Rattle.sched_store.proofs.Lookups.{there-has}
+use Rattle.sched_store.proofs.Lookups.{arith, without_frame, frames_without, parts_of, tree-without, sym, node_words, frames_without-map_values, there-has}
 use Rattle.sched_store.proofs.Steps.{Stepped}
 use Rattle.sched_store.proofs.Removing.{AreFreed, with_parts, nodes-free, gone-step, others_stay, no-children, leaf-closes, leaf-gone}
 use Rattle.sched_store.proofs.store.Store.remove.Goals.{After-free_count, After-give_back}
@@ -33,7 +31,7 @@ pub close-requires : goal.close-requires
 close-requires g c =
     let leaf = no-children c.self.invariant c.args.name (rw (← c.self.view_is) at c.requires.leaf) in
     let closes = leaf-closes c.self.invariant c.args.name c.remove-node.result c.remove-node.ensures.value leaf in
-    record { is_open = closes.0; no_child = closes.1 }
+    grind arith
 
 pub overflow_sub-freed : goal.overflow_sub-freed
 overflow_sub-freed g c = (freed g (goal.at.overflow_sub-freed g c).After-free_count).more

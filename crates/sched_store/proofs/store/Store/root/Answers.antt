@@ -1,6 +1,5 @@
 -- The core's store tells a frame's root (`Store::root`): the first frame of its path.
-use Rattle.sched_store.proofs.Lookups.{there-has}
-use Rattle.sched_store.proofs.Removing.{path-shown}
+use Rattle.sched_store.proofs.Lookups.{there-has, path-shown}
 use Rattle.sched_store.proofs.store.Store.root.Goals as goal
 
 pub root-requires : goal.root-requires

@@ -1,8 +1,7 @@
 -- The core's store puts a frame into a state without a worker (`Store::set_state`): that frame alone changes, no
 -- worker's place does, and the store is sound.
-use Rattle.sched_store.proofs.Common.{parts_of}
-use Rattle.sched_store.proofs.Lookups.{there-frame, there-has}
-use Rattle.sched_store.proofs.States.{StateSet, unheld-set}
+use Rattle.sched_store.proofs.Lookups.{parts_of, there-frame, there-has}
+use Rattle.sched_store.proofs.FrameSteps.{StateSet, unheld-set}
 use Rattle.sched_store.proofs.store.Store.set_state.Goals.{After-set_state}
 use Rattle.sched_store.proofs.store.Store.set_state.Goals as goal
 

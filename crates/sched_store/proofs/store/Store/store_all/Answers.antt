@@ -1,7 +1,7 @@
 -- The core's store writes words of a frame (`Store::store_all`): where there is nothing to write the frame stays as it
 -- is.
-use Rattle.sched_store.proofs.Common.{◌≡◌, [], sym, ◌∙◌, eqb-true, nil_from_length}
-use Rattle.sched_store.proofs.Words.{nothing-stored}
+use Rattle.sched_store.proofs.Lookups.{◌≡◌, [], sym, ◌∙◌, eqb-true, nil_from_length}
+use Rattle.sched_store.proofs.FrameSteps.{nothing-stored}
 use Rattle.sched_store.proofs.store.Store.store_all.Goals as goal
 
 pub returns-then-is_empty : goal.returns-then-is_empty

@@ -1,8 +1,7 @@
 -- The core's store writes words of a frame (`Store::store_some`): they stand in the frame's node, each at its place;
 -- no other frame changes, and the store is sound.
-use Rattle.sched_store.proofs.Common.{parts_of}
-use Rattle.sched_store.proofs.Lookups.{there-has}
-use Rattle.sched_store.proofs.Words.{HasNode, has-node, stores-set}
+use Rattle.sched_store.proofs.Lookups.{parts_of, there-has}
+use Rattle.sched_store.proofs.FrameSteps.{HasNode, has-node, stores-set}
 use Rattle.sched_store.proofs.store.Store.store_some.Goals.{After-node_of-node}
 use Rattle.sched_store.proofs.store.Store.store_some.Goals as goal
 

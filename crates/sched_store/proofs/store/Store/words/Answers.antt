@@ -1,6 +1,5 @@
 -- The core's store shows a frame's words (`Store::words`): those of its own node.
-use Rattle.sched_store.proofs.Common.{arith, refl}
-use Rattle.sched_store.proofs.Lookups.{entry-open, found, nothing-found}
+use Rattle.sched_store.proofs.Lookups.{arith, refl, entry-open, found, nothing-found}
 use Rattle.sched_store.proofs.store.Store.words.Goals as goal
 
 pub own-requires : goal.own-requires

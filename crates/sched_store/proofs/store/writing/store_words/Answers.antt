@@ -1,8 +1,7 @@
 -- The core's store writes words of a node (`writing::store_words`): each stands at its place, and no other node
 -- changes.
-use Rattle.std.proofs.lemmas.List.{set-set}
-use Rattle.sched_store.proofs.Common.{arith, drop_all}
-use Rattle.sched_store.proofs.Words.{first-store, outside-set, words-same, words-stay}
+use Rattle.sched_store.proofs.Lookups.{set-set, arith, drop_all}
+use Rattle.sched_store.proofs.FrameSteps.{first-store, outside-set, words-same, words-stay}
 use Rattle.sched_store.proofs.store.writing.store_words.Goals as goal
 
 pub store-requires-clause-in_bounds : goal.store-requires-clause-in_bounds

@@ -1,7 +1,6 @@
 -- The core's store writes words of a node (`store::writing::store_words`): at each turn, the words so far and those
 -- still to come make what all of them make, and none is out of place.
-use Rattle.sched_store.proofs.Common.{◌≡◌, drop, false, IsOpen, node_words, with_node_words}
-use Rattle.sched_rules.specs.Trees.{stored, is_outside}
+use Rattle.sched_store.proofs.Lookups.{◌≡◌, drop, false, IsOpen, node_words, with_node_words, stored, is_outside}
 use Rattle.sched_store.proofs.store.writing.store_words.Given as goal
 
 abbrev pub invariant-loop-at : goal.invariant-loop-at
