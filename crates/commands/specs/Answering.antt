@@ -1,5 +1,6 @@
 -- Meaning: what the program `othello` does for a command line whose command is solve, and its exit status.
 use Rattle.std.specs.Prelude.{◌≡◌, ℕ, List, Bool, true, false, [], Option, Some, Result, Ok, Err}
+use Rattle.line_io.specs.Leads.{between}
 use Rattle.clap.specs.Words.{Text, fault_of}
 use Rattle.clap.specs.declared.error.kind.ErrorKind.{ErrorKind}
 use Rattle.line_io.specs.declared.faults.LineFault.{LineFault}
@@ -30,13 +31,13 @@ module _ {S K : Type 0} (gives : S → ReadAnswer → S → Type 0) (takes : K �
   -- the lines of the input are answered, at true with numbers of positions, at false without; the grain has no
   -- part in it
   abbrev pub IsAnsweredRun : Bool → Result (Unit {0}) LineFault → Type 0
-  IsAnsweredRun false r = SolvedRun gives takes source sink source' sink' r
-  IsAnsweredRun true r = VisitedRun gives takes source sink source' sink' r
+  IsAnsweredRun false r = SolvedRun (between gives source source') (between takes sink sink') r
+  IsAnsweredRun true r = VisitedRun (between gives source source') (between takes sink sink') r
 
   -- what is done for words that ask for no server, and the exit status: `solve` answers the input's lines, and nothing is
   -- read where the words are refused (the fault's status)
   abbrev pub IsSolvedAsAsked : Result Options WordsFault → ℕ → Type 0
   IsSolvedAsAsked (Ok (Solve grain visited)) status = (r : Result (Unit {0}) LineFault) × IsAnsweredRun visited r × (status ≡ status_of_run r)
-  IsSolvedAsAsked (Ok SolveOrdered) status = (r : Result (Unit {0}) LineFault) × OrderedRun gives takes source sink source' sink' r × (status ≡ status_of_run r)
+  IsSolvedAsAsked (Ok SolveOrdered) status = (r : Result (Unit {0}) LineFault) × OrderedRun (between gives source source') (between takes sink sink') r × (status ≡ status_of_run r)
   IsSolvedAsAsked (Ok (Serve sessions port workers segments nodes grain)) status = ⊥
   IsSolvedAsAsked (Err fault) status = (source' ≡ source) × (status ≡ exit_status fault)

@@ -1,5 +1,6 @@
 //! The lines of an input of the program `othello`, answered as `solve` answers them.
 ghost use Rattle.std.specs.Prelude.{◌≡◌, ◌≤◌, Result};
+ghost use Rattle.line_io.specs.Leads.{between};
 ghost use Rattle.line_io.specs.declared.faults.LineFault.{LineFault};
 ghost use Rattle.commands.specs.Answering.{IsAnsweredRun, status_of_run};
 ghost use Rattle.solve_engine.specs.Solving.{OrderedRun};
@@ -47,7 +48,7 @@ pub fn answer<S: ProgramInput, K: ProgramOutput, E: Sink>(
 pub fn answer_ordered<S: ProgramInput, K: ProgramOutput, E: Sink>(
     streams: &mut Streams<S, K, E>,
 ) -> u8
-    ensures { (r : Result (Unit {0}) LineFault) × OrderedRun S.gives K.takes streams.old.source streams.old.sink streams.new.source streams.new.sink r
+    ensures { (r : Result (Unit {0}) LineFault) × OrderedRun (between S.gives streams.old.source streams.new.source) (between K.takes streams.old.sink streams.new.sink) r
         × (result ≡ status_of_run r) }
 {
     hint(streams);

@@ -35,7 +35,7 @@ pub use Rattle.jamboree_core.proofs.JournalLemmas.{journal-searches}
 pub use Rattle.jamboree_core.proofs.Serving.{tenant-replies}
 pub use Rattle.jamboree_core.specs.Journals.{AreTakenFrom, IsJournalOf, StaysTaken}
 pub use Rattle.jamboree_core.specs.Replies.{AreReplies, AreSearches, HoldsReply, IsSearch}
-pub use Rattle.line_io.specs.Leads.{Leads}
+pub use Rattle.line_io.specs.Leads.{Leads, between}
 pub use Rattle.line_io.specs.Lines.{LineText, TooLong, Whole}
 pub use Rattle.line_io.specs.Runs.{bytes_due}
 pub use Rattle.line_io.specs.Streams.{ReadAnswer, WriteAnswer}
@@ -69,9 +69,9 @@ pub use Rattle.session.proofs.TrueCalls.{all-true}
 pub use Rattle.session.specs.Asks.{Asked, IsAnalysisOf, IsJobReply, IsOfficeReplyTo, KeepsAsks, SaysTrue, ShowsFound, asked_at, asks_after}
 pub use Rattle.session.specs.Calls.{Alive, Ask, AskLive, AskQuota, Call, Cancel, Ended, Get, Gone, Hello, Job, Leave, OfficeReply, Refused, Reserve, Reserved}
 pub use Rattle.session.specs.Calls.{Rest, Told, Wait, Welcome, reply_of}
-pub use Rattle.session.specs.Forms.{AskOf, ByeForm, CancelOf, Form, GetOf, HelloOf, LiveForm, QuotaForm, ReserveOf, TableOf, WaitOf, form_after, form_by}
-pub use Rattle.session.specs.Forms.{form_of, is_bye}
-pub use Rattle.session.specs.Requests.{Ends, Fault, Makes, Request, Tabulates, ask_request, form_request, job_request, quota_request, request, seated_request}
+pub use Rattle.session.specs.Requests.{AtAnyTime, AtFirst, Ends, Fault, LineCommand, Makes, OnceSeated, Request, Tabulates, ask_request, command_alone}
+pub use Rattle.session.specs.Requests.{command_request, command_with_one, command_with_two, is_bye, job_request, line_command, line_command_after, line_command_by}
+pub use Rattle.session.specs.Requests.{quota_request, request}
 pub use Rattle.session.specs.Sessions.{Called, IsAnsweredOf, Session, calls_for, session_lines, talk_result}
 pub use Rattle.session.specs.Turns.{calls_in, later_replies, next_reply, seated_after, turns}
 pub use Rattle.session.specs.declared.faults.End.{End}

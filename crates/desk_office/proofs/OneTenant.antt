@@ -1,5 +1,5 @@
 -- A session at a desk has one tenant at most.
-use Rattle.desk_office.proofs.Common.{◌≡◌, ℕ, List, [], ◌∷◌, ◌++◌, Bool, true, false, Option, Some, None, Result, refl, sym, ap, subst, ◌∙◌, inl, inr, codes, arith, ◌⊎◌, option_map, bytes_eq, Leads, LineText, Whole, TooLong, upto, Quota, StepOf, tenant_in, Known, LeafAnswer, HallOf, SeatOf, IsSeated, End, SessionFault, KeepsAsks, IsOfficeReplyTo, Call, Hello, Leave, OfficeReply, Welcome, Gone, Refused, Form, HelloOf, ReserveOf, AskOf, GetOf, WaitOf, CancelOf, TableOf, QuotaForm, LiveForm, ByeForm, form_of, form_by, form_after, is_bye, Request, Fault, Makes, Tabulates, Ends, request, form_request, seated_request, quota_request, ask_request, job_request, Called, IsAnsweredOf, session_lines, turns, calls_in, next_reply, later_replies, seated_after, next_turns, asks_of, AllStay, IsOneTenancy, IsTenantOf, NobodyCame, is_stay, is_welcome, OfficeOf, IsHello, IsTurnAt, IsTurnOf}
+use Rattle.desk_office.proofs.Common.{◌≡◌, ℕ, List, [], ◌∷◌, ◌++◌, Bool, true, false, Option, Some, None, Result, refl, sym, ap, subst, ◌∙◌, inl, inr, codes, arith, ◌⊎◌, option_map, bytes_eq, Leads, LineText, Whole, TooLong, upto, Quota, StepOf, tenant_in, Known, LeafAnswer, HallOf, SeatOf, IsSeated, End, SessionFault, KeepsAsks, IsOfficeReplyTo, Call, Hello, Leave, OfficeReply, Welcome, Gone, Refused, LineCommand, OnceSeated, AtAnyTime, command_alone, command_with_one, command_with_two, line_command, line_command_by, line_command_after, command_request, is_bye, Request, Fault, Makes, Tabulates, Ends, request, quota_request, ask_request, job_request, Called, IsAnsweredOf, session_lines, turns, calls_in, next_reply, later_replies, seated_after, next_turns, asks_of, AllStay, IsOneTenancy, IsTenantOf, NobodyCame, is_stay, is_welcome, OfficeOf, IsHello, IsTurnAt, IsTurnOf}
 use Rattle.std.specs.Prelude.{◌==◌, if◌then◌else◌}
 use Rattle.desk_office.proofs.Tenancies.{tenancy}
 
@@ -20,42 +20,67 @@ ask-goes asked = grind arith
 job-goes : (asked : ℕ → Request) → ((job : ℕ) → Goes (asked job)) → (job : Option ℕ) → Goes (job_request asked job)
 job-goes asked goes job = grind arith
 
-seated-goes : (form : Form) → (form ≡ ByeForm) ⊎ Goes (seated_request form)
-seated-goes form = grind (arith, quota-goes, ask-goes, job-goes)
-
-seated-ends : (form : Option Form) → form_request true form ≡ Ends → form ≡ Some ByeForm
-seated-ends form e = grind (arith, seated-goes)
-
-form-stays : (form : Option Form) (call : Call) → form_request true form ≡ Makes call → is_stay call ≡ true
-form-stays form call e = grind (arith, seated-goes)
-
-pub seated-stays : (line : LineText) (call : Call) → request true line ≡ Makes call → is_stay call ≡ true
-seated-stays TooLong call e = absurd (cc e)
-seated-stays (Whole bytes) call e = form-stays (form_of bytes) call e
-
--- only the line BYE is read as the end
-bare : (q l b : Bool) → (if q then Some QuotaForm else (if l then Some LiveForm else (if b then Some ByeForm else None))) ≡ Some ByeForm → b ≡ true
-bare q l b e = grind arith
-
-no-one : (a b c d : Bool) (job : Option ℕ) → (if a then Some (GetOf job) else (if b then Some (WaitOf job) else (if c then Some (CancelOf job) else (if d then Some (TableOf job) else None)))) ≡ Some ByeForm → ⊥
-no-one a b c d job e = grind arith
-
-no-two : (a b c : Bool) (depth text : List ℕ) (segments nodes : Option ℕ) → (if a then Some (AskOf depth text) else (if b then Some (HelloOf segments nodes) else (if c then Some (ReserveOf segments nodes) else None))) ≡ Some ByeForm → ⊥
-no-two a b c depth text segments nodes e = grind arith
-
-after-bye : (word rest : List ℕ) (split : Option (List ℕ × List ℕ)) → form_after word rest split ≡ Some ByeForm → ⊥
-after-bye word rest split e = grind (arith, no-one, no-two)
-
-by-bye : (bytes : List ℕ) (split : Option (List ℕ × List ℕ)) → form_by bytes split ≡ Some ByeForm → bytes_eq bytes (codes "BYE") ≡ true
-by-bye bytes split e = grind (arith, bare, after-bye)
-
 -- how a line splits at its first space, as `protocol` says it, which has no name here
 abbrev split : List ℕ → Option (List ℕ × List ℕ)
 split [] = None
 split (b ∷ bs) = if b == 32 then Some ([], bs) else option_map (λ p. (b ∷ p.0, p.1)) (split bs)
 
+-- what a command asks for once a tenant is there, unless it is BYE, goes
+abbrev CommandGoes : Option LineCommand → Type 0
+CommandGoes (Some (OnceSeated asked)) = Goes asked
+CommandGoes _ = Unit {0}
+
+alone-goes : (word : List ℕ) → CommandGoes (command_alone word)
+alone-goes word = grind arith
+
+one-goes : (word argument : List ℕ) → CommandGoes (command_with_one word argument)
+one-goes word argument = grind (arith, job-goes)
+
+two-goes : (word first second : List ℕ) → CommandGoes (command_with_two word first second)
+two-goes word first second = grind (arith, quota-goes, ask-goes)
+
+after-goes : (word rest : List ℕ) (words : Option (List ℕ × List ℕ)) → CommandGoes (line_command_after word rest words)
+after-goes word rest None = one-goes word rest
+after-goes word rest (Some words) = two-goes word words.0 words.1
+
+by-goes : (bytes : List ℕ) (words : Option (List ℕ × List ℕ)) → CommandGoes (line_command_by bytes words)
+by-goes bytes None = alone-goes bytes
+by-goes bytes (Some words) = after-goes words.0 words.1 (split words.1)
+
+line-goes : (bytes : List ℕ) → CommandGoes (line_command bytes)
+line-goes bytes = by-goes bytes (split bytes)
+
+command-ends : (command : Option LineCommand) → CommandGoes command → command_request true command ≡ Ends → command ≡ Some AtAnyTime
+command-ends command goes e = grind arith
+
+command-stays : (command : Option LineCommand) (call : Call) → CommandGoes command → command_request true command ≡ Makes call → is_stay call ≡ true
+command-stays command call goes e = grind arith
+
+pub seated-stays : (line : LineText) (call : Call) → request true line ≡ Makes call → is_stay call ≡ true
+seated-stays TooLong call e = absurd (cc e)
+seated-stays (Whole bytes) call e = command-stays (line_command bytes) call (line-goes bytes) e
+
+-- only the line BYE is read as the end
+alone-bye : (word : List ℕ) → command_alone word ≡ Some AtAnyTime → bytes_eq word (codes "BYE") ≡ true
+alone-bye word e = grind arith
+
+no-one : (word argument : List ℕ) → command_with_one word argument ≡ Some AtAnyTime → ⊥
+no-one word argument e = grind arith
+
+no-two : (word first second : List ℕ) → command_with_two word first second ≡ Some AtAnyTime → ⊥
+no-two word first second e = grind arith
+
+after-bye : (word rest : List ℕ) (words : Option (List ℕ × List ℕ)) → line_command_after word rest words ≡ Some AtAnyTime → ⊥
+after-bye word rest None e = no-one word rest e
+after-bye word rest (Some words) e = no-two word words.0 words.1 e
+
+by-bye : (bytes : List ℕ) (words : Option (List ℕ × List ℕ)) → line_command_by bytes words ≡ Some AtAnyTime → bytes_eq bytes (codes "BYE") ≡ true
+by-bye bytes None e = alone-bye bytes e
+by-bye bytes (Some words) e = absurd (after-bye words.0 words.1 (split words.1) e)
+
 pub ends-is_bye : (line : LineText) → request true line ≡ Ends → is_bye line ≡ true
-ends-is_bye line e = grind (arith, by-bye, seated-ends)
+ends-is_bye TooLong e = absurd (cc e)
+ends-is_bye (Whole bytes) e = by-bye bytes (split bytes) (command-ends (line_command bytes) (line-goes bytes) e)
 
 -- before a tenant is there, the only call is HELLO
 abbrev IsEarly : Request → Type 0
@@ -68,11 +93,11 @@ IsEarly Ends = Unit {0}
 quota-early : (quota : Option Quota) → IsEarly (quota_request Hello quota)
 quota-early quota = grind arith
 
-form-early : (form : Option Form) → IsEarly (form_request false form)
-form-early form = grind (arith, quota-early)
+command-early : (command : Option LineCommand) → IsEarly (command_request false command)
+command-early command = grind (arith, quota-early)
 
 early : (line : LineText) → IsEarly (request false line)
-early line = grind (arith, form-early)
+early line = grind (arith, command-early)
 
 -- ---- only the last line may be BYE
 

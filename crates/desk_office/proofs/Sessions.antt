@@ -1,5 +1,5 @@
 -- A session over an office at a desk, told in the terms that the office's contracts use.
-use Rattle.desk_office.proofs.Common.{◌≡◌, List, [], ◌∷◌, Option, None, Result, refl, sym, ap, subst, concat, Leads, bytes_due, ReadAnswer, WriteAnswer, StepOf, Known, LeafAnswer, HallOf, End, SessionFault, Call, OfficeReply, KeepsAsks, Called, Session, calls_for, talk_result, each-done, all-true, asks_of, IsTenantOf, SeenSession, OfficeOf, vacant, IsTurnAt}
+use Rattle.desk_office.proofs.Common.{◌≡◌, List, [], ◌∷◌, Option, None, Result, refl, sym, ap, subst, concat, Leads, bytes_due, ReadAnswer, WriteAnswer, StepOf, Known, LeafAnswer, HallOf, End, SessionFault, Call, OfficeReply, KeepsAsks, Called, Session, calls_for, talk_result, each-done, all-true, asks_of, IsTenantOf, SeenSession, OfficeOf, vacant, IsTurnAt, between}
 use Rattle.desk_office.proofs.OneTenant.{answered-ends, one-tenant}
 
 -- the asks are kept by each call
@@ -13,7 +13,7 @@ module _ {O : Type 0} (seen : O → OfficeOf) (begun : HallOf) (does : O → Cal
   led from (made ∷ more) to h = (seen h.0, turns from made.0 made.1 h.0 h.1, led h.0 more to h.2)
 
   pub seen-session : {S K : Type 0} (gives : S → ReadAnswer → S → Type 0) (takes : K → WriteAnswer → K → Type 0) (s s' : S) (k k' : K) (o o' : O) (r : Result End SessionFault) (known : Option (Known (StepOf LeafAnswer))) →
-      (seen o).seat ≡ None → (seen o).knew ≡ None → known ≡ (seen o').knew → Session gives takes does s k o s' k' o' r → SeenSession begun gives takes s k s' k' r known
+      (seen o).seat ≡ None → (seen o).knew ≡ None → known ≡ (seen o').knew → Session (between gives s s') (between takes k k') (between (Called does) o o') r → SeenSession begun (between gives s s') (between takes k k') r known
   seen-session gives takes s s' k k' o o' r known no_seat none_left is x =
       let new : seen o ≡ vacant = λ i. record { seat = no_seat i; knew = none_left i } in
       let calls = calls_for x.answered x.replies in

@@ -2,6 +2,7 @@
 -- desk's history.
 use Rattle.std.specs.Prelude.{◌≡◌, ◌⊎◌, ℕ, ◌+◌, ◌≤◌, Bool, true, false, List, [], ◌∷◌, ◌++◌, length, slice_index, sum_by, Option, Some, None, option_and_then, Result}
 use Rattle.tenant_quota.specs.Quota.{Quota}
+use Rattle.line_io.specs.Leads.{Passage, between}
 use Rattle.line_io.specs.Streams.{ReadAnswer, WriteAnswer}
 use Rattle.othello_board.specs.declared.boards.Board.{Board}
 use Rattle.othello_board.specs.Words.{cells, cells_of}
@@ -35,7 +36,7 @@ use Rattle.session.specs.declared.standings.Standing.{Standing}
 use Rattle.session.specs.declared.standings.Standing.TheVariants.{Pending, Done, Spent, Cancelled}
 use Rattle.session.specs.Asks.{Asked, KeepsAsks}
 use Rattle.session.specs.Calls.{Call, Hello, Reserve, Ask, Get, Wait, Cancel, AskQuota, AskLive, Leave, OfficeReply, Welcome, Reserved, Job, Told, Ended, Rest, Alive, Gone, Refused}
-use Rattle.session.specs.Sessions.{Session, calls_for}
+use Rattle.session.specs.Sessions.{Session, calls_for, Called}
 use Rattle.session.specs.Turns.{turns}
 use Rattle.session.specs.DoneLines.{EachDoneIsTrue}
 
@@ -185,8 +186,8 @@ IsTenantOf begun calls (Some known) = IsOneTenancy begun calls known
 -- a session at a desk that was made with this hall, and what its tenant's seat knew when it left, if one came: its lines are true
 -- (`TrueSession`), it had one tenant at most, and the calls that its lines made were answered by the tenant's own part of the
 -- history
-pub record SeenSession {S K : Type 0} (begun : HallOf) (gives : S → ReadAnswer → S → Type 0) (takes : K → WriteAnswer → K → Type 0) (source : S) (sink : K) (source' : S) (sink' : K) (r : Result End SessionFault) (known : Option (Known (StepOf LeafAnswer))) : Type 0 where
+pub record SeenSession {S K : Type 0} (begun : HallOf) (reading : Passage S ReadAnswer) (writing : Passage K WriteAnswer) (r : Result End SessionFault) (known : Option (Known (StepOf LeafAnswer))) : Type 0 where
   pub asks : List Asked
-  pub session : Session gives takes KeepsAsks source sink [] source' sink' asks r
+  pub session : Session reading writing (between (Called KeepsAsks) [] asks) r
   pub dones : EachDoneIsTrue [] session.answered (turns false session.answered session.replies)
   pub tenant : IsTenantOf begun (calls_for session.answered session.replies) known

@@ -1,6 +1,7 @@
 //! Sessions at a desk, served from their first line to their last.
 ghost use Rattle.std.specs.Prelude.{◌≡◌, Option};
 ghost use Rattle.sched_rules.specs.declared.step.StepOf.{StepOf};
+ghost use Rattle.line_io.specs.Leads.{between};
 ghost use Rattle.session.specs.DoneLines.{TrueSession};
 ghost use Rattle.desk.specs.Traces.{Known};
 ghost use Rattle.hall.specs.jamboree_rules.declared.leaf.LeafAnswer.{LeafAnswer};
@@ -25,8 +26,8 @@ pub fn serve_desk<S: Source, K: Sink, L: DeskLedger, R: Wait, A: Allocator + Clo
     desk: &Desk<L, A>,
 ) -> Result<End, SessionFault>
     requires { L.all ≡ L.parts }
-    ensures lines { TrueSession S.gives K.takes source.old sink.old source.new sink.new result }
-    ensures seen { (knew : Option (Known (StepOf LeafAnswer))) × SeenSession L.begun S.gives K.takes source.old sink.old source.new sink.new result knew }
+    ensures lines { TrueSession (between S.gives source.old source.new) (between K.takes sink.old sink.new) result }
+    ensures seen { (knew : Option (Known (StepOf LeafAnswer))) × SeenSession L.begun (between S.gives source.old source.new) (between K.takes sink.old sink.new) result knew }
 {
     let (result, _knew) = serve_desk_seen(rt, source, sink, desk);
     result
@@ -44,7 +45,7 @@ pub fn serve_desk_seen<S: Source, K: Sink, L: DeskLedger, R: Wait, A: Allocator 
     desk: &Desk<L, A>,
 ) -> (Result<End, SessionFault>, Option<Trace<Step<Jamboree>, L>>)
     requires { L.all ≡ L.parts }
-    ensures { SeenSession L.begun S.gives K.takes source.old sink.old source.new sink.new result.0 result.1 }
+    ensures { SeenSession L.begun (between S.gives source.old source.new) (between K.takes sink.old sink.new) result.0 result.1 }
 {
     let mut office = DeskOffice::new(rt, desk);
     let result = serve_lines(rt, source, sink, &mut office);

@@ -1,5 +1,5 @@
 -- Lines in, answers out: the answers to some lines of an input, and their writes.
-use Rattle.line_io.proofs.Common.{◌≡◌, ℕ, List, [], ◌∷◌, ◌++◌, map, refl, sym, ap, ◌∙◌, subst, append_assoc, Result, Ok, Err, arith, append-nil, map-append, concat-append, flat_map-append, concat, WriteFailed, LineText, Leads, Took, IsWritten, LinesAnswered, IsAnswered, with_newline, written_texts, writes_of}
+use Rattle.line_io.proofs.Common.{◌≡◌, ℕ, List, [], ◌∷◌, ◌++◌, map, refl, sym, ap, ◌∙◌, subst, append_assoc, Result, Ok, Err, arith, append-nil, map-append, concat-append, flat_map-append, concat, WriteFailed, LineText, Leads, Took, IsWritten, LinesAnswered, IsAnswered, with_newline, written_texts, writes_of, between, answering}
 use Rattle.line_io.proofs.Chains.{Answering, Writing, Leads-append, Answers-append}
 
 -- how writes ended
@@ -8,17 +8,17 @@ Wrote = Result (Unit {0}) WriteFailed
 
 module _ {K A : Type 0} {takes : Writing K} {answers : Answering A} where
   -- no line
-  pub LinesAnswered-none : {k : K} {a : A} → LinesAnswered takes answers k a [] k a (Ok tt)
+  pub LinesAnswered-none : {k : K} {a : A} → LinesAnswered (between takes k k) (answering answers a a) [] (Ok tt)
   LinesAnswered-none = record { answered = []; texts = []; pieces = []; rest = []; answers_lead = refl; writes = refl; taken = refl; ends = (refl, refl) }
 
   module _ {k k' : K} {a a' : A} {line : LineText} (text : List ℕ) {bytes : List ℕ} (h : answers a line text a') (e : bytes ≡ with_newline text) where
     -- one line, where its answer's writes ended so
     one-line : {r : Wrote} (w : IsWritten takes k bytes k' r) → IsAnswered r (line ∷ []) (line ∷ []) (text ∷ []) w.rest →
-        LinesAnswered takes answers k a (line ∷ []) k' a' r
+        LinesAnswered (between takes k k') (answering answers a a') (line ∷ []) r
     one-line w ends = grind (arith, append-nil)
 
     -- one line, whose answer was written
-    pub LinesAnswered-one : (r : Wrote) → IsWritten takes k bytes k' r → LinesAnswered takes answers k a (line ∷ []) k' a' r
+    pub LinesAnswered-one : (r : Wrote) → IsWritten takes k bytes k' r → LinesAnswered (between takes k k') (answering answers a a') (line ∷ []) r
     LinesAnswered-one (Ok u) w = one-line w (refl, w.ends)
     LinesAnswered-one (Err d) w =
         one-line w (([], refl), record { before = []; last = text; begun = concat w.pieces; texts_are = refl; last_is = w.taken ∙ e; left = w.ends })
@@ -45,8 +45,8 @@ module _ (ls ls' ms ms' : List LineText) (ts us : List (List ℕ)) (rest : List 
 
 module _ {K A : Type 0} {takes : Writing K} {answers : Answering A} {k k' : K} {a a' : A} {ls : List LineText} where
   -- two lists of lines, one after the other
-  pub LinesAnswered-append : {ms : List LineText} {k'' : K} {a'' : A} {r : Wrote} → LinesAnswered takes answers k a ls k' a' (Ok tt) →
-      LinesAnswered takes answers k' a' ms k'' a'' r → LinesAnswered takes answers k a (ls ++ ms) k'' a'' r
+  pub LinesAnswered-append : {ms : List LineText} {k'' : K} {a'' : A} {r : Wrote} → LinesAnswered (between takes k k') (answering answers a a') ls (Ok tt) →
+      LinesAnswered (between takes k' k'') (answering answers a' a'') ms r → LinesAnswered (between takes k k'') (answering answers a a'') (ls ++ ms) r
   LinesAnswered-append {ms} {k''} {a''} {r} x y =
       record {
         answered = x.answered ++ y.answered;
@@ -60,10 +60,10 @@ module _ {K A : Type 0} {takes : Writing K} {answers : Answering A} {k k' : K} {
       }
 
   -- where a write failed, more lines may follow
-  pub LinesAnswered-before : (more : List LineText) {e : WriteFailed} → LinesAnswered takes answers k a ls k' a' (Err e) →
-      LinesAnswered takes answers k a (ls ++ more) k' a' (Err e)
+  pub LinesAnswered-before : (more : List LineText) {e : WriteFailed} → LinesAnswered (between takes k k') (answering answers a a') ls (Err e) →
+      LinesAnswered (between takes k k') (answering answers a a') (ls ++ more) (Err e)
   LinesAnswered-before more x = grind (arith, append_assoc)
 
   -- the same lines by another name
-  pub LinesAnswered-same : {ms : List LineText} {r : Wrote} → ls ≡ ms → LinesAnswered takes answers k a ls k' a' r → LinesAnswered takes answers k a ms k' a' r
+  pub LinesAnswered-same : {ms : List LineText} {r : Wrote} → ls ≡ ms → LinesAnswered (between takes k k') (answering answers a a') ls r → LinesAnswered (between takes k k') (answering answers a a') ms r
   LinesAnswered-same e x = grind arith

@@ -1,5 +1,5 @@
 -- Lines in, answers out: the lines that end in one block of the input.
-use Rattle.line_io.proofs.Common.{◌≡◌, ◌≢◌, ℕ, ◌+◌, ◌<◌, ◌≤◌, List, [], ◌∷◌, ◌++◌, length, get_or, drop, cond, eqb, false, refl, sym, ap, ◌∙◌, append_assoc, arith, Option, Some, Result, Ok, Err, at_drop_more, drop_all, nat_tests, WriteFailed, LineText, LinesAnswered, with_byte, ended_line, held_after, ended_within}
+use Rattle.line_io.proofs.Common.{◌≡◌, ◌≢◌, ℕ, ◌+◌, ◌<◌, ◌≤◌, List, [], ◌∷◌, ◌++◌, length, get_or, drop, cond, eqb, false, refl, sym, ap, ◌∙◌, append_assoc, arith, Option, Some, Result, Ok, Err, at_drop_more, drop_all, nat_tests, WriteFailed, LineText, LinesAnswered, with_byte, ended_line, held_after, ended_within, between, answering}
 use Rattle.line_io.proofs.Chains.{Answering, Writing}
 use Rattle.line_io.proofs.Answered.{LinesAnswered-none, LinesAnswered-append, LinesAnswered-before, LinesAnswered-same}
 
@@ -7,7 +7,7 @@ module _ {K A : Type 0} (takes : Writing K) (answers : Answering A) (k : K) (a :
   -- the lines that ended in the first bytes of the block are answered
   pub record BlockSoFar (i : ℕ) (k' : K) (a' : A) (h' : Option (List ℕ)) : Type 0 where
     pub lines : List LineText
-    pub answered : LinesAnswered takes answers k a lines k' a' (Ok tt)
+    pub answered : LinesAnswered (between takes k k') (answering answers a a') lines (Ok tt)
     pub to_come : lines ++ ended_within h' (drop i block) ≡ ended_within h block
     pub held : held_after h' (drop i block) ≡ held_after h block
 
@@ -43,12 +43,12 @@ module _ {K A : Type 0} {takes : Writing K} {answers : Answering A} {k k' : K} {
 
     module _ {line : LineText} (e : get_or block i 0 ≡ 10) (f : line ≡ ended_line h') where
       -- the lines so far and the line that an LF ends
-      pub one-more : {k'' : K} {a'' : A} {r : Result (Unit {0}) WriteFailed} → LinesAnswered takes answers k' a' (line ∷ []) k'' a'' r →
-          LinesAnswered takes answers k a (s.lines ++ ended_line h' ∷ []) k'' a'' r
+      pub one-more : {k'' : K} {a'' : A} {r : Result (Unit {0}) WriteFailed} → LinesAnswered (between takes k' k'') (answering answers a' a'') (line ∷ []) r →
+          LinesAnswered (between takes k k'') (answering answers a a'') (s.lines ++ ended_line h' ∷ []) r
       one-more x = LinesAnswered-append s.answered (LinesAnswered-same (ap (λ z. z ∷ []) f) x)
 
       -- an LF, and the line before it answered
-      abbrev pub Block-line : {k'' : K} {a'' : A} {h'' : Option (List ℕ)} → LinesAnswered takes answers k' a' (line ∷ []) k'' a'' (Ok tt) → h'' ≡ Some [] →
+      abbrev pub Block-line : {k'' : K} {a'' : A} {h'' : Option (List ℕ)} → LinesAnswered (between takes k' k'') (answering answers a' a'') (line ∷ []) (Ok tt) → h'' ≡ Some [] →
           BlockSoFar takes answers k a h block (i + 1) k'' a'' h''
       Block-line x n =
           let come = sym (lf-next block i l s.lines h' e) ∙ s.to_come in
@@ -57,6 +57,6 @@ module _ {K A : Type 0} {takes : Writing K} {answers : Answering A} {k k' : K} {
           record { lines = s.lines ++ ended_line h' ∷ []; answered = one-more x; to_come = rw n come; held = ap (λ z. held_after z rest) n ∙ held }
 
       -- an LF, and the answer to the line before it not written
-      pub Block-failed : {k'' : K} {a'' : A} {d : WriteFailed} → LinesAnswered takes answers k' a' (line ∷ []) k'' a'' (Err d) →
-          LinesAnswered takes answers k a (ended_within h block) k'' a'' (Err d)
+      pub Block-failed : {k'' : K} {a'' : A} {d : WriteFailed} → LinesAnswered (between takes k' k'') (answering answers a' a'') (line ∷ []) (Err d) →
+          LinesAnswered (between takes k k'') (answering answers a a'') (ended_within h block) (Err d)
       Block-failed x = LinesAnswered-same (sym (lf-next block i l s.lines h' e) ∙ s.to_come) (LinesAnswered-before _ (one-more x))

@@ -1,5 +1,5 @@
 -- Lines in, answers out: where each answer is that of a function, what is written is a function of what is read.
-use Rattle.line_io.proofs.Common.{◌≡◌, ℕ, ◌<◌, List, [], ◌∷◌, ◌++◌, length, map, refl, sym, ap, ◌∙◌, append_assoc, arith, length-append, Result, Ok, Err, append-nil, flat_map-map, flat_map-append, concat, flat_map, LineFault, WriteFailed, LineText, lines_of, Answers, IsPrefixOf, IsAnswered, written_texts, with_newline, Run, FunctionRun, IsProperPrefix, IsOutput, answers_to, bytes_due, write_result}
+use Rattle.line_io.proofs.Common.{◌≡◌, ℕ, ◌<◌, List, [], ◌∷◌, ◌++◌, length, map, refl, sym, ap, ◌∙◌, append_assoc, arith, length-append, Result, Ok, Err, append-nil, flat_map-map, flat_map-append, concat, flat_map, LineFault, WriteFailed, LineText, lines_of, Answers, IsPrefixOf, IsAnswered, written_texts, with_newline, Run, FunctionRun, IsProperPrefix, IsOutput, answers_to, bytes_due, write_result, between, answering}
 use Rattle.line_io.proofs.Chains.{Answering, Reading, Writing}
 
 -- all of the answers
@@ -25,8 +25,8 @@ module _ (answer : LineText → List ℕ) (pieces : List (List ℕ)) (rest : Lis
 module _ {S K A : Type 0} (gives : Reading S) (takes : Writing K) (answers : Answering A) where
   -- a run, where what its writes left is this of the lines due
   pub Run-written : (out : List LineText → List ℕ) (s : S) (k : K) (a : A) (s' : S) (k' : K) (a' : A) (r : Result (Unit {0}) LineFault)
-      (x : Run gives takes answers s k a s' k' a' r) → IsOutput (write_result r) (concat x.lines.pieces) (out (lines_of (bytes_due r (concat x.blocks)))) →
-      FunctionRun gives takes (λ bytes. out (lines_of bytes)) s k s' k' r
+      (x : Run (between gives s s') (between takes k k') (answering answers a a') r) → IsOutput (write_result r) (concat x.lines.pieces) (out (lines_of (bytes_due r (concat x.blocks)))) →
+      FunctionRun (between gives s s') (between takes k k') (λ bytes. out (lines_of bytes)) r
   Run-written out s k a s' k' a' r x written = grind arith
 
 -- where each answer is the function's in the states that this fact holds of, and keeps it
@@ -42,7 +42,7 @@ module _ {A : Type 0} (answers : Answering A) (holds : A → Type 0) (answer : L
 
   -- a run
   pub Run-function : {S K : Type 0} {gives : Reading S} {takes : Writing K} {s s' : S} {k k' : K} {a a' : A} {r : Result (Unit {0}) LineFault} → holds a →
-      Run gives takes answers s k a s' k' a' r → FunctionRun gives takes (λ bytes. answers_to answer (lines_of bytes)) s k s' k' r
+      Run (between gives s s') (between takes k k') (answering answers a a') r → FunctionRun (between gives s s') (between takes k k') (λ bytes. answers_to answer (lines_of bytes)) r
   Run-function {gives = gives} {takes} {s} {s'} {k} {k'} {a} {a'} {r} h x =
       let y = x.lines in
       let texts_are : y.texts ≡ map answer y.answered = Answers-function a y.answered y.texts a' h y.answers_lead in
@@ -65,5 +65,5 @@ module _ {A : Type 0} (answers : Answering A) (related : LineText → List ℕ �
 -- a run whose answers are
 module _ {S K A : Type 0} (gives : Reading S) (takes : Writing K) (answers : Answering A) (related : LineText → List ℕ → Type 0) where
   pub Run-related : ((a : A) (l : LineText) (t : List ℕ) (b : A) → answers a l t b → related l t) → (s : S) (k : K) (a : A) (s' : S) (k' : K) (a' : A)
-      (r : Result (Unit {0}) LineFault) → Run gives takes answers s k a s' k' a' r → Run gives takes (λ (_ : Unit {0}) l t (_ : Unit {0}). related l t) s k tt s' k' tt r
+      (r : Result (Unit {0}) LineFault) → Run (between gives s s') (between takes k k') (answering answers a a') r → Run (between gives s s') (between takes k k') (answering (λ (_ : Unit {0}) l t (_ : Unit {0}). related l t) tt tt) r
   Run-related step s k a s' k' a' r x = grind (arith, Answers-related)

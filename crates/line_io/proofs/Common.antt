@@ -15,7 +15,7 @@ pub use Rattle.std.specs.Option.{option_map, option_to_list}
 pub use Rattle.std.specs.Prelude.{if◌then◌else◌}
 pub use Rattle.std.specs.Str.Lines.{lines_of_parts, strip_carriage_return}
 pub use Rattle.line_io.specs.Held.{ended_line, ended_within, held, held_after, last_line, with_byte}
-pub use Rattle.line_io.specs.Leads.{Answers, IsPrefixOf, Leads}
+pub use Rattle.line_io.specs.Leads.{Answers, IsPrefixOf, Leads, answering, between}
 pub use Rattle.line_io.specs.Lines.{LineText, TooLong, Whole, line_text, lines_of, up_to_last_end}
 pub use Rattle.line_io.specs.Runs.{FunctionRun, IsOutput, IsProperPrefix, Run, answers_to, bytes_due, write_result}
 pub use Rattle.line_io.specs.Streams.{Ended, Failed, Gave, ReadAnswer, ReadsKnown, Refused, Took, WriteAnswer, WritesKnown}

@@ -1,5 +1,5 @@
 -- Readers whose bytes are known, and writers whose contents are: what reads and writes come to for them.
-use Rattle.line_io.proofs.Common.{◌≡◌, ℕ, List, [], ◌∷◌, ◌++◌, map, sym, ap, ◌∙◌, append_assoc, subst, Option, Some, Result, Ok, Err, arith, append-nil, concat, Keeps, Appends, Consumes, IsAtEnd, WriteFailed, Leads, Gave, Ended, ReadsKnown, WritesKnown, writes_of, FunctionRun}
+use Rattle.line_io.proofs.Common.{◌≡◌, ℕ, List, [], ◌∷◌, ◌++◌, map, sym, ap, ◌∙◌, append_assoc, subst, Option, Some, Result, Ok, Err, arith, append-nil, concat, Keeps, Appends, Consumes, IsAtEnd, WriteFailed, Leads, Gave, Ended, ReadsKnown, WritesKnown, writes_of, FunctionRun, between}
 use Rattle.line_io.proofs.Chains.{Reading, Writing}
 
 -- the reads of a source of which this is left, and the writes to a sink that has these contents
@@ -47,7 +47,7 @@ module _ {K : Type 0} (held : K → Option (List ℕ)) where
 
 -- a run over both that answers by a function
 module _ {S K : Type 0} (left : S → Option (List ℕ)) (holds : K → Option (List ℕ)) {out : List ℕ → List ℕ} {s s' : S} {k k' : K} (bytes held : List ℕ) where
-  pub known-run : left s ≡ Some bytes → holds k ≡ Some held → FunctionRun (reads_of left) (writes_to holds) out s k s' k' (Ok tt) → holds k' ≡ Some (held ++ out bytes)
+  pub known-run : left s ≡ Some bytes → holds k ≡ Some held → FunctionRun (between (reads_of left) s s') (between (writes_to holds) k k') out (Ok tt) → holds k' ≡ Some (held ++ out bytes)
   known-run e f x =
       let reads = subst (λ last. Leads (reads_of left) s (map Gave x.blocks ++ last) s') x.ends x.reads in
       known-write holds k x.pieces k' (Ok tt) held f x.writes ∙ ap (λ z. Some (held ++ z)) (x.written ∙ ap out (known-read left s x.blocks s' bytes e reads))

@@ -1,5 +1,5 @@
 -- Lines of an input that are answered up to one that ends the talk.
-use Rattle.line_io.proofs.Common.{◌≡◌, ◌≢◌, ℕ, ◌+◌, ◌<◌, ◌≤◌, List, [], ◌∷◌, ◌++◌, length, get_or, drop, Bool, true, false, not, ◌&&◌, refl, sym, ap, ◌∙◌, append_assoc, Option, Some, Ok, Err, arith, if◌then◌else◌, append-nil, drop_all, not-true, WriteFailed, LineText, LinesAnswered, with_byte, ended_line, held_after, ended_within, upto, none_ends}
+use Rattle.line_io.proofs.Common.{◌≡◌, ◌≢◌, ℕ, ◌+◌, ◌<◌, ◌≤◌, List, [], ◌∷◌, ◌++◌, length, get_or, drop, Bool, true, false, not, ◌&&◌, refl, sym, ap, ◌∙◌, append_assoc, Option, Some, Ok, Err, arith, if◌then◌else◌, append-nil, drop_all, not-true, WriteFailed, LineText, LinesAnswered, with_byte, ended_line, held_after, ended_within, upto, none_ends, between, answering}
 use Rattle.line_io.proofs.Chains.{Answering, Writing}
 use Rattle.line_io.proofs.Answered.{LinesAnswered-append, LinesAnswered-before, LinesAnswered-same}
 use Rattle.line_io.proofs.Blocks.{BlockSoFar, Block-start, Block-byte, Block-line, Block-held, lf-next}
@@ -34,7 +34,7 @@ module _ (ends : LineText → Bool) where
 
 module _ {ends : LineText → Bool} {K A : Type 0} {takes : Writing K} {answers : Answering A} {k k' : K} {a a' : A}
     {h h' : Option (List ℕ)} {block : List ℕ} {i : ℕ} (s : TalkSoFar ends takes answers k a h block i k' a' h') where
-  pub Talk-end : length block ≤ i → LinesAnswered takes answers k a (upto ends (ended_within h block)) k' a' (Ok tt)
+  pub Talk-end : length block ≤ i → LinesAnswered (between takes k k') (answering answers a a') (upto ends (ended_within h block)) (Ok tt)
       × (none_ends ends (ended_within h block) ≡ true) × (h' ≡ held_after h block)
   Talk-end l = grind (arith, drop_all, upto-append, append-nil, LinesAnswered-same, none-append, Block-held)
 
@@ -54,22 +54,22 @@ module _ {ends : LineText → Bool} {K A : Type 0} {takes : Writing K} {answers 
       due : upto ends (ended_within h block) ≡ s.so_far.lines ++ upto ends (ended_line h' ∷ rest)
       due = ap (upto ends) next ∙ upto-append ends s.so_far.lines (ended_line h' ∷ rest) s.none
 
-      pub Talk-failed : {k'' : K} {a'' : A} {d : WriteFailed} → LinesAnswered takes answers k' a' (ended_line h' ∷ []) k'' a'' (Err d) →
-          LinesAnswered takes answers k a (upto ends (ended_within h block)) k'' a'' (Err d)
+      pub Talk-failed : {k'' : K} {a'' : A} {d : WriteFailed} → LinesAnswered (between takes k' k'') (answering answers a' a'') (ended_line h' ∷ []) (Err d) →
+          LinesAnswered (between takes k k'') (answering answers a a'') (upto ends (ended_within h block)) (Err d)
       Talk-failed x =
           let lines = s.so_far.lines in
           let first = upto-first ends (ended_line h') rest in
           let same = append_assoc lines (ended_line h' ∷ []) first.0 ∙ sym (due ∙ ap (λ (z : List LineText). lines ++ z) first.1) in
           LinesAnswered-same same (LinesAnswered-before first.0 (LinesAnswered-append s.so_far.answered x))
 
-      module _ {k'' : K} {a'' : A} (x : LinesAnswered takes answers k' a' (ended_line h' ∷ []) k'' a'' (Ok tt)) where
+      module _ {k'' : K} {a'' : A} (x : LinesAnswered (between takes k' k'') (answering answers a' a'') (ended_line h' ∷ []) (Ok tt)) where
         pub Talk-line : {h'' : Option (List ℕ)} → ends (ended_line h') ≡ false → h'' ≡ Some [] → TalkSoFar ends takes answers k a h block (i + 1) k'' a'' h''
         Talk-line on n = record {
           so_far = Block-line s.so_far l e refl x n;
           none = none-append ends s.so_far.lines (ended_line h' ∷ []) s.none ∙ ap (λ t. not t && true) on;
         }
 
-        pub Talk-stopped : ends (ended_line h') ≡ true → LinesAnswered takes answers k a (upto ends (ended_within h block)) k'' a'' (Ok tt)
+        pub Talk-stopped : ends (ended_line h') ≡ true → LinesAnswered (between takes k k'') (answering answers a a'') (upto ends (ended_within h block)) (Ok tt)
             × (none_ends ends (ended_within h block) ≡ false)
         Talk-stopped off =
             let lines = s.so_far.lines in

@@ -1,5 +1,5 @@
 -- A whole talk: lines of an input and their answers, up to a line that ends it, the end or a fault.
-use Rattle.line_io.proofs.Common.{◌≡◌, ℕ, ◌+◌, List, [], ◌∷◌, ◌++◌, length, Bool, true, false, true≢false, not, ◌&&◌, refl, sym, ap, ◌∙◌, Option, Some, Ok, Err, inl, map, arith, if◌then◌else◌, append-nil, concat, option_to_list, WriteFailed, Read, Write, TalkEnd, Line as by_line, LineText, lines_of, IsPrefixOf, Gave, Ended, Failed, LinesAnswered, held_after, ended_within, last_line, Talk, IsTalkEnd, upto, none_ends, end_of}
+use Rattle.line_io.proofs.Common.{◌≡◌, ℕ, ◌+◌, List, [], ◌∷◌, ◌++◌, length, Bool, true, false, true≢false, not, ◌&&◌, refl, sym, ap, ◌∙◌, Option, Some, Ok, Err, inl, map, arith, if◌then◌else◌, append-nil, concat, option_to_list, WriteFailed, Read, Write, TalkEnd, Line as by_line, LineText, lines_of, IsPrefixOf, Gave, Ended, Failed, LinesAnswered, held_after, ended_within, last_line, Talk, IsTalkEnd, upto, none_ends, end_of, between, answering}
 use Rattle.line_io.proofs.Chains.{Answering, Reading, Writing, Leads-more}
 use Rattle.line_io.proofs.Answered.{LinesAnswered-append, LinesAnswered-before, LinesAnswered-same}
 use Rattle.line_io.proofs.Streamed.{ended_within-all}
@@ -71,13 +71,13 @@ module _ {ends : LineText → Bool} {S K A : Type 0} {gives : Reading S} {takes 
   more block = ended_within h block
 
   -- a read failed
-  pub Talk-read-failed : {s'' : S} → gives s' Failed s'' → Talk gives takes answers ends s k a s'' k' a' (Err Read)
+  pub Talk-read-failed : {s'' : S} → gives s' Failed s'' → Talk (between gives s s'') (between takes k k') (answering answers a a') ends (Err Read)
   Talk-read-failed r = grind (arith, ended_within-all, Leads-more, LinesAnswered-same, upto-none)
 
   module _ {block : List ℕ} {s'' : S} {k'' : K} {a'' : A} (r : gives s' (Gave block) s'') where
     -- a line of a block ended the talk
-    pub Talk-stopped : LinesAnswered takes answers k' a' (upto ends (more block)) k'' a'' (Ok tt) → none_ends ends (more block) ≡ false →
-        Talk gives takes answers ends s k a s'' k'' a'' (Ok by_line)
+    pub Talk-stopped : LinesAnswered (between takes k' k'') (answering answers a' a'') (upto ends (more block)) (Ok tt) → none_ends ends (more block) ≡ false →
+        Talk (between gives s s'') (between takes k k'') (answering answers a a'') ends (Ok by_line)
     Talk-stopped y some =
         let last = last_after blocks h x.so_far.held block in
         let stops : none_ends ends (ended ++ more block) ≡ false = none-append ends ended (more block) x.none ∙ some in
@@ -92,8 +92,8 @@ module _ {ends : LineText → Bool} {S K A : Type 0} {gives : Reading S} {takes 
         }
 
     -- an answer within a block wasn't written
-    pub Talk-write-failed : {d : WriteFailed} → LinesAnswered takes answers k' a' (upto ends (more block)) k'' a'' (Err d) →
-        Talk gives takes answers ends s k a s'' k'' a'' (Err Write)
+    pub Talk-write-failed : {d : WriteFailed} → LinesAnswered (between takes k' k'') (answering answers a' a'') (upto ends (more block)) (Err d) →
+        Talk (between gives s s'') (between takes k k'') (answering answers a a'') ends (Err Write)
     Talk-write-failed y =
         let first = upto-first_of ends (ended ++ more block) (last_after blocks h x.so_far.held block) in
         let all = first.1 ∙ ap (upto ends) (all-lines blocks h x.so_far.held block) in
@@ -101,7 +101,7 @@ module _ {ends : LineText → Bool} {S K A : Type 0} {gives : Reading S} {takes 
         let lines = LinesAnswered-same due (LinesAnswered-before first.0 (LinesAnswered-append x.so_far.lines y)) in
         record { blocks = blocks ++ block ∷ []; last = []; reads = block-reads gives blocks block s s' s'' x.so_far.reads r; ending = inl refl; lines = lines }
 
-    pub Talking-more : {h' : Option (List ℕ)} → LinesAnswered takes answers k' a' (upto ends (more block)) k'' a'' (Ok tt) → none_ends ends (more block) ≡ true →
+    pub Talking-more : {h' : Option (List ℕ)} → LinesAnswered (between takes k' k'') (answering answers a' a'') (upto ends (more block)) (Ok tt) → none_ends ends (more block) ≡ true →
         h' ≡ held_after h block → TalkingSoFar ends gives takes answers s k a s'' k'' a'' h'
     Talking-more y none e =
         record {
@@ -112,8 +112,8 @@ module _ {ends : LineText → Bool} {S K A : Type 0} {gives : Reading S} {takes 
 
   module _ {s'' : S} {k'' : K} {a'' : A} (r : gives s' Ended s'') where
     -- the end of the input, and the last line answered
-    pub Talk-ended : {end : TalkEnd} → LinesAnswered takes answers k' a' (option_to_list (last_line h)) k'' a'' (Ok tt) →
-        end ≡ end_of (none_ends ends (option_to_list (last_line h))) → Talk gives takes answers ends s k a s'' k'' a'' (Ok end)
+    pub Talk-ended : {end : TalkEnd} → LinesAnswered (between takes k' k'') (answering answers a' a'') (option_to_list (last_line h)) (Ok tt) →
+        end ≡ end_of (none_ends ends (option_to_list (last_line h))) → Talk (between gives s s'') (between takes k k'') (answering answers a a'') ends (Ok end)
     Talk-ended {end} y e =
         let last = option_to_list (last_line h) in
         let none = ap (none_ends ends) (sym (last-lines blocks h x.so_far.held)) ∙ none-append ends ended last x.none in
@@ -122,7 +122,7 @@ module _ {ends : LineText → Bool} {S K A : Type 0} {gives : Reading S} {takes 
         record { blocks = blocks; last = Ended ∷ []; reads = Leads-more gives s (map Gave blocks) s' Ended s'' x.so_far.reads r; ending = ending; lines = lines }
 
     -- the end of the input, and the answer to the last line not written
-    pub Talk-last-failed : {d : WriteFailed} → LinesAnswered takes answers k' a' (option_to_list (last_line h)) k'' a'' (Err d) →
-        Talk gives takes answers ends s k a s'' k'' a'' (Err Write)
+    pub Talk-last-failed : {d : WriteFailed} → LinesAnswered (between takes k' k'') (answering answers a' a'') (option_to_list (last_line h)) (Err d) →
+        Talk (between gives s s'') (between takes k k'') (answering answers a a'') ends (Err Write)
     Talk-last-failed y =
         let lines = LinesAnswered-same (last-due ends blocks h x.so_far.held x.none) (LinesAnswered-append x.so_far.lines y) in grind (arith, Leads-more)

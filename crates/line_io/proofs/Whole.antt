@@ -1,5 +1,5 @@
 -- A whole input: the lines of all its blocks, and their answers.
-use Rattle.line_io.proofs.Common.{◌≡◌, ◌≢◌, ℕ, ◌+◌, ◌≤◌, ◌^◌, List, [], ◌∷◌, ◌++◌, length, map, take, cond, eqb, refl, sym, ap, ◌∙◌, subst, arith, Option, Some, inl, Ok, Err, length-append, append-nil, map-append, length-take, concat, option_to_list, WriteFailed, Read, Write, TooMuch, LineText, lines_of, Leads, Gave, Ended, Failed, LinesAnswered, held_after, ended_within, last_line, Run}
+use Rattle.line_io.proofs.Common.{◌≡◌, ◌≢◌, ℕ, ◌+◌, ◌≤◌, ◌^◌, List, [], ◌∷◌, ◌++◌, length, map, take, cond, eqb, refl, sym, ap, ◌∙◌, subst, arith, Option, Some, inl, Ok, Err, length-append, append-nil, map-append, length-take, concat, option_to_list, WriteFailed, Read, Write, TooMuch, LineText, lines_of, Leads, Gave, Ended, Failed, LinesAnswered, held_after, ended_within, last_line, Run, between, answering}
 use Rattle.line_io.proofs.Chains.{Answering, Reading, Writing, Leads-more, concat-more}
 use Rattle.line_io.proofs.Answered.{LinesAnswered-none, LinesAnswered-append, LinesAnswered-before, LinesAnswered-same}
 use Rattle.line_io.proofs.Streamed.{ended_within-all, lines_of-all, held_after-append, ended_within-append}
@@ -49,7 +49,7 @@ module _ {S K A : Type 0} (gives : Reading S) (takes : Writing K) (answers : Ans
     pub blocks : List (List ℕ)
     pub reads : Leads gives s (map Gave blocks) s'
     pub count : total ≡ length (concat blocks)
-    pub lines : LinesAnswered takes answers k a (ended_within (Some []) (concat blocks)) k' a' (Ok tt)
+    pub lines : LinesAnswered (between takes k k') (answering answers a a') (ended_within (Some []) (concat blocks)) (Ok tt)
     pub held : h ≡ held_after (Some []) (concat blocks)
 
   abbrev pub Run-start : (h : Option (List ℕ)) → h ≡ Some [] → RunSoFar 0 s k a h
@@ -58,26 +58,26 @@ module _ {S K A : Type 0} (gives : Reading S) (takes : Writing K) (answers : Ans
 module _ {S K A : Type 0} {gives : Reading S} {takes : Writing K} {answers : Answering A} {s s' : S} {k k' : K} {a a' : A} {total : ℕ} {h : Option (List ℕ)}
     (x : RunSoFar gives takes answers s k a total s' k' a' h) where
   -- a read failed
-  pub Run-read-failed : {s'' : S} → gives s' Failed s'' → Run gives takes answers s k a s'' k' a' (Err Read)
+  pub Run-read-failed : {s'' : S} → gives s' Failed s'' → Run (between gives s s'') (between takes k k') (answering answers a a') (Err Read)
   Run-read-failed r = grind (arith, Leads-more, LinesAnswered-same, ended_within-all)
 
   -- too many bytes were read
-  pub Run-too_much : 2 ^ 62 ≤ total → Run gives takes answers s k a s' k' a' (Err TooMuch)
+  pub Run-too_much : 2 ^ 62 ≤ total → Run (between gives s s') (between takes k k') (answering answers a a') (Err TooMuch)
   Run-too_much l = grind (arith, append-nil, LinesAnswered-same, ended_within-all)
 
   module _ {s'' : S} {k'' : K} {a'' : A} (r : gives s' Ended s'') where
     -- the end of the input, and the last line answered
-    pub Run-ended : LinesAnswered takes answers k' a' (option_to_list (last_line h)) k'' a'' (Ok tt) → Run gives takes answers s k a s'' k'' a'' (Ok tt)
+    pub Run-ended : LinesAnswered (between takes k' k'') (answering answers a' a'') (option_to_list (last_line h)) (Ok tt) → Run (between gives s s'') (between takes k k'') (answering answers a a'') (Ok tt)
     Run-ended y = let lines = LinesAnswered-same (last-lines x.blocks h x.held) (LinesAnswered-append x.lines y) in grind (arith, Leads-more)
 
     -- the end of the input, and the answer to the last line not written
-    pub Run-last-failed : {e : WriteFailed} → LinesAnswered takes answers k' a' (option_to_list (last_line h)) k'' a'' (Err e) →
-        Run gives takes answers s k a s'' k'' a'' (Err Write)
+    pub Run-last-failed : {e : WriteFailed} → LinesAnswered (between takes k' k'') (answering answers a' a'') (option_to_list (last_line h)) (Err e) →
+        Run (between gives s s'') (between takes k k'') (answering answers a a'') (Err Write)
     Run-last-failed y = let lines = LinesAnswered-same (last-lines x.blocks h x.held) (LinesAnswered-append x.lines y) in grind (arith, Leads-more)
 
   module _ {block : List ℕ} {s'' : S} {k'' : K} {a'' : A} (r : gives s' (Gave block) s'') where
     -- one more block
-    abbrev pub Run-more : {count : ℕ} {h' : Option (List ℕ)} → count ≡ length block → LinesAnswered takes answers k' a' (ended_within h block) k'' a'' (Ok tt) →
+    abbrev pub Run-more : {count : ℕ} {h' : Option (List ℕ)} → count ≡ length block → LinesAnswered (between takes k' k'') (answering answers a' a'') (ended_within h block) (Ok tt) →
         h' ≡ held_after h block → RunSoFar gives takes answers s k a (total + count) s'' k'' a'' h'
     Run-more n y e =
         let more = sym (held_after-append (Some []) (concat x.blocks) block) ∙ ap (held_after (Some [])) (sym (concat-more x.blocks block)) in
@@ -90,8 +90,8 @@ module _ {S K A : Type 0} {gives : Reading S} {takes : Writing K} {answers : Ans
         }
 
     -- an answer within a block not written
-    pub Run-write-failed : {e : WriteFailed} → LinesAnswered takes answers k' a' (ended_within h block) k'' a'' (Err e) →
-        Run gives takes answers s k a s'' k'' a'' (Err Write)
+    pub Run-write-failed : {e : WriteFailed} → LinesAnswered (between takes k' k'') (answering answers a' a'') (ended_within h block) (Err e) →
+        Run (between gives s s'') (between takes k k'') (answering answers a a'') (Err Write)
     Run-write-failed y =
         let lines = LinesAnswered-same (all-lines x.blocks h x.held block) (LinesAnswered-before _ (LinesAnswered-append x.lines y)) in
         record { blocks = x.blocks ++ block ∷ []; last = []; reads = block-reads gives x.blocks block s s' s'' x.reads r; ends = inl refl; lines = lines }

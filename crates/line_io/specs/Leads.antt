@@ -3,6 +3,26 @@
 use Rattle.std.specs.Prelude.{◌≡◌, ℕ, List, [], ◌∷◌, ◌++◌}
 use Rattle.line_io.specs.Lines.{LineText}
 
+-- a source's reads, a sink's writes or an office's calls between two of its states: what one step is, and both states
+pub record Passage (S E : Type 0) : Type 1 where
+  pub step : S → E → S → Type 0
+  pub from : S
+  pub to : S
+
+-- what passes by these steps from the first state to the last
+abbrev pub between : {S E : Type 0} → (S → E → S → Type 0) → S → S → Passage S E
+between step from to = record { step = step; from = from; to = to }
+
+-- an answerer's answers between two of its states: what one answer to a line is, and both states
+pub record AnswerPassage (A : Type 0) : Type 1 where
+  pub step : A → LineText → List ℕ → A → Type 0
+  pub from : A
+  pub to : A
+
+-- what is answered by these steps from the first state to the last
+abbrev pub answering : {A : Type 0} → (A → LineText → List ℕ → A → Type 0) → A → A → AnswerPassage A
+answering step from to = record { step = step; from = from; to = to }
+
 -- these events, in order, lead from the first state to the last: each is one step of the relation
 abbrev pub Leads : {S E : Type 0} → (S → E → S → Type 0) → S → List E → S → Type 0
 Leads steps from [] to = from ≡ to

@@ -5,7 +5,7 @@ use Rattle.line_io.specs.declared.faults.LineFault.{LineFault}
 use Rattle.line_io.specs.declared.faults.LineFault.TheVariants.{Read, Write, TooMuch}
 use Rattle.line_io.specs.declared.faults.WriteFailed.{WriteFailed}
 use Rattle.line_io.specs.Lines.{LineText, lines_of, up_to_last_end}
-use Rattle.line_io.specs.Leads.{Leads}
+use Rattle.line_io.specs.Leads.{Leads, Passage, AnswerPassage}
 use Rattle.line_io.specs.Streams.{ReadAnswer, Gave, Ended, Failed, WriteAnswer}
 use Rattle.line_io.specs.Writes.{LinesAnswered, with_newline, writes_of}
 
@@ -32,12 +32,12 @@ IsEnding (Err Write) bytes last = (last ≡ []) ⊎ (last ≡ Ended ∷ [])
 IsEnding (Err TooMuch) bytes last = (last ≡ []) × (2 ^ 62 ≤ length bytes)
 
 -- a whole run: blocks were read, and the lines in them that were due (`bytes_due`) were answered
-pub record Run {S K A : Type 0} (gives : S → ReadAnswer → S → Type 0) (takes : K → WriteAnswer → K → Type 0) (answers : A → LineText → List ℕ → A → Type 0) (source : S) (sink : K) (answerer : A) (source' : S) (sink' : K) (answerer' : A) (r : Result (Unit {0}) LineFault) : Type 0 where
+pub record Run {S K A : Type 0} (reading : Passage S ReadAnswer) (writing : Passage K WriteAnswer) (answered : AnswerPassage A) (r : Result (Unit {0}) LineFault) : Type 0 where
   pub blocks : List (List ℕ)
   pub last : List ReadAnswer
-  pub reads : Leads gives source (map Gave blocks ++ last) source'
+  pub reads : Leads reading.step reading.from (map Gave blocks ++ last) reading.to
   pub ends : IsEnding r (concat blocks) last
-  pub lines : LinesAnswered takes answers sink answerer (lines_of (bytes_due r (concat blocks))) sink' answerer' (write_result r)
+  pub lines : LinesAnswered writing answered (lines_of (bytes_due r (concat blocks))) (write_result r)
 
 -- what is written for these lines where each is answered by this function: each answer, followed by LF
 abbrev pub answers_to : (LineText → List ℕ) → List LineText → List ℕ
@@ -54,11 +54,11 @@ IsOutput (Err _) written due = IsProperPrefix written due
 
 -- a run that answers by a function, as its reads and writes tell it: blocks were read and pieces written, and the
 -- pieces together are what `out` gives for the bytes whose lines are due (`bytes_due`), at fault 2 a beginning of that
-pub record FunctionRun {S K : Type 0} (gives : S → ReadAnswer → S → Type 0) (takes : K → WriteAnswer → K → Type 0) (out : List ℕ → List ℕ) (source : S) (sink : K) (source' : S) (sink' : K) (r : Result (Unit {0}) LineFault) : Type 0 where
+pub record FunctionRun {S K : Type 0} (reading : Passage S ReadAnswer) (writing : Passage K WriteAnswer) (out : List ℕ → List ℕ) (r : Result (Unit {0}) LineFault) : Type 0 where
   pub blocks : List (List ℕ)
   pub last : List ReadAnswer
   pub pieces : List (List ℕ)
-  pub reads : Leads gives source (map Gave blocks ++ last) source'
+  pub reads : Leads reading.step reading.from (map Gave blocks ++ last) reading.to
   pub ends : IsEnding r (concat blocks) last
-  pub writes : Leads takes sink (writes_of pieces (write_result r)) sink'
+  pub writes : Leads writing.step writing.from (writes_of pieces (write_result r)) writing.to
   pub written : IsOutput (write_result r) (concat pieces) (out (bytes_due r (concat blocks)))

@@ -7,7 +7,7 @@ use Rattle.line_io.specs.declared.faults.WriteFailed.{WriteFailed}
 use Rattle.line_io.specs.declared.talking.TalkEnd.{TalkEnd}
 use Rattle.line_io.specs.declared.talking.TalkEnd.TheVariants.{Line as by_line, Input as by_input}
 use Rattle.line_io.specs.Lines.{LineText, lines_of, up_to_last_end}
-use Rattle.line_io.specs.Leads.{Leads}
+use Rattle.line_io.specs.Leads.{Leads, Passage, AnswerPassage}
 use Rattle.line_io.specs.Streams.{ReadAnswer, Gave, Ended, Failed, WriteAnswer}
 use Rattle.line_io.specs.Writes.{LinesAnswered}
 use Rattle.line_io.specs.Runs.{bytes_due, write_result}
@@ -45,9 +45,9 @@ IsTalkEnd ends (Err Write) bytes last = (last ≡ []) ⊎ (last ≡ Ended ∷ []
 IsTalkEnd ends (Err TooMuch) bytes last = ⊥
 
 -- a whole talk: blocks were read, and the lines in them were answered, up to and including the one that ends the talk
-pub record Talk {S K A : Type 0} (gives : S → ReadAnswer → S → Type 0) (takes : K → WriteAnswer → K → Type 0) (answers : A → LineText → List ℕ → A → Type 0) (ends : LineText → Bool) (source : S) (sink : K) (answerer : A) (source' : S) (sink' : K) (answerer' : A) (r : Result TalkEnd LineFault) : Type 0 where
+pub record Talk {S K A : Type 0} (reading : Passage S ReadAnswer) (writing : Passage K WriteAnswer) (answered : AnswerPassage A) (ends : LineText → Bool) (r : Result TalkEnd LineFault) : Type 0 where
   pub blocks : List (List ℕ)
   pub last : List ReadAnswer
-  pub reads : Leads gives source (map Gave blocks ++ last) source'
+  pub reads : Leads reading.step reading.from (map Gave blocks ++ last) reading.to
   pub ending : IsTalkEnd ends r (concat blocks) last
-  pub lines : LinesAnswered takes answers sink answerer (upto ends (lines_of (bytes_due r (concat blocks)))) sink' answerer' (write_result r)
+  pub lines : LinesAnswered writing answered (upto ends (lines_of (bytes_due r (concat blocks)))) (write_result r)

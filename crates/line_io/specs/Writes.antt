@@ -3,7 +3,7 @@ use Rattle.std.specs.Prelude.{◌≡◌, ℕ, ◌<◌, List, [], ◌∷◌, ◌+
 use Rattle.std.specs.List.{concat, flat_map}
 use Rattle.line_io.specs.declared.faults.WriteFailed.{WriteFailed}
 use Rattle.line_io.specs.Lines.{LineText}
-use Rattle.line_io.specs.Leads.{Leads, Answers, IsPrefixOf}
+use Rattle.line_io.specs.Leads.{Leads, Answers, IsPrefixOf, Passage, AnswerPassage}
 use Rattle.line_io.specs.Streams.{WriteAnswer, Took, Refused}
 
 -- a text followed by LF (byte 10)
@@ -51,12 +51,12 @@ IsAnswered (Err _) lines answered texts rest = IsPrefixOf answered lines × IsCu
 
 -- lines were answered, from the first on, by these texts, which were written with an LF each in these pieces, up to a
 -- rest: at Ok all lines and no rest, at an error some of the lines and a rest of the last answer
-pub record LinesAnswered {K A : Type 0} (takes : K → WriteAnswer → K → Type 0) (answers : A → LineText → List ℕ → A → Type 0) (sink : K) (answerer : A) (lines : List LineText) (sink' : K) (answerer' : A) (r : Result (Unit {0}) WriteFailed) : Type 0 where
+pub record LinesAnswered {K A : Type 0} (writing : Passage K WriteAnswer) (answers : AnswerPassage A) (lines : List LineText) (r : Result (Unit {0}) WriteFailed) : Type 0 where
   pub answered : List LineText
   pub texts : List (List ℕ)
   pub pieces : List (List ℕ)
   pub rest : List ℕ
-  pub answers_lead : Answers answers answerer answered texts answerer'
-  pub writes : Leads takes sink (writes_of pieces r) sink'
+  pub answers_lead : Answers answers.step answers.from answered texts answers.to
+  pub writes : Leads writing.step writing.from (writes_of pieces r) writing.to
   pub taken : concat pieces ++ rest ≡ written_texts texts
   pub ends : IsAnswered r lines answered texts rest

@@ -1,6 +1,7 @@
 //! Answering each line of an input as soon as it is complete.
 ghost use Rattle.std.specs.Prelude.{◌≡◌, ℕ, List, [], ◌∷◌, OnOk};
 ghost use Rattle.std.specs.Option.{option_to_list};
+ghost use Rattle.line_io.specs.Leads.{between, answering};
 ghost use Rattle.line_io.specs.Lines.{LineText};
 ghost use Rattle.line_io.specs.Held.{held_after, ended_within, last_line};
 ghost use Rattle.line_io.specs.Views.{text_of};
@@ -42,7 +43,7 @@ pub(crate) fn answer_line<K: Sink, A: LineAnswerer>(
     answerer: &mut A,
     line: Line<'_>,
 ) -> Result<(), WriteFailed>
-    ensures { LinesAnswered K.takes A.answers sink.old answerer.old (text_of line.entry ∷ []) sink.new answerer.new result }
+    ensures { LinesAnswered (between K.takes sink.old sink.new) (answering A.answers answerer.old answerer.new) (text_of line.entry ∷ []) result }
 {
     answerer.answer(line);
     write_text(sink, answerer.text())
@@ -55,7 +56,7 @@ fn answer_block<K: Sink, A: LineAnswerer>(
     cutter: &mut LineCutter,
     block: &[u8],
 ) -> Result<(), WriteFailed>
-    ensures lines { LinesAnswered K.takes A.answers sink.old answerer.old (ended_within cutter.old block.now) sink.new answerer.new result }
+    ensures lines { LinesAnswered (between K.takes sink.old sink.new) (answering A.answers answerer.old answerer.new) (ended_within cutter.old block.now) result }
     ensures cutter { OnOk result (cutter.new ≡ held_after cutter.old block.now) }
 {
     for byte in block {
@@ -75,7 +76,7 @@ pub(crate) fn answer_last<K: Sink, A: LineAnswerer>(
     answerer: &mut A,
     cutter: &LineCutter,
 ) -> Result<(), WriteFailed>
-    ensures { LinesAnswered K.takes A.answers sink.old answerer.old (option_to_list (last_line cutter.now)) sink.new answerer.new result }
+    ensures { LinesAnswered (between K.takes sink.old sink.new) (answering A.answers answerer.old answerer.new) (option_to_list (last_line cutter.now)) result }
 {
     match cutter.last() {
         Some(line) => answer_line(sink, answerer, line),
@@ -94,7 +95,7 @@ pub fn answer_lines<S: Source, K: Sink, A: LineAnswerer>(
     sink: &mut K,
     answerer: &mut A,
 ) -> Result<(), LineFault>
-    ensures { Run S.gives K.takes A.answers source.old sink.old answerer.old source.new sink.new answerer.new result }
+    ensures { Run (between S.gives source.old source.new) (between K.takes sink.old sink.new) (answering A.answers answerer.old answerer.new) result }
 {
     let mut block = [0u8; BLOCK_BYTES];
     let mut cutter = LineCutter::new();

@@ -4,7 +4,7 @@ ghost use Rattle.std.specs.List.{concat};
 ghost use Rattle.line_io.specs.declared.faults.WriteFailed.{WriteFailed};
 ghost use Rattle.line_io.specs.declared.input.FromReader.{FromReader};
 ghost use Rattle.line_io.specs.declared.output.FromWriter.{FromWriter};
-ghost use Rattle.line_io.specs.Leads.{Leads};
+ghost use Rattle.line_io.specs.Leads.{Leads, between, answering};
 ghost use Rattle.line_io.specs.Streams.{Gave, Ended};
 ghost use Rattle.line_io.specs.Writes.{writes_of};
 ghost use Rattle.line_io.specs.declared.faults.LineFault.{LineFault};
@@ -22,8 +22,8 @@ pub fn run_by_function<S: Source, K: Sink, A: LineAnswerer>()
     ensures { (answer : LineText → List ℕ)
         → ((a : A) (line : LineText) (text : List ℕ) (b : A) → A.answers a line text b → text ≡ answer line)
         → (source source' : S) (sink sink' : K) (answerer answerer' : A) (r : Result (Unit {0}) LineFault)
-        → Run S.gives K.takes A.answers source sink answerer source' sink' answerer' r
-        → FunctionRun S.gives K.takes (λ bytes. answers_to answer (lines_of bytes)) source sink source' sink' r }
+        → Run (between S.gives source source') (between K.takes sink sink') (answering A.answers answerer answerer') r
+        → FunctionRun (between S.gives source source') (between K.takes sink sink') (λ bytes. answers_to answer (lines_of bytes)) r }
 {}
 
 /// Where the bytes that a reader has left are known, its reads up to the end give all of them.
@@ -48,6 +48,6 @@ pub fn known_runs_are_exact<R: Read, W: Write>()
     ensures { (out : List ℕ → List ℕ) (source source' : FromReader R) (sink sink' : FromWriter W) (bytes held : List ℕ)
         → R.remaining source.reader ≡ Some bytes
         → W.contents sink.writer ≡ Some held
-        → FunctionRun ⟦<FromReader<R> as Source>⟧.gives ⟦<FromWriter<W> as Sink>⟧.takes out source sink source' sink' (Ok tt)
+        → FunctionRun (between ⟦<FromReader<R> as Source>⟧.gives source source') (between ⟦<FromWriter<W> as Sink>⟧.takes sink sink') out (Ok tt)
         → W.contents sink'.writer ≡ Some (held ++ out bytes) }
 {}

@@ -1,6 +1,7 @@
 //! Answering the lines of an input until one of them ends the talk.
 ghost use Rattle.std.specs.Prelude.{◌≡◌, [], ◌∷◌, Some, Ok, Bool, false, not, IfOk, OnOk};
 ghost use Rattle.std.specs.Option.{option_to_list};
+ghost use Rattle.line_io.specs.Leads.{between, answering};
 ghost use Rattle.line_io.specs.Lines.{LineText};
 ghost use Rattle.line_io.specs.Held.{held_after, ended_within, ended_line, last_line};
 ghost use Rattle.line_io.specs.Views.{text_of};
@@ -39,7 +40,7 @@ fn talk_line<K: Sink, A: LineAnswerer + Ends>(
     answerer: &mut A,
     cutter: &mut LineCutter,
 ) -> Result<bool, WriteFailed>
-    ensures lines { LinesAnswered K.takes A.answers sink.old answerer.old (ended_line cutter.old ∷ []) sink.new answerer.new (written result) }
+    ensures lines { LinesAnswered (between K.takes sink.old sink.new) (answering A.answers answerer.old answerer.new) (ended_line cutter.old ∷ []) (written result) }
     ensures last { IfOk result (λ last. last ≡ A.ends (ended_line cutter.old)) }
     ensures cutter { OnOk result (cutter.new ≡ Some []) }
 {
@@ -56,7 +57,7 @@ fn talk_block<K: Sink, A: LineAnswerer + Ends>(
     cutter: &mut LineCutter,
     block: &[u8],
 ) -> Result<bool, WriteFailed>
-    ensures lines { LinesAnswered K.takes A.answers sink.old answerer.old (upto A.ends (ended_within cutter.old block.now)) sink.new answerer.new (written result) }
+    ensures lines { LinesAnswered (between K.takes sink.old sink.new) (answering A.answers answerer.old answerer.new) (upto A.ends (ended_within cutter.old block.now)) (written result) }
     ensures ended { IfOk result (λ last. last ≡ not (none_ends A.ends (ended_within cutter.old block.now))) }
     ensures cutter { result ≡ Ok false → cutter.new ≡ held_after cutter.old block.now }
 {
@@ -78,7 +79,7 @@ fn talk_last<K: Sink, A: LineAnswerer + Ends>(
     answerer: &mut A,
     cutter: &LineCutter,
 ) -> Result<TalkEnd, WriteFailed>
-    ensures lines { LinesAnswered K.takes A.answers sink.old answerer.old (option_to_list (last_line cutter.now)) sink.new answerer.new (written result) }
+    ensures lines { LinesAnswered (between K.takes sink.old sink.new) (answering A.answers answerer.old answerer.new) (option_to_list (last_line cutter.now)) (written result) }
     ensures end { IfOk result (λ end. end ≡ end_of (none_ends A.ends (option_to_list (last_line cutter.now)))) }
 {
     match cutter.last() {
@@ -104,7 +105,7 @@ pub fn talk_lines<S: Source, K: Sink, A: LineAnswerer + Ends, R: Wait>(
     sink: &mut K,
     answerer: &mut A,
 ) -> Result<TalkEnd, LineFault>
-    ensures { Talk S.gives K.takes A.answers A.ends source.old sink.old answerer.old source.new sink.new answerer.new result }
+    ensures { Talk (between S.gives source.old source.new) (between K.takes sink.old sink.new) (answering A.answers answerer.old answerer.new) A.ends result }
 {
     let mut block = [0u8; BLOCK_BYTES];
     let mut cutter = LineCutter::new();

@@ -19,7 +19,7 @@ pub use Rattle.jamboree_rules.specs.Frames.{opp_word, own_word}
 pub use Rattle.jamboree_rules.specs.Places.{frame_size, root_words}
 pub use Rattle.jamboree_rules.specs.Procedure.{jamboree}
 pub use Rattle.jamboree_rules.specs.declared.leaf.Leaf.{Leaf}
-pub use Rattle.line_io.specs.Leads.{Leads}
+pub use Rattle.line_io.specs.Leads.{Leads, between}
 pub use Rattle.line_io.specs.Lines.{LineText, Whole, lines_of}
 pub use Rattle.line_io.specs.Runs.{IsEnding, IsOutput, bytes_due, write_result}
 pub use Rattle.line_io.specs.Streams.{Ended, Failed, Gave, ReadAnswer, WriteAnswer}
@@ -57,7 +57,7 @@ pub use Rattle.sched_rules.specs.declared.step.StepOf.TheVariants.{Admit, AdmitM
 pub use Rattle.session.specs.Asks.{Asked, asked_at}
 pub use Rattle.session.specs.Calls.{Ask, AskQuota, Call, Gone, Hello, Job, Leave, OfficeReply, Refused, Reserve, Reserved, Rest, Told, Wait, Welcome}
 pub use Rattle.session.specs.DoneLines.{EachDoneIsTrue, IsTrueAnalysis, IsTrueDone, TrueSession, asks_of_lines, with_request}
-pub use Rattle.session.specs.Forms.{is_bye}
+pub use Rattle.session.specs.Requests.{is_bye}
 pub use Rattle.session.specs.Requests.{Makes, Request, Tabulates, request}
 pub use Rattle.session.specs.Sessions.{IsAnsweredOf, IsWrittenOf, session_lines, talk_result, texts_for}
 pub use Rattle.session.specs.Turns.{LineTurn, Made, Tabulated, entries_text, later_replies, next_reply, pair_text, seated_after, turn_text, turns}

@@ -1,5 +1,5 @@
 -- For the uses of the promises: what a session's lines come to, where the third tells of a job.
-use Rattle.promise_uses.proofs.Common.{◌≡◌, ℕ, List, [], ◌∷◌, ◌++◌, map, codes, decimal, true, false, Some, Result, Ok, Err, refl, sym, ap, subst, ◌∙◌, arith, nat_tests, concat, Cell, minimax, best_choice, IsTable, Side, value_text, Leads, LineText, Whole, ReadAnswer, WriteAnswer, Gave, Ended, Failed, bytes_due, write_result, IsTalkEnd, IsCutShort, writes_of, written_texts, End, EndOfInput, SessionFault, Read, Write, Analysis, Done, Asked, asked_at, Call, Hello, Ask, Wait, OfficeReply, Welcome, Job, Told, EachDoneIsTrue, IsTrueAnalysis, IsTrueDone, TrueSession, asks_of_lines, with_request, is_bye, Request, Makes, Tabulates, request, session_lines, talk_result, texts_for, IsAnsweredOf, IsWrittenOf, LineTurn, Made, Tabulated, turns, turn_text, next_reply, later_replies, seated_after, entries_text, pair_text}
+use Rattle.promise_uses.proofs.Common.{◌≡◌, ℕ, List, [], ◌∷◌, ◌++◌, map, codes, decimal, true, false, Some, Result, Ok, Err, refl, sym, ap, subst, ◌∙◌, arith, nat_tests, concat, Cell, minimax, best_choice, IsTable, Side, value_text, Leads, LineText, Whole, ReadAnswer, WriteAnswer, Gave, Ended, Failed, bytes_due, write_result, IsTalkEnd, IsCutShort, writes_of, written_texts, End, EndOfInput, SessionFault, Read, Write, Analysis, Done, Asked, asked_at, Call, Hello, Ask, Wait, OfficeReply, Welcome, Job, Told, EachDoneIsTrue, IsTrueAnalysis, IsTrueDone, TrueSession, asks_of_lines, with_request, is_bye, Request, Makes, Tabulates, request, session_lines, talk_result, texts_for, IsAnsweredOf, IsWrittenOf, LineTurn, Made, Tabulated, turns, turn_text, next_reply, later_replies, seated_after, entries_text, pair_text, between}
 
 module _ (written : List ℕ) (texts : List (List ℕ)) where
   ended : (r : Result End SessionFault) (bytes : List ℕ) (last : List ReadAnswer) (answered : List LineText) → IsTalkEnd is_bye (talk_result r) bytes last →
@@ -127,7 +127,7 @@ ServesThird gives takes source sink source' sink' r = (blocks : List (List ℕ))
     replies ≡ replies_of number job analysis → SaysThird third depth board number job analysis (texts_for lines replies))
 
 pub serves-third : {S K : Type 0} (gives : S → ReadAnswer → S → Type 0) (takes : K → WriteAnswer → K → Type 0) (source : S) (sink : K) (source' : S) (sink' : K)
-    (r : Result End SessionFault) → TrueSession gives takes source sink source' sink' r → ServesThird gives takes source sink source' sink' r
+    (r : Result End SessionFault) → TrueSession (between gives source source') (between takes sink sink') r → ServesThird gives takes source sink source' sink' r
 serves-third gives takes source sink source' sink' r is =
     let s = is.session in
     let texts = texts_for s.answered s.replies in (

@@ -1,5 +1,5 @@
 -- For the use of the promise on `solve`: what `SolvedRun` comes to, where three lines are answered.
-use Rattle.promise_uses.proofs.Common.{◌≡◌, ◌⊎◌, inl, inr, ℕ, ◌<◌, Bool, true, false, List, [], ◌∷◌, ◌++◌, map, length, codes, Option, Some, Result, Ok, Err, refl, ap, subst, sym, ◌∙◌, concat, minimax, best_choice, QuestionOf, question, split_at_space, error_text, value_text, ProtocolFault, LineFault, Leads, LineText, Whole, lines_of, ReadAnswer, WriteAnswer, Gave, Ended, Failed, IsEnding, IsOutput, bytes_due, write_result, writes_of, written_texts, SolvedRun, answers_unless, line_question, question_answer, solve_line_unless, solve_out_unless, solved_unless, words_question}
+use Rattle.promise_uses.proofs.Common.{◌≡◌, ◌⊎◌, inl, inr, ℕ, ◌<◌, Bool, true, false, List, [], ◌∷◌, ◌++◌, map, length, codes, Option, Some, Result, Ok, Err, refl, ap, subst, sym, ◌∙◌, concat, minimax, best_choice, QuestionOf, question, split_at_space, error_text, value_text, ProtocolFault, LineFault, Leads, LineText, Whole, lines_of, ReadAnswer, WriteAnswer, Gave, Ended, Failed, IsEnding, IsOutput, bytes_due, write_result, writes_of, written_texts, SolvedRun, answers_unless, line_question, question_answer, solve_line_unless, solve_out_unless, solved_unless, words_question, between}
 use Rattle.line_io.specs.declared.faults.LineFault.TheVariants.{Read, Write}
 
 module _ (written due : List ℕ) where
@@ -80,7 +80,7 @@ SolvesThree gives takes source sink source' sink' r = (blocks : List (List ℕ))
     split_at_space third ≡ Some words → question words.0 words.1 ≡ Ok asked → Three asked due)
 
 pub solves-three : {S K : Type 0} (gives : S → ReadAnswer → S → Type 0) (takes : K → WriteAnswer → K → Type 0) (source : S) (sink : K) (source' : S) (sink' : K) (r : Result (Unit {0}) LineFault) →
-    SolvedRun gives takes source sink source' sink' r → SolvesThree gives takes source sink source' sink' r
+    SolvedRun (between gives source source') (between takes sink sink') r → SolvesThree gives takes source sink source' sink' r
 solves-three gives takes source sink source' sink' r solved =
     let is = solved.1 in
     let due = solve_out_unless solved.0 (bytes_due r (concat is.blocks)) in (

@@ -17,7 +17,7 @@ ghost use Rattle.site_book.specs.Plans.{PlanOf, budget_of, sums_fit};
 ghost use Rattle.site_book.specs.Grants.{used};
 ghost use Rattle.site_book.specs.Books.{why_over, why_not_replan};
 ghost use Rattle.site_book.specs.Rolls.{remaining};
-ghost use Rattle.site_book.specs.Comings.{coming, told_by};
+ghost use Rattle.site_book.specs.Comings.{coming, told_by, comer_of};
 
 use site_book::laws::{
     a_plan_comes_in, a_plan_comes_in_once_they_have_gone, only_idle_guests_go_for_another,
@@ -27,13 +27,13 @@ use site_book::laws::{
 /// A customer and a guest enter where the book allows it, and nowhere else. Uses `site_book::who_has_budget_enters` (`enters`, `only`).
 pub fn who_enters()
     ensures named { (number : ℕ) (plan : PlanOf) (grants : List Grant) (roll : List Present) (ask : Quota) (now most : ℕ) →
-        why_over plan (Named number) ask grants ≡ None → coming plan grants roll (Named number) ask now most ≡ Enters }
+        why_over plan (Named number) ask grants ≡ None → coming plan grants roll (comer_of (Named number) ask now most) ≡ Enters }
     ensures guest { (network : ℕ) (plan : PlanOf) (grants : List Grant) (roll : List Present) (ask : Quota) (now most : ℕ) →
-        why_over plan (V6 network) ask grants ≡ None → coming plan grants roll (V6 network) ask now most ≡ Enters }
+        why_over plan (V6 network) ask grants ≡ None → coming plan grants roll (comer_of (V6 network) ask now most) ≡ Enters }
     ensures only_named { (number : ℕ) (plan : PlanOf) (grants : List Grant) (roll : List Present) (ask : Quota) (now most : ℕ) →
-        coming plan grants roll (Named number) ask now most ≡ Enters → why_over plan (Named number) ask grants ≡ None }
+        coming plan grants roll (comer_of (Named number) ask now most) ≡ Enters → why_over plan (Named number) ask grants ≡ None }
     ensures only_guest { (address : ℕ) (plan : PlanOf) (grants : List Grant) (roll : List Present) (ask : Quota) (now most : ℕ) →
-        coming plan grants roll (V4 address) ask now most ≡ Enters → why_over plan (V4 address) ask grants ≡ None }
+        coming plan grants roll (comer_of (V4 address) ask now most) ≡ Enters → why_over plan (V4 address) ask grants ≡ None }
 {
     who_has_budget_enters()
 }
@@ -42,15 +42,15 @@ pub fn who_enters()
 /// ago; and of one that is there it is that one's session. Uses `site_book::only_idle_guests_go_for_another`.
 pub fn who_goes_for_another()
     ensures named { (plan : PlanOf) (grants : List Grant) (roll : List Present) (who : Who) (ask : Quota) (now most session : ℕ) (refusal : BookRefusal) →
-        coming plan grants roll who ask now most ≡ Ends session refusal → All (λ present. is_guest present.who ≡ false) roll → ⊥ }
+        coming plan grants roll (comer_of who ask now most) ≡ Ends session refusal → All (λ present. is_guest present.who ≡ false) roll → ⊥ }
     ensures waiting { (plan : PlanOf) (grants : List Grant) (roll : List Present) (who : Who) (ask : Quota) (now most session : ℕ) (refusal : BookRefusal) →
-        coming plan grants roll who ask now most ≡ Ends session refusal → All (λ present. present.waits ≡ true) roll → ⊥ }
+        coming plan grants roll (comer_of who ask now most) ≡ Ends session refusal → All (λ present. present.waits ≡ true) roll → ⊥ }
     ensures told { (plan : PlanOf) (grants : List Grant) (roll : List Present) (who : Who) (ask : Quota) (now most session : ℕ) (refusal : BookRefusal) →
-        coming plan grants roll who ask now most ≡ Ends session refusal → All (λ present. present.told ≢ None) roll → ⊥ }
+        coming plan grants roll (comer_of who ask now most) ≡ Ends session refusal → All (λ present. present.told ≢ None) roll → ⊥ }
     ensures busy { (plan : PlanOf) (grants : List Grant) (roll : List Present) (who : Who) (ask : Quota) (now most session : ℕ) (refusal : BookRefusal) →
-        coming plan grants roll who ask now most ≡ Ends session refusal → All (λ present. now - present.last ≤ most) roll → ⊥ }
+        coming plan grants roll (comer_of who ask now most) ≡ Ends session refusal → All (λ present. now - present.last ≤ most) roll → ⊥ }
     ensures another { (plan : PlanOf) (grants : List Grant) (roll : List Present) (who : Who) (ask : Quota) (now most session : ℕ) (refusal : BookRefusal) →
-        coming plan grants roll who ask now most ≡ Ends session refusal → All (λ present. present.session ≢ session) roll → ⊥ }
+        coming plan grants roll (comer_of who ask now most) ≡ Ends session refusal → All (λ present. present.session ≢ session) roll → ⊥ }
 {
     only_idle_guests_go_for_another()
 }
@@ -60,19 +60,19 @@ pub fn who_goes_for_another()
 /// Uses `site_book::who_is_refused_has_no_room` (`now`, `then`, `idle`).
 pub fn who_has_no_room()
     ensures now { (number : ℕ) (plan : PlanOf) (grants : List Grant) (roll : List Present) (ask : Quota) (now most : ℕ) (refusal : BookRefusal) →
-        coming plan grants roll (Named number) ask now most ≡ Refused refusal → why_over plan (Named number) ask grants ≡ Some refusal }
+        coming plan grants roll (comer_of (Named number) ask now most) ≡ Refused refusal → why_over plan (Named number) ask grants ≡ Some refusal }
     ensures guest_now { (network : ℕ) (plan : PlanOf) (grants : List Grant) (roll : List Present) (ask : Quota) (now most : ℕ) (refusal : BookRefusal) →
-        coming plan grants roll (V6 network) ask now most ≡ Refused refusal → why_over plan (V6 network) ask grants ≡ Some refusal }
+        coming plan grants roll (comer_of (V6 network) ask now most) ≡ Refused refusal → why_over plan (V6 network) ask grants ≡ Some refusal }
     ensures then { (number : ℕ) (plan : PlanOf) (grants : List Grant) (roll : List Present) (ask : Quota) (now most : ℕ) (refusal : BookRefusal) →
-        coming plan grants roll (Named number) ask now most ≡ Refused refusal → why_over plan (Named number) ask (remaining those_told grants roll) ≡ None → ⊥ }
+        coming plan grants roll (comer_of (Named number) ask now most) ≡ Refused refusal → why_over plan (Named number) ask (remaining those_told grants roll) ≡ None → ⊥ }
     ensures guest_then { (address : ℕ) (plan : PlanOf) (grants : List Grant) (roll : List Present) (ask : Quota) (now most : ℕ) (refusal : BookRefusal) →
-        coming plan grants roll (V4 address) ask now most ≡ Refused refusal → why_over plan (V4 address) ask (remaining those_told grants roll) ≡ None → ⊥ }
+        coming plan grants roll (comer_of (V4 address) ask now most) ≡ Refused refusal → why_over plan (V4 address) ask (remaining those_told grants roll) ≡ None → ⊥ }
     ensures empty { (number : ℕ) (plan : PlanOf) (held : Grant) (present : Present) (ask : Quota) (now most : ℕ) (refusal : BookRefusal) →
-        coming plan (held ∷ []) (present ∷ []) (Named number) ask now most ≡ Refused refusal → present.told ≡ Some ByPlan → why_over plan (Named number) ask [] ≡ None → ⊥ }
+        coming plan (held ∷ []) (present ∷ []) (comer_of (Named number) ask now most) ≡ Refused refusal → present.told ≡ Some ByPlan → why_over plan (Named number) ask [] ≡ None → ⊥ }
     ensures idle { (network : ℕ) (plan : PlanOf) (grants : List Grant) (roll : List Present) (ask : Quota) (now most : ℕ) →
-        coming plan grants roll (V6 network) ask now most ≡ Refused OverGuests → why_over plan (V6 network) ask (remaining (those_idle now most) grants roll) ≡ None → ⊥ }
+        coming plan grants roll (comer_of (V6 network) ask now most) ≡ Refused OverGuests → why_over plan (V6 network) ask (remaining (those_idle now most) grants roll) ≡ None → ⊥ }
     ensures idle_address { (address : ℕ) (plan : PlanOf) (grants : List Grant) (roll : List Present) (ask : Quota) (now most : ℕ) →
-        coming plan grants roll (V4 address) ask now most ≡ Refused OverGuests → why_over plan (V4 address) ask (remaining (those_idle now most) grants roll) ≡ None → ⊥ }
+        coming plan grants roll (comer_of (V4 address) ask now most) ≡ Refused OverGuests → why_over plan (V4 address) ask (remaining (those_idle now most) grants roll) ≡ None → ⊥ }
 {
     who_is_refused_has_no_room()
 }

@@ -16,7 +16,7 @@ ghost use Rattle.desk_office.specs.Answers.{NobodyCame};
 ghost use Rattle.session.specs.Asks.{Asked, KeepsAsks};
 ghost use Rattle.session.specs.Calls.{Hello, Leave, OfficeReply, Welcome, Gone};
 ghost use Rattle.session.specs.DoneLines.{EachDoneIsTrue};
-ghost use Rattle.session.specs.Forms.{is_bye};
+ghost use Rattle.session.specs.Requests.{is_bye};
 ghost use Rattle.session.specs.Sessions.{Called, calls_for};
 ghost use Rattle.session.specs.Turns.{turns};
 ghost use Rattle.site_desk.specs.Seats.{SiteTraceOf};

@@ -20,6 +20,7 @@
 ghost use Rattle.std.specs.Prelude.{◌≡◌, ◌≤◌, ℕ, IfOk, IfSome, length};
 ghost use Rattle.sched_rules.specs.Cores.{shared_by_nobody, tenant_in};
 ghost use Rattle.sched_rules.specs.Headline.{IsHeadline, own_answers};
+ghost use Rattle.line_io.specs.Leads.{between};
 ghost use Rattle.jamboree_core.specs.jamboree_rules.Procedure.{jamboree};
 ghost use Rattle.jamboree_core.specs.Replies.{AreSearches};
 ghost use Rattle.jamboree_core.specs.NewRuns.{IsHeadlineFromNew};
@@ -216,7 +217,7 @@ pub fn serve<S: Source, K: Sink, L: DeskLedger, R: Wait, A: Allocator + Clone>(
     desk: &Desk<L, A>,
 ) -> (Result<End, SessionFault>, Option<Trace<Step<Jamboree>, L>>)
     requires { L.all ≡ L.parts }
-    ensures { SeenSession L.begun S.gives K.takes source.old sink.old source.new sink.new result.0 result.1 }
+    ensures { SeenSession L.begun (between S.gives source.old source.new) (between K.takes sink.old sink.new) result.0 result.1 }
 {
     serve_desk_seen(rt, source, sink, desk)
 }
@@ -230,7 +231,7 @@ where
     S: Source,
     K: Sink,
     requires { grain ≤ 6 }
-    ensures { SolvedRun S.gives K.takes source.old sink.old source.new sink.new result }
+    ensures { SolvedRun (between S.gives source.old source.new) (between K.takes sink.old sink.new) result }
 {
     solve_engine::solve(alloc, source, sink, grain)
 }

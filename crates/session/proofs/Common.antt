@@ -5,7 +5,7 @@ pub use Rattle.std.proofs.Math.Seq.{set-append_seam, take-append_seam}
 pub use Rattle.std.proofs.lemmas.List.{append-nil, append_assoc, length-append}
 unfoldable pub use Rattle.std.specs.Fmt.{digits}
 pub use Rattle.std.specs.List.{concat}
-pub use Rattle.line_io.specs.Leads.{Answers, Leads}
+pub use Rattle.line_io.specs.Leads.{Answers, Leads, answering, between}
 pub use Rattle.line_io.specs.Lines.{LineText, TooLong, Whole}
 pub use Rattle.line_io.specs.Runs.{bytes_due, write_result}
 pub use Rattle.line_io.specs.Streams.{ReadAnswer, WriteAnswer}
@@ -19,11 +19,10 @@ pub use Rattle.tenant_quota.specs.Quota.{Quota}
 pub use Rattle.session.specs.Asks.{AllTrue, Asked, KeepsAsks, SaysTrue, ShowsFound, asked_at, asks_after, with_call}
 pub use Rattle.session.specs.Calls.{Call, Get, Gone, Hello, Job, OfficeReply, Told, Welcome}
 pub use Rattle.session.specs.DoneLines.{EachDoneIsTrue, ReplyHolds, StandingHolds, TableHolds, TableReplyHolds, TrueSession, asks_of_lines, with_request}
-pub use Rattle.session.specs.Forms.{Form, HelloOf, form_of, is_bye}
 pub use Rattle.session.specs.Places.{IsHeld, bounds_held, no_bound}
-pub use Rattle.session.specs.Requests.{Ends, Fault, Makes, Request, Tabulates, form_request, quota_of, quota_request, request}
+pub use Rattle.session.specs.Requests.{AtFirst, Ends, Fault, LineCommand, Makes, Request, Tabulates, command_request, is_bye, line_command, quota_request, request}
 pub use Rattle.session.specs.Rows.{opening_board}
-pub use Rattle.session.specs.Sessions.{Called, IsAnsweredOf, IsWrittenOf, LeavesIf, Session, Turned, calls_for, session_lines, talk_result, texts_for}
+pub use Rattle.session.specs.Sessions.{Called, IsAnsweredOf, IsWrittenOf, LeavesIf, Session, Turned, calls_for, handler_of, session_lines, talk_result, texts_for}
 pub use Rattle.session.specs.Turns.{Closed, Faulted, LineTurn, Made, Tabulated, by_request, calls_in, entries_text, later_replies, leaving, next_reply}
 pub use Rattle.session.specs.Turns.{reply_text, seated_after, table_text, turn_text, turns}
 pub use Rattle.session.specs.declared.bounds.Bounds.TheInside.{Inside}

@@ -1,5 +1,5 @@
 -- A session's DONE and TABLE lines: true replies of its office make true lines.
-use Rattle.session.proofs.Common.{◌≡◌, ℕ, ◌+◌, List, [], ◌∷◌, ◌++◌, length, Bool, true, false, Option, Some, None, refl, sym, ap, ◌∙◌, LineText, Whole, TooLong, Quota, Standing, Pending, Done, Call, Hello, Get, OfficeReply, Welcome, Job, Told, Gone, Form, HelloOf, form_of, Request, Fault, Makes, Tabulates, Ends, request, form_request, quota_of, quota_request, Faulted, Closed, turns, turn_text, reply_text, table_text, calls_in, leaving, next_reply, later_replies, seated_after, calls_for, Asked, asked_at, with_call, asks_after, SaysTrue, ShowsFound, AllTrue, with_request, asks_of_lines, StandingHolds, ReplyHolds, TableHolds, TableReplyHolds, EachDoneIsTrue}
+use Rattle.session.proofs.Common.{◌≡◌, ℕ, ◌+◌, List, [], ◌∷◌, ◌++◌, length, Bool, true, false, Option, Some, None, refl, sym, ap, ◌∙◌, LineText, Whole, TooLong, Quota, Standing, Pending, Done, Call, Hello, Get, OfficeReply, Welcome, Job, Told, Gone, AtFirst, LineCommand, line_command, Request, Fault, Makes, Tabulates, Ends, request, command_request, quota_request, Faulted, Closed, turns, turn_text, reply_text, table_text, calls_in, leaving, next_reply, later_replies, seated_after, calls_for, Asked, asked_at, with_call, asks_after, SaysTrue, ShowsFound, AllTrue, with_request, asks_of_lines, StandingHolds, ReplyHolds, TableHolds, TableReplyHolds, EachDoneIsTrue}
 use Rattle.session.proofs.Served.{next_turns}
 
 -- lines with their answers, the last first
@@ -18,19 +18,19 @@ module _ (asks : List Asked) (call : Call) where
   hello-same (Some quota) h = ap (with_request asks) h
 
   -- a call that is made without a tenant asks for no position, nor does its line where a tenant is there
-  early-same : (form : Option Form) → form_request false form ≡ Makes call → (asks ≡ with_call asks call) × (with_request asks (form_request true form) ≡ asks)
-  early-same (Some (HelloOf segments nodes)) h = (hello-same (quota_of segments nodes) h, refl)
+  early-same : (command : Option LineCommand) → command_request false command ≡ Makes call → (asks ≡ with_call asks call) × (with_request asks (command_request true command) ≡ asks)
+  early-same (Some (AtFirst quota)) h = (hello-same quota h, refl)
   early-same _ h = cc h
 
   asks-seated : (seated : Bool) (line : LineText) → request seated line ≡ Makes call → with_call asks call ≡ with_request asks (request true line)
   asks-seated true line h = ap (with_request asks) (sym h)
   asks-seated false TooLong h = cc h
-  asks-seated false (Whole bytes) h = let same = early-same (form_of bytes) h in sym same.0 ∙ sym same.1
+  asks-seated false (Whole bytes) h = let same = early-same (line_command bytes) h in sym same.0 ∙ sym same.1
 
   still-empty : (seated : Bool) (line : LineText) → request seated line ≡ Makes call → EmptyWithout seated asks → EmptyWithout seated (with_call asks call)
   still-empty true line h empty = tt
   still-empty false TooLong h empty = cc h
-  still-empty false (Whole bytes) h empty = sym (early-same (form_of bytes) h).0 ∙ empty
+  still-empty false (Whole bytes) h empty = sym (early-same (line_command bytes) h).0 ∙ empty
 
 -- a table is asked for where a tenant is there, and its line asks for no position
 module _ (job : ℕ) where
@@ -38,14 +38,14 @@ module _ (job : ℕ) where
   no-early-hello None h = cc h
   no-early-hello (Some quota) h = cc h
 
-  no-early-table : (form : Option Form) → form_request false form ≡ Tabulates job → ⊥
-  no-early-table (Some (HelloOf segments nodes)) h = no-early-hello (quota_of segments nodes) h
+  no-early-table : (command : Option LineCommand) → command_request false command ≡ Tabulates job → ⊥
+  no-early-table (Some (AtFirst quota)) h = no-early-hello quota h
   no-early-table _ h = cc h
 
   table-same : (seated : Bool) (line : LineText) (asks : List Asked) → request seated line ≡ Tabulates job → asks ≡ with_request asks (request true line)
   table-same true line asks h = ap (with_request asks) (sym h)
   table-same false TooLong asks h = refl
-  table-same false (Whole bytes) asks h = absurd (no-early-table (form_of bytes) h)
+  table-same false (Whole bytes) asks h = absurd (no-early-table (line_command bytes) h)
 
 -- the asks are those of the lines before, and there are none where no tenant is there
 abbrev Known : Bool → Before → List Asked → Type 0

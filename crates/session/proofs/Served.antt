@@ -1,5 +1,5 @@
 -- The lines of a client, answered one after another, make a session.
-use Rattle.session.proofs.Common.{◌≡◌, ℕ, List, [], ◌∷◌, ◌++◌, map, Bool, true, false, refl, sym, ap, ap₂, ◌∙◌, subst, Result, Ok, Err, append-nil, concat, WriteFailed, LineText, Leads, Answers, ReadAnswer, WriteAnswer, IsAnswered, written_texts, bytes_due, write_result, Talk, End, Bye, EndOfInput, SessionFault, Read, Write, Call, OfficeReply, is_bye, Request, Fault, Makes, Tabulates, Ends, request, LineTurn, Faulted, Made, Tabulated, Closed, turns, turn_text, calls_in, leaving, by_request, next_reply, later_replies, seated_after, Called, LeavesIf, Turned, Session, IsAnsweredOf, IsWrittenOf, session_lines, talk_result, texts_for, calls_for}
+use Rattle.session.proofs.Common.{◌≡◌, ℕ, List, [], ◌∷◌, ◌++◌, map, Bool, true, false, refl, sym, ap, ap₂, ◌∙◌, subst, Result, Ok, Err, append-nil, concat, WriteFailed, LineText, Leads, Answers, ReadAnswer, WriteAnswer, IsAnswered, written_texts, bytes_due, write_result, Talk, End, Bye, EndOfInput, SessionFault, Read, Write, Call, OfficeReply, is_bye, Request, Fault, Makes, Tabulates, Ends, request, LineTurn, Faulted, Made, Tabulated, Closed, turns, turn_text, calls_in, leaving, by_request, next_reply, later_replies, seated_after, Called, LeavesIf, Turned, handler_of, Session, IsAnsweredOf, IsWrittenOf, session_lines, talk_result, texts_for, calls_for, between, answering}
 
 -- the turns of a line that asks for this, and of the lines after it
 abbrev pub next_turns : Request → Bool → List LineText → List OfficeReply → List LineTurn
@@ -53,7 +53,7 @@ module _ {O : Type 0} (does : O → Call → OfficeReply → O → Type 0) where
   -- one line before others
   module _ (from : O) (seated : Bool) (text : List ℕ) {mid to : O} {seated' seated'' : Bool} {texts : List (List ℕ)} (lines : List LineText)
       (came : Came (turns seated' lines) mid seated' texts to seated'') where
-    came-next : (q : Request) → Turned does q from seated text mid seated' → Came (next_turns q seated lines) from seated (text ∷ texts) to seated''
+    came-next : (q : Request) → Turned does q (handler_of from seated) text (handler_of mid seated') → Came (next_turns q seated lines) from seated (text ∷ texts) to seated''
     came-next (Fault fault) h =
         let same = subst (λ o. Came (turns seated lines) o seated texts to seated'') (sym h.0) (subst (λ s. Came (turns s lines) mid s texts to seated'') h.1 came) in
         record { replies = same.replies; are = ap₂ (λ t ts. t ∷ ts) h.2 same.are; made = same.made }
@@ -71,7 +71,7 @@ module _ {O : Type 0} (does : O → Call → OfficeReply → O → Type 0) where
   -- an answerer that holds an office, and knows whether a tenant is there
   module _ {A : Type 0} (office : A → O) (seated : A → Bool) (answers : Answering A)
       (turned : (a : A) (line : LineText) (text : List ℕ) (b : A) → answers a line text b →
-      Turned does (request (seated a) line) (office a) (seated a) text (office b) (seated b)) where
+      Turned does (request (seated a) line) (handler_of (office a) (seated a)) text (handler_of (office b) (seated b))) where
     -- all lines of a chain of answers
     came-all : (a : A) (lines : List LineText) (texts : List (List ℕ)) (b : A) → Answers answers a lines texts b →
         Came (turns (seated a) lines) (office a) (seated a) texts (office b) (seated b)
@@ -82,8 +82,8 @@ module _ {O : Type 0} (does : O → Call → OfficeReply → O → Type 0) where
 
     -- a talk whose answerer starts without a tenant, and whose tenant then leaves, is a session
     pub talk-session : {S K : Type 0} {gives : S → ReadAnswer → S → Type 0} {takes : K → WriteAnswer → K → Type 0} {s s' : S} {k k' : K} (a b : A) (o o' : O)
-        (r : Result End SessionFault) → office a ≡ o → seated a ≡ false → Talk gives takes answers is_bye s k a s' k' b (talk_result r) →
-        LeavesIf does (seated b) (office b) o' → Session gives takes does s k o s' k' o' r
+        (r : Result End SessionFault) → office a ≡ o → seated a ≡ false → Talk (between gives s s') (between takes k k') (answering answers a b) is_bye (talk_result r) →
+        LeavesIf does (seated b) (office b) o' → Session (between gives s s') (between takes k k') (between (Called does) o o') r
     talk-session a b o o' r at new talk left =
         let y = talk.lines in
         let lines = session_lines (bytes_due (talk_result r) (concat talk.blocks)) in
@@ -104,5 +104,5 @@ module _ {O : Type 0} (does : O → Call → OfficeReply → O → Type 0) where
 
   -- the office at the end by another name
   pub Session-office : {S K : Type 0} {gives : S → ReadAnswer → S → Type 0} {takes : K → WriteAnswer → K → Type 0} {s s' : S} {k k' : K} {o o' o'' : O} {r : Result End SessionFault} →
-      o'' ≡ o' → Session gives takes does s k o s' k' o' r → Session gives takes does s k o s' k' o'' r
-  Session-office {gives = gives} {takes} {s} {s'} {k} {k'} {o} {r = r} e x = subst (λ z. Session gives takes does s k o s' k' z r) (sym e) x
+      o'' ≡ o' → Session (between gives s s') (between takes k k') (between (Called does) o o') r → Session (between gives s s') (between takes k k') (between (Called does) o o'') r
+  Session-office {gives = gives} {takes} {s} {s'} {k} {k'} {o} {r = r} e x = subst (λ z. Session (between gives s s') (between takes k k') (between (Called does) o z) r) (sym e) x

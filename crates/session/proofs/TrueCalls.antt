@@ -1,5 +1,5 @@
 -- Sessions over an office that keeps what its tenant asked for.
-use Rattle.session.proofs.Common.{◌≡◌, List, [], ◌∷◌, ap, subst, Result, Leads, ReadAnswer, WriteAnswer, End, SessionFault, Call, OfficeReply, Called, Session, calls_for, Asked, asks_after, KeepsAsks, AllTrue, TrueSession}
+use Rattle.session.proofs.Common.{◌≡◌, List, [], ◌∷◌, ap, subst, Result, Leads, ReadAnswer, WriteAnswer, End, SessionFault, Call, OfficeReply, Called, Session, calls_for, Asked, asks_after, KeepsAsks, AllTrue, TrueSession, between}
 use Rattle.session.proofs.DoneLemmas.{each-done}
 
 -- calls through which the asks are led are true
@@ -18,7 +18,7 @@ module _ {O : Type 0} (does : O → Call → OfficeReply → O → Type 0) (asks
 
   -- a session, seen by the asks of its office, of which there are none at first
   pub true-session : {S K : Type 0} {gives : S → ReadAnswer → S → Type 0} {takes : K → WriteAnswer → K → Type 0} {s s' : S} {k k' : K} {o o' : O} {r : Result End SessionFault} →
-      asks o ≡ [] → Session gives takes does s k o s' k' o' r → TrueSession gives takes s k s' k' r
+      asks o ≡ [] → Session (between gives s s') (between takes k k') (between (Called does) o o') r → TrueSession (between gives s s') (between takes k k') r
   true-session {o = o} {o'} new x =
       let led = subst (λ z. Leads (Called KeepsAsks) z (calls_for x.answered x.replies) (asks o')) new (asks-led o (calls_for x.answered x.replies) o' x.made) in
       record {

@@ -4,6 +4,7 @@ use Rattle.std.specs.List.{starts_with}
 use Rattle.line_io.specs.Lines.{LineText}
 use Rattle.othello_eval.specs.Minimax.{minimax, best_choice}
 use Rattle.othello_eval.specs.Tables.{IsTable}
+use Rattle.line_io.specs.Leads.{Passage, between}
 use Rattle.line_io.specs.Streams.{ReadAnswer, WriteAnswer}
 use Rattle.session.specs.declared.faults.End.{End}
 use Rattle.session.specs.declared.faults.SessionFault.{SessionFault}
@@ -14,7 +15,7 @@ use Rattle.session.specs.Asks.{Asked, asked_at, with_call, KeepsAsks}
 use Rattle.session.specs.Calls.{OfficeReply, Job, Told}
 use Rattle.session.specs.Requests.{Request, Makes, request}
 use Rattle.session.specs.Turns.{LineTurn, Made, Tabulated, turns, turn_text}
-use Rattle.session.specs.Sessions.{Session}
+use Rattle.session.specs.Sessions.{Called, Session}
 
 -- what was asked so far, and what this line asks for after it if it is an ASK
 abbrev pub with_request : List Asked → Request → List Asked
@@ -91,7 +92,7 @@ EachDoneIsTrue before (line ∷ lines) (turn ∷ turned) = TurnHolds before turn
 
 -- a session over some office that keeps its asks, in which each JOB, DONE and TABLE line is true by the lines and
 -- answers before it (`dones`)
-pub record TrueSession {S K : Type 0} (gives : S → ReadAnswer → S → Type 0) (takes : K → WriteAnswer → K → Type 0) (source : S) (sink : K) (source' : S) (sink' : K) (r : Result End SessionFault) : Type 0 where
+pub record TrueSession {S K : Type 0} (reading : Passage S ReadAnswer) (writing : Passage K WriteAnswer) (r : Result End SessionFault) : Type 0 where
   pub asks : List Asked
-  pub session : Session gives takes KeepsAsks source sink [] source' sink' asks r
+  pub session : Session reading writing (between (Called KeepsAsks) [] asks) r
   pub dones : EachDoneIsTrue [] session.answered (turns false session.answered session.replies)

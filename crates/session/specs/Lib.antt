@@ -1,5 +1,4 @@
 pub mod Places
-pub mod Forms
 pub mod Calls
 pub mod Requests
 pub mod Turns

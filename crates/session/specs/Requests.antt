@@ -1,14 +1,16 @@
--- Meaning: what a line asks for, or its first fault: 22 where it is too long, 21 where its word is unknown or has another number of
--- arguments, 28 before HELLO, 29 for HELLO again, 23 where a number is none or those of HELLO and RESERVE are outside the limits, 27 where the
--- depth is over 12, then 24 for the length of a position's text, 25 for a cell and 26 for the side.
-use Rattle.std.specs.Prelude.{ℕ, Bool, true, false, Option, Some, None, Result, Ok, Err, ◌&&◌, nat_le, if◌then◌else◌}
+-- Meaning: the table of a session's lines: each command with its arguments, and what it asks for, or its first fault: 22 where the line is too long, 21
+-- where its word is unknown or has another number of arguments, 28 before HELLO, 29 for HELLO again, 23 where a number is none or those of HELLO and
+-- RESERVE are outside the limits, 27 where the depth is over 12, then 24 for the length of a position's text, 25 for a cell and 26 for the side.
+use Rattle.std.specs.Prelude.{ℕ, List, Bool, true, false, Option, Some, None, Result, Ok, Err, ◌&&◌, nat_le, if◌then◌else◌, codes}
+use Rattle.std.specs.Option.{is_none}
+use Rattle.std.specs.Str.{bytes_eq}
 use Rattle.line_io.specs.Lines.{LineText, Whole, TooLong}
 use Rattle.protocol.specs.declared.faults.ProtocolFault.{ProtocolFault}
 use Rattle.protocol.specs.declared.faults.ProtocolFault.TheVariants.{NoCommand, LongLine, NoNumber, NoHello, HelloAgain}
 use Rattle.protocol.specs.Questions.{QuestionOf, question}
+use Rattle.protocol.specs.Words.{split_at_space, word_number}
 use Rattle.tenant_quota.specs.Quota.{Quota}
 use Rattle.session.specs.Calls.{Call, Hello, Reserve, Ask, Get, Wait, Cancel, AskQuota, AskLive}
-use Rattle.session.specs.Forms.{Form, HelloOf, ReserveOf, AskOf, GetOf, WaitOf, CancelOf, TableOf, QuotaForm, LiveForm, ByeForm, form_of}
 
 -- what a line asks for: nothing, as it has a fault; a call of the office whose reply is told; a Get whose reply is told
 -- with its table; or the end of the session
@@ -44,32 +46,68 @@ abbrev pub job_request : (ℕ → Request) → Option ℕ → Request
 job_request asked None = Fault NoNumber
 job_request asked (Some job) = asked job
 
--- what a command of a session's line asks for, where a tenant is there
-abbrev pub seated_request : Form → Request
-seated_request (HelloOf segments nodes) = Fault HelloAgain
-seated_request (ReserveOf segments nodes) = quota_request Reserve (quota_of segments nodes)
-seated_request (AskOf depth text) = ask_request (question depth text)
-seated_request (GetOf job) = job_request (λ k. Makes (Get k)) job
-seated_request (WaitOf job) = job_request (λ k. Makes (Wait k)) job
-seated_request (CancelOf job) = job_request (λ k. Makes (Cancel k)) job
-seated_request (TableOf job) = job_request Tabulates job
-seated_request QuotaForm = Makes AskQuota
-seated_request LiveForm = Makes AskLive
-seated_request ByeForm = Ends
+-- a line's command, by when it may come: HELLO with the amounts that it says (None where it says none), before a tenant is there; any other with what
+-- it asks for, once one is there; and BYE always
+pub data LineCommand : Type 0 where
+  AtFirst : (quota : Option Quota) → LineCommand
+  OnceSeated : (asked : Request) → LineCommand
+  AtAnyTime : LineCommand
 
--- what a command of a session's line asks for, where no tenant is there: fault 28 for all but HELLO and BYE
-abbrev pub early_request : Form → Request
-early_request (HelloOf segments nodes) = quota_request Hello (quota_of segments nodes)
-early_request ByeForm = Ends
-early_request _ = Fault NoHello
+-- the command of a line of one word; None where that is no command without arguments
+abbrev pub command_alone : List ℕ → Option LineCommand
+command_alone word =
+    if bytes_eq word (codes "QUOTA") then Some (OnceSeated (Makes AskQuota))
+    else (if bytes_eq word (codes "LIVE") then Some (OnceSeated (Makes AskLive))
+    else (if bytes_eq word (codes "BYE") then Some AtAnyTime
+    else None))
 
--- what a line asks for, by whether a tenant is there and the command that was read; fault 21 where there is none
-abbrev pub form_request : Bool → Option Form → Request
-form_request seated None = Fault NoCommand
-form_request true (Some form) = seated_request form
-form_request false (Some form) = early_request form
+-- the command of a line of two words; None unless the first is one of these
+abbrev pub command_with_one : List ℕ → List ℕ → Option LineCommand
+command_with_one word argument =
+    if bytes_eq word (codes "GET") then Some (OnceSeated (job_request (λ k. Makes (Get k)) (word_number argument)))
+    else (if bytes_eq word (codes "WAIT") then Some (OnceSeated (job_request (λ k. Makes (Wait k)) (word_number argument)))
+    else (if bytes_eq word (codes "CANCEL") then Some (OnceSeated (job_request (λ k. Makes (Cancel k)) (word_number argument)))
+    else (if bytes_eq word (codes "TABLE") then Some (OnceSeated (job_request Tabulates (word_number argument)))
+    else None)))
+
+-- the command of a line of three words or more, where `second` is all that follows the second space: for ASK that is
+-- the position; HELLO and RESERVE have just two arguments
+abbrev pub command_with_two : List ℕ → List ℕ → List ℕ → Option LineCommand
+command_with_two word first second =
+    if bytes_eq word (codes "ASK") then Some (OnceSeated (ask_request (question first second)))
+    else (if bytes_eq word (codes "HELLO") && is_none (split_at_space second) then Some (AtFirst (quota_of (word_number first) (word_number second)))
+    else (if bytes_eq word (codes "RESERVE") && is_none (split_at_space second) then Some (OnceSeated (quota_request Reserve (quota_of (word_number first) (word_number second))))
+    else None))
+
+-- the command of a line with a first word and a rest after it, by how the rest splits at its first space
+abbrev pub line_command_after : List ℕ → List ℕ → Option (List ℕ × List ℕ) → Option LineCommand
+line_command_after word rest None = command_with_one word rest
+line_command_after word rest (Some words) = command_with_two word words.0 words.1
+
+-- the command of a line, by how it splits at its first space
+abbrev pub line_command_by : List ℕ → Option (List ℕ × List ℕ) → Option LineCommand
+line_command_by line None = command_alone line
+line_command_by line (Some words) = line_command_after words.0 words.1 (split_at_space words.1)
+
+-- the command of a line, with its arguments; None where its first word is unknown or has another number of arguments
+abbrev pub line_command : List ℕ → Option LineCommand
+line_command line = line_command_by line (split_at_space line)
+
+-- what a line asks for, by whether a tenant is there and its command; fault 21 where it has none
+abbrev pub command_request : Bool → Option LineCommand → Request
+command_request seated None = Fault NoCommand
+command_request true (Some (AtFirst quota)) = Fault HelloAgain
+command_request false (Some (AtFirst quota)) = quota_request Hello quota
+command_request true (Some (OnceSeated asked)) = asked
+command_request false (Some (OnceSeated asked)) = Fault NoHello
+command_request seated (Some AtAnyTime) = Ends
 
 -- what a line asks for, by whether a tenant is there; fault 22 where it is too long
 abbrev pub request : Bool → LineText → Request
 request seated TooLong = Fault LongLine
-request seated (Whole bytes) = form_request seated (form_of bytes)
+request seated (Whole bytes) = command_request seated (line_command bytes)
+
+-- whether a line ends the session: it is just BYE
+abbrev pub is_bye : LineText → Bool
+is_bye (Whole bytes) = bytes_eq bytes (codes "BYE")
+is_bye TooLong = false

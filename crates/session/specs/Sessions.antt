@@ -7,7 +7,7 @@ use Rattle.line_io.specs.declared.faults.WriteFailed.{WriteFailed}
 use Rattle.line_io.specs.declared.talking.TalkEnd.{TalkEnd}
 use Rattle.line_io.specs.declared.talking.TalkEnd.TheVariants.{Line as by_line, Input as by_input}
 use Rattle.line_io.specs.Lines.{LineText, lines_of}
-use Rattle.line_io.specs.Leads.{Leads, IsPrefixOf}
+use Rattle.line_io.specs.Leads.{Leads, IsPrefixOf, Passage}
 use Rattle.line_io.specs.Streams.{ReadAnswer, Gave, WriteAnswer}
 use Rattle.line_io.specs.Writes.{writes_of, written_texts, IsCutShort}
 use Rattle.line_io.specs.Runs.{bytes_due, write_result}
@@ -19,7 +19,7 @@ use Rattle.session.specs.declared.faults.SessionFault.TheVariants.{Read, Write}
 use Rattle.session.specs.declared.faults.End.{End}
 use Rattle.session.specs.declared.faults.End.TheVariants.{Bye, EndOfInput}
 use Rattle.session.specs.Calls.{Call, Get, Leave, OfficeReply, Gone}
-use Rattle.session.specs.Forms.{is_bye}
+use Rattle.session.specs.Requests.{is_bye}
 use Rattle.session.specs.Requests.{Request, Fault, Makes, Tabulates, Ends}
 use Rattle.session.specs.Turns.{turns, calls_in, turn_text, reply_text, table_text, seated_after}
 
@@ -52,16 +52,24 @@ abbrev pub LeavesIf : {O : Type 0} → (O → Call → OfficeReply → O → Typ
 LeavesIf does true from to = does from Leave Gone to
 LeavesIf does false from to = from ≡ to
 
--- what one request comes to, by the office and whether a tenant is there before it, the text of the answer, and both
--- after it: a fault calls nothing, a call is made and its reply told, a table is got by Get, and at the end a tenant
--- that is there leaves
-abbrev pub Turned : {O : Type 0} → (O → Call → OfficeReply → O → Type 0) → Request → O → Bool → List ℕ → O → Bool → Type 0
-Turned does (Fault fault) from seated text to seated' = (from ≡ to) × (seated' ≡ seated) × (text ≡ error_text (fault_number fault))
-Turned does (Makes call) from seated text to seated' =
-    (reply : OfficeReply) × does from call reply to × (seated' ≡ seated_after seated reply) × (text ≡ reply_text reply)
-Turned does (Tabulates job) from seated text to seated' =
-    (reply : OfficeReply) × does from (Get job) reply to × (seated' ≡ seated_after seated reply) × (text ≡ table_text reply)
-Turned does Ends from seated text to seated' = LeavesIf does seated from to × (seated' ≡ false) × (text ≡ reply_text Gone)
+-- what a session's handler has: its office, and whether a tenant is there
+pub record HandlerOf (O : Type 0) : Type 0 where
+  pub office : O
+  pub seated : Bool
+
+-- the handler with this office, where a tenant is there or not
+abbrev pub handler_of : {O : Type 0} → O → Bool → HandlerOf O
+handler_of office seated = record { office = office; seated = seated }
+
+-- what one request comes to, by the handler before it, the text of the answer and the handler after it: a fault calls
+-- nothing, a call is made and its reply told, a table is got by Get, and at the end a tenant that is there leaves
+abbrev pub Turned : {O : Type 0} → (O → Call → OfficeReply → O → Type 0) → Request → HandlerOf O → List ℕ → HandlerOf O → Type 0
+Turned does (Fault fault) from text to = (from.office ≡ to.office) × (to.seated ≡ from.seated) × (text ≡ error_text (fault_number fault))
+Turned does (Makes call) from text to =
+    (reply : OfficeReply) × does from.office call reply to.office × (to.seated ≡ seated_after from.seated reply) × (text ≡ reply_text reply)
+Turned does (Tabulates job) from text to =
+    (reply : OfficeReply) × does from.office (Get job) reply to.office × (to.seated ≡ seated_after from.seated reply) × (text ≡ table_text reply)
+Turned does Ends from text to = LeavesIf does from.seated from.office to.office × (to.seated ≡ false) × (text ≡ reply_text Gone)
 
 -- how a session ended, as the end of its exchange of lines and answers
 abbrev pub talk_result : Result End SessionFault → Result TalkEnd LineFault
@@ -84,15 +92,15 @@ IsWrittenOf (Err _) bytes texts = (rest : List ℕ) × (bytes ++ rest ≡ writte
 -- a whole session: the blocks that were read and the read after them, the lines of them that were answered, the
 -- office's replies, and the pieces that were written. At fault 1 the bytes after the last LF are no line. At fault 2
 -- the last of the answered lines is the one whose answer wasn't written
-pub record Session {S K O : Type 0} (gives : S → ReadAnswer → S → Type 0) (takes : K → WriteAnswer → K → Type 0) (does : O → Call → OfficeReply → O → Type 0) (source : S) (sink : K) (office : O) (source' : S) (sink' : K) (office' : O) (r : Result End SessionFault) : Type 0 where
+pub record Session {S K O : Type 0} (reading : Passage S ReadAnswer) (writing : Passage K WriteAnswer) (calling : Passage O (Call × OfficeReply)) (r : Result End SessionFault) : Type 0 where
   pub blocks : List (List ℕ)
   pub last : List ReadAnswer
   pub answered : List LineText
   pub replies : List OfficeReply
   pub pieces : List (List ℕ)
-  pub reads : Leads gives source (map Gave blocks ++ last) source'
+  pub reads : Leads reading.step reading.from (map Gave blocks ++ last) reading.to
   pub ends : IsTalkEnd is_bye (talk_result r) (concat blocks) last
   pub lines : IsAnsweredOf r answered (session_lines (bytes_due (talk_result r) (concat blocks)))
-  pub made : Leads (Called does) office (calls_for answered replies) office'
-  pub writes : Leads takes sink (writes_of pieces (write_result (talk_result r))) sink'
+  pub made : Leads calling.step calling.from (calls_for answered replies) calling.to
+  pub writes : Leads writing.step writing.from (writes_of pieces (write_result (talk_result r))) writing.to
   pub written : IsWrittenOf (write_result (talk_result r)) (concat pieces) (texts_for answered replies)

@@ -1,8 +1,8 @@
 //! Sessions: lines in, calls of an office and answers out.
 //!
 //! A session is a talk in lines of at most 128 bytes with one tenant of a desk. A line is a command of one word with
-//! its arguments, parted by single spaces (`specs/Forms.antt`), and comes to a fault, to one call of the office, or to
-//! the end of the session (`specs/Requests.antt`). Each line is answered by one line, as soon as it is complete, before
+//! its arguments, parted by single spaces, and comes to a fault, to one call of the office, or to the end of the session:
+//! `specs/Requests.antt` has the table of all. Each line is answered by one line, as soon as it is complete, before
 //! more is read: a fault by `ERR` and its number, a call by what the office replied. `GET` and `TABLE` make one call, and tell of
 //! its reply the value and the move, or what is known of each choice.
 //!
@@ -39,7 +39,6 @@
 
 mod bounds;
 mod faults;
-mod forms;
 mod laws;
 mod office;
 mod requests;

@@ -1,14 +1,12 @@
 //! What a session's line asks for, or its first fault.
-ghost use Rattle.std.specs.Prelude.{◌≡◌};
+ghost use Rattle.std.specs.Prelude.{◌≡◌, Some, option_map};
 ghost use Rattle.line_io.specs.Views.{text_of};
 ghost use Rattle.protocol.specs.Questions.{question};
-ghost use Rattle.session.specs.Calls.{Call, Get, Wait, Cancel};
-ghost use Rattle.session.specs.Requests.{request, seated_request, early_request, quota_of, ask_request};
-ghost use Rattle.session.specs.Views.{form_seen, request_seen};
+ghost use Rattle.session.specs.Requests.{request, quota_of, ask_request, command_alone, command_with_one, command_with_two, line_command, command_request};
+ghost use Rattle.session.specs.Views.{line_command_seen, request_seen};
 
-use crate::forms::{Form, form_of};
 use line_io::Line;
-use protocol::{ProtocolFault, Question, read_question};
+use protocol::{ProtocolFault, Question, read_question, split_at_space, word_number};
 use tenant_quota::Reserve;
 
 /// What a line asks for.
@@ -38,6 +36,17 @@ pub enum Request {
     Bye,
 }
 
+/// The command of a line, by when it may come.
+#[derive(Clone, Copy)]
+enum LineCommand {
+    /// HELLO, before a tenant is there: the reservation that it says, if it says one.
+    AtFirst(Option<Reserve>),
+    /// Any other but BYE, once a tenant is there: what it asks for.
+    OnceSeated(Request),
+    /// BYE, at any time.
+    AtAnyTime,
+}
+
 /// A reservation of these segments and nodes; `None` unless both are numbers within the limits.
 fn quota_of(segments: Option<u32>, nodes: Option<u32>) -> Option<Reserve>
     ensures { result ≡ quota_of segments nodes }
@@ -58,41 +67,93 @@ fn ask_request(depth: &[u8], position: &[u8]) -> Request
     }
 }
 
-/// What a command asks for where a tenant is there: HELLO is a fault then.
-fn seated_request(form: Form<'_>) -> Request
-    ensures { request_seen result ≡ seated_request (form_seen form.entry) }
+/// The command of a line of one word; `None` unless that is QUOTA, LIVE or BYE.
+fn command_alone(word: &[u8]) -> Option<LineCommand>
+    ensures { option_map line_command_seen result ≡ command_alone word.now }
 {
-    match form {
-        Form::Hello(_, _) => Request::Fault(ProtocolFault::HelloAgain),
-        Form::Reserve(segments, nodes) => match quota_of(segments, nodes) {
-            Some(reserve) => Request::Reserve(reserve),
-            None => Request::Fault(ProtocolFault::NoNumber),
-        },
-        Form::Ask(depth, position) => ask_request(depth, position),
-        Form::Get(Some(job)) => Request::Get(u64::from(job)),
-        Form::Wait(Some(job)) => Request::Wait(u64::from(job)),
-        Form::Cancel(Some(job)) => Request::Cancel(u64::from(job)),
-        Form::Table(Some(job)) => Request::Table(u64::from(job)),
-        Form::Get(None) | Form::Wait(None) | Form::Cancel(None) | Form::Table(None) => {
-            Request::Fault(ProtocolFault::NoNumber)
-        }
-        Form::Quota => Request::Quota,
-        Form::Live => Request::Live,
-        Form::Bye => Request::Bye,
+    if word == b"QUOTA".as_slice() {
+        Some(LineCommand::OnceSeated(Request::Quota))
+    } else if word == b"LIVE".as_slice() {
+        Some(LineCommand::OnceSeated(Request::Live))
+    } else if word == b"BYE".as_slice() {
+        Some(LineCommand::AtAnyTime)
+    } else {
+        None
     }
 }
 
-/// What a command asks for where no tenant is there: only HELLO and BYE are no fault.
-fn early_request(form: Form<'_>) -> Request
-    ensures { request_seen result ≡ early_request (form_seen form.entry) }
+/// The command of a line of two words; `None` unless the first is GET, WAIT, CANCEL or TABLE. A second word that is no
+/// number is its fault.
+fn command_with_one(word: &[u8], argument: &[u8]) -> Option<LineCommand>
+    ensures { option_map line_command_seen result ≡ command_with_one word.now argument.now }
 {
-    match form {
-        Form::Hello(segments, nodes) => match quota_of(segments, nodes) {
-            Some(reserve) => Request::Hello(reserve),
+    let number = word_number(argument);
+    let job = match number {
+        Some(job) => u64::from(job),
+        None => 0,
+    };
+    let asked = if word == b"GET".as_slice() {
+        Request::Get(job)
+    } else if word == b"WAIT".as_slice() {
+        Request::Wait(job)
+    } else if word == b"CANCEL".as_slice() {
+        Request::Cancel(job)
+    } else if word == b"TABLE".as_slice() {
+        Request::Table(job)
+    } else {
+        return None;
+    };
+    if number.is_none() {
+        return Some(LineCommand::OnceSeated(Request::Fault(ProtocolFault::NoNumber)));
+    }
+    Some(LineCommand::OnceSeated(asked))
+}
+
+/// The command of a line of three words or more, where `second` is all that follows the second space. `None` unless the
+/// first is ASK, or it is HELLO or RESERVE with just two arguments.
+fn command_with_two(word: &[u8], first: &[u8], second: &[u8]) -> Option<LineCommand>
+    ensures { option_map line_command_seen result ≡ command_with_two word.now first.now second.now }
+{
+    if word == b"ASK".as_slice() {
+        Some(LineCommand::OnceSeated(ask_request(first, second)))
+    } else if word == b"HELLO".as_slice() && split_at_space(second).is_none() {
+        Some(LineCommand::AtFirst(quota_of(word_number(first), word_number(second))))
+    } else if word == b"RESERVE".as_slice() && split_at_space(second).is_none() {
+        let asked = match quota_of(word_number(first), word_number(second)) {
+            Some(reserve) => Request::Reserve(reserve),
             None => Request::Fault(ProtocolFault::NoNumber),
-        },
-        Form::Bye => Request::Bye,
-        _ => Request::Fault(ProtocolFault::NoHello),
+        };
+        Some(LineCommand::OnceSeated(asked))
+    } else {
+        None
+    }
+}
+
+/// The command of a line, with its arguments; `None` where its first word is unknown or has another number of
+/// arguments.
+fn line_command(line: &[u8]) -> Option<LineCommand>
+    ensures { option_map line_command_seen result ≡ line_command line.now }
+{
+    let Some((word, rest)) = split_at_space(line) else {
+        return command_alone(line);
+    };
+    match split_at_space(rest) {
+        None => command_with_one(word, rest),
+        Some((first, second)) => command_with_two(word, first, second),
+    }
+}
+
+/// What a command asks for, by whether a tenant is there. HELLO is a fault then, and before it all but HELLO and BYE.
+fn command_request(seated: bool, command: LineCommand) -> Request
+    ensures { request_seen result ≡ command_request seated (Some (line_command_seen command)) }
+{
+    match command {
+        LineCommand::AtAnyTime => Request::Bye,
+        LineCommand::AtFirst(_) if seated => Request::Fault(ProtocolFault::HelloAgain),
+        LineCommand::AtFirst(Some(reserve)) => Request::Hello(reserve),
+        LineCommand::AtFirst(None) => Request::Fault(ProtocolFault::NoNumber),
+        LineCommand::OnceSeated(asked) if seated => asked,
+        LineCommand::OnceSeated(_) => Request::Fault(ProtocolFault::NoHello),
     }
 }
 
@@ -103,9 +164,8 @@ pub fn read_request(seated: bool, line: Line<'_>) -> Request
     let Line::Whole(bytes) = line else {
         return Request::Fault(ProtocolFault::LongLine);
     };
-    match form_of(bytes) {
+    match line_command(bytes) {
         None => Request::Fault(ProtocolFault::NoCommand),
-        Some(form) if seated => seated_request(form),
-        Some(form) => early_request(form),
+        Some(command) => command_request(seated, command),
     }
 }

@@ -1,9 +1,10 @@
 //! Serving a session with a client from its first line to its last.
 ghost use Rattle.std.specs.Prelude.{◌≡◌, ◌≢◌, Err, true, false};
+ghost use Rattle.line_io.specs.Leads.{between};
 ghost use Rattle.line_io.specs.Views.{text_of};
-ghost use Rattle.session.specs.Forms.{is_bye};
+ghost use Rattle.session.specs.Requests.{is_bye};
 ghost use Rattle.session.specs.Requests.{request};
-ghost use Rattle.session.specs.Sessions.{Turned, Session, talk_result};
+ghost use Rattle.session.specs.Sessions.{Turned, Session, talk_result, handler_of, Called};
 
 use crate::faults::{End, SessionFault};
 use crate::office::Office;
@@ -39,7 +40,7 @@ impl<'a, O: Office> Handler<'a, O> {
 
 impl<O: Office> LineAnswerer for Handler<'_, O> {
     ghost answers = { λ s line text t. (t.office.ghost_name ≡ s.office.ghost_name)
-        × Turned O.does (request s.seated line) s.office.now s.seated text t.office.now t.seated };
+        × Turned O.does (request s.seated line) (handler_of s.office.now s.seated) text (handler_of t.office.now t.seated) };
 
     ghost kept = { λ handler. handler.text.items };
 
@@ -96,7 +97,7 @@ pub fn serve_lines<S: Source, K: Sink, O: Office, R: Wait>(
     office: &mut O,
 ) -> Result<End, SessionFault>
     requires { O.ready ≡ true }
-    ensures { Session S.gives K.takes O.does source.old sink.old office.old source.new sink.new office.new result }
+    ensures { Session (between S.gives source.old source.new) (between K.takes sink.old sink.new) (between (Called O.does) office.old office.new) result }
 {
     let mut handler = Handler::new(office);
     let talk = talk_lines(rt, source, sink, &mut handler);

@@ -3,7 +3,7 @@ ghost use Rattle.std.specs.Prelude.{◌≡◌, ◌≤◌, Bool, true, length};
 ghost use Rattle.line_io.specs.Views.{text_of};
 ghost use Rattle.session.specs.Calls.{Hello, OfficeReply, Welcome, reply_of};
 ghost use Rattle.session.specs.Requests.{request};
-ghost use Rattle.session.specs.Sessions.{Turned, LeavesIf};
+ghost use Rattle.session.specs.Sessions.{Turned, LeavesIf, handler_of};
 ghost use Rattle.session.specs.Views.{request_seen};
 
 use crate::office::Office;
@@ -32,7 +32,7 @@ fn take_hello<O: Office>(
     text: &mut SessionText,
     reserve: Reserve,
 )
-    ensures turn { Turned O.does (request_seen (Request.Hello reserve)) office.old seated.old text.new.items office.new seated.new }
+    ensures turn { Turned O.does (request_seen (Request.Hello reserve)) (handler_of office.old seated.old) text.new.items (handler_of office.new seated.new) }
     ensures short { length text.new.items ≤ 1114 }
 {
     let reply = office.hello(reserve);
@@ -47,7 +47,7 @@ fn take_hello<O: Office>(
 
 /// Answers a line GET: how the job stands.
 fn tell_job<O: Office>(office: &mut O, text: &mut SessionText, job: u64)
-    ensures turn { (seated : Bool) → Turned O.does (request_seen (Request.Get job)) office.old seated text.new.items office.new seated }
+    ensures turn { (seated : Bool) → Turned O.does (request_seen (Request.Get job)) (handler_of office.old seated) text.new.items (handler_of office.new seated) }
     ensures short { length text.new.items ≤ 1114 }
 {
     let reply = office.get(job);
@@ -56,7 +56,7 @@ fn tell_job<O: Office>(office: &mut O, text: &mut SessionText, job: u64)
 
 /// Answers WAIT: how the job stands, once it has ended.
 fn tell_ended_job<O: Office>(office: &mut O, text: &mut SessionText, job: u64)
-    ensures turn { (seated : Bool) → Turned O.does (request_seen (Request.Wait job)) office.old seated text.new.items office.new seated }
+    ensures turn { (seated : Bool) → Turned O.does (request_seen (Request.Wait job)) (handler_of office.old seated) text.new.items (handler_of office.new seated) }
     ensures short { length text.new.items ≤ 1114 }
 {
     let reply = office.wait(job);
@@ -65,7 +65,7 @@ fn tell_ended_job<O: Office>(office: &mut O, text: &mut SessionText, job: u64)
 
 /// Answers TABLE: how the job stands, with its table where it is done.
 fn tell_table<O: Office>(office: &mut O, text: &mut SessionText, job: u64)
-    ensures turn { (seated : Bool) → Turned O.does (request_seen (Request.Table job)) office.old seated text.new.items office.new seated }
+    ensures turn { (seated : Bool) → Turned O.does (request_seen (Request.Table job)) (handler_of office.old seated) text.new.items (handler_of office.new seated) }
     ensures short { length text.new.items ≤ 1114 }
 {
     let reply = office.get(job);
@@ -81,7 +81,7 @@ pub fn answer_request<O: Office>(
     request: Request,
 )
     requires { O.ready ≡ true }
-    ensures turn { Turned O.does (request_seen request) office.old seated.old text.new.items office.new seated.new }
+    ensures turn { Turned O.does (request_seen request) (handler_of office.old seated.old) text.new.items (handler_of office.new seated.new) }
     ensures short { length text.new.items ≤ 1114 }
 {
     match request {
@@ -111,7 +111,7 @@ pub(crate) fn take_turn<O: Office>(
     line: Line<'_>,
 )
     requires { O.ready ≡ true }
-    ensures turn { Turned O.does (request seated.old (text_of line.entry)) office.old seated.old text.new.items office.new seated.new }
+    ensures turn { Turned O.does (request seated.old (text_of line.entry)) (handler_of office.old seated.old) text.new.items (handler_of office.new seated.new) }
     ensures short { length text.new.items ≤ 1114 }
 {
     let request = read_request(*seated, line);

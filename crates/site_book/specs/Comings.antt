@@ -7,6 +7,7 @@ use Rattle.site_book.specs.declared.refusal.BookRefusal.TheVariants.{OverGuests}
 use Rattle.site_book.specs.declared.who.Who.{Who}
 use Rattle.site_book.specs.Plans.{PlanOf}
 use Rattle.site_book.specs.Books.{why_over}
+use Rattle.site_book.specs.declared.coming.Comer.{Comer}
 use Rattle.site_book.specs.declared.coming.Coming.{Coming}
 use Rattle.site_book.specs.declared.coming.Coming.TheVariants.{Enters, Waits, Ends, Refused}
 use Rattle.site_book.specs.declared.present.Leaver.TheVariants.{Told as those_told, Idle as those_idle}
@@ -38,11 +39,16 @@ abbrev pub by_book : Option BookRefusal → Option BookRefusal → Option BookRe
 by_book None staying why idle = Enters
 by_book (Some refusal) staying why idle = if_refused refusal staying why idle
 
+-- one who asks for a session with this reservation at this time, where a guest may be silent for so many milliseconds
+abbrev pub comer_of : Who → Quota → ℕ → ℕ → Comer
+comer_of who ask at most = record { who = who; ask = ask; at = at; most = most }
+
 -- what comes of one who asks for a session: it enters where the book allows it; it waits for those who were told to end, where they leave
 -- room; where guests have too much and idle ones would leave room, the idlest is to end; or else it is refused
-abbrev pub coming : PlanOf → List Grant → List Present → Who → Quota → ℕ → ℕ → Coming
-coming plan grants roll who ask now most =
-    by_book (why_over plan who ask grants) (why_over plan who ask (remaining those_told grants roll)) (why_over plan who ask (remaining (those_idle now most) grants roll)) (idlest now most roll)
+abbrev pub coming : PlanOf → List Grant → List Present → Comer → Coming
+coming plan grants roll comer =
+    by_book (why_over plan comer.who comer.ask grants) (why_over plan comer.who comer.ask (remaining those_told grants roll))
+    (why_over plan comer.who comer.ask (remaining (those_idle comer.at comer.most) grants roll)) (idlest comer.at comer.most roll)
 
 -- whether a session stays under another plan, where these grants before it stay: it wasn't told to end, and the plan
 -- allows it beside them

@@ -6,7 +6,7 @@ use Rattle.site_book.specs.declared.who.Who.TheVariants.{V4}
 use Rattle.site_book.specs.Rows.{ask, school, small}
 use Rattle.site_book.specs.declared.coming.Coming.{Coming}
 use Rattle.site_book.specs.declared.present.Present.{Present}
-use Rattle.site_book.specs.Comings.{coming}
+use Rattle.site_book.specs.Comings.{coming, comer_of}
 use Rattle.site_book.specs.Rolls.{newcomer}
 
 -- the grant of the guest of this number, of 4 segments and 50 nodes
@@ -32,4 +32,4 @@ two_guests = guest_held 1 ∷ guest_held 2 ∷ []
 -- what comes of one who asks for a session of 1 segment and 1 node while guests 1 and 2 are there, where a guest may be
 -- silent for 60 milliseconds
 abbrev pub asks : List Present → Who → ℕ → Coming
-asks roll who now = coming small two_guests roll who (ask 1 1) now 60
+asks roll who now = coming small two_guests roll (comer_of who (ask 1 1) now 60)

@@ -42,7 +42,7 @@ pub struct Comer {
 pub fn what_comes_of(plan: &Plan, grants: &[Grant], roll: &[Present], comer: &Comer) -> Coming
     requires few { length grants.now ≤ 64 }
     requires alike { length grants.now ≡ length roll.now }
-    ensures { result ≡ coming plan.now grants.now roll.now comer.now.who comer.now.ask comer.now.at comer.now.most }
+    ensures { result ≡ coming plan.now grants.now roll.now comer.now }
 {
     let Some(refusal) = why_over(plan, grants, comer.who, comer.ask) else {
         return Coming::Enters;

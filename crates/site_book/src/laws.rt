@@ -21,7 +21,7 @@ ghost use Rattle.site_book.specs.declared.coming.Coming.TheVariants.{Enters, Wai
 ghost use Rattle.site_book.specs.declared.present.Leaver.TheVariants.{Told as those_told, Idle as those_idle};
 ghost use Rattle.site_book.specs.declared.present.Present.{Present};
 ghost use Rattle.site_book.specs.Rolls.{goes, is_idle, remaining};
-ghost use Rattle.site_book.specs.Comings.{coming, told_by};
+ghost use Rattle.site_book.specs.Comings.{coming, told_by, comer_of};
 
 /// A refusal is a customer's own: a session and a raise are granted exactly where the customer's own budget and, of a guest, those
 /// of its wider network and of all guests allow it.
@@ -89,16 +89,16 @@ pub fn all_comes_back()
 #[tactic(auto, using(crate::proofs::ComingLemmas::only_enters))]
 pub fn who_has_budget_enters()
     ensures enters { (plan : PlanOf) (grants : List Grant) (roll : List Present) (who : Who) (ask : Quota) (now most : ℕ) →
-        why_over plan who ask grants ≡ None → coming plan grants roll who ask now most ≡ Enters }
+        why_over plan who ask grants ≡ None → coming plan grants roll (comer_of who ask now most) ≡ Enters }
     ensures only { (plan : PlanOf) (grants : List Grant) (roll : List Present) (who : Who) (ask : Quota) (now most : ℕ) →
-        coming plan grants roll who ask now most ≡ Enters → why_over plan who ask grants ≡ None }
+        coming plan grants roll (comer_of who ask now most) ≡ Enters → why_over plan who ask grants ≡ None }
 {}
 
 /// No session of a named customer goes for another's, and no guest's that isn't idle: one that is to end for one who comes is a guest's,
 /// waits for no job, wasn't told to end before and has said nothing for longer than a guest may.
 pub fn only_idle_guests_go_for_another()
     ensures { (plan : PlanOf) (grants : List Grant) (roll : List Present) (who : Who) (ask : Quota) (now most session : ℕ) (refusal : BookRefusal) →
-        coming plan grants roll who ask now most ≡ Ends session refusal →
+        coming plan grants roll (comer_of who ask now most) ≡ Ends session refusal →
         (present : Present) × Contains roll present × (present.session ≡ session) × (is_guest present.who ≡ true) × (present.told ≡ None) × (present.waits ≡ false) × (most < now - present.last) }
 {}
 
@@ -106,11 +106,11 @@ pub fn only_idle_guests_go_for_another()
 /// much, not even when all idle guests have gone as well.
 pub fn who_is_refused_has_no_room()
     ensures now { (plan : PlanOf) (grants : List Grant) (roll : List Present) (who : Who) (ask : Quota) (now most : ℕ) (refusal : BookRefusal) →
-        coming plan grants roll who ask now most ≡ Refused refusal → why_over plan who ask grants ≡ Some refusal }
+        coming plan grants roll (comer_of who ask now most) ≡ Refused refusal → why_over plan who ask grants ≡ Some refusal }
     ensures then { (plan : PlanOf) (grants : List Grant) (roll : List Present) (who : Who) (ask : Quota) (now most : ℕ) (refusal : BookRefusal) →
-        coming plan grants roll who ask now most ≡ Refused refusal → why_over plan who ask (remaining those_told grants roll) ≢ None }
+        coming plan grants roll (comer_of who ask now most) ≡ Refused refusal → why_over plan who ask (remaining those_told grants roll) ≢ None }
     ensures idle { (plan : PlanOf) (grants : List Grant) (roll : List Present) (who : Who) (ask : Quota) (now most : ℕ) →
-        coming plan grants roll who ask now most ≡ Refused OverGuests → why_over plan who ask (remaining (those_idle now most) grants roll) ≢ None }
+        coming plan grants roll (comer_of who ask now most) ≡ Refused OverGuests → why_over plan who ask (remaining (those_idle now most) grants roll) ≢ None }
 {}
 
 /// Another plan of the same hall, whose sums fit, comes in once those have gone who were told to end for it.

@@ -14,7 +14,7 @@ ghost use Rattle.site_book.specs.declared.present.Told.TheVariants.{Gone, ByOper
 ghost use Rattle.site_book.specs.declared.present.Whom.TheVariants.{One, Each};
 ghost use Rattle.site_book.specs.Rolls.{idlest, marked_all, names_present, newcomer, remaining, without_present};
 ghost use Rattle.site_book.specs.RollRows.{guest_held, named_held, guest, named_present, asks};
-ghost use Rattle.site_book.specs.Comings.{coming, told_by};
+ghost use Rattle.site_book.specs.Comings.{coming, told_by, comer_of};
 
 /// A mark (it spoke, it waits, it is told to end) changes just the sessions that it means; the first reason to end
 /// stays.
@@ -40,8 +40,8 @@ pub fn a_third_guest()
 
 /// Of a customer that has its two sessions none goes for its third, but the third waits for one that is leaving.
 pub fn a_customers_third_session()
-    ensures full { coming small (named_held 1 5 ∷ named_held 2 5 ∷ []) (named_present 1 5 ∷ named_present 2 6 ∷ []) school (ask 5 5) 999999 60 ≡ Refused OverBudget }
-    ensures leaving { coming small (named_held 1 5 ∷ named_held 2 5 ∷ []) (record (named_present 1 5) { told = Some Gone } ∷ named_present 2 6 ∷ []) school (ask 5 5) 7 60 ≡ Waits OverBudget }
+    ensures full { coming small (named_held 1 5 ∷ named_held 2 5 ∷ []) (named_present 1 5 ∷ named_present 2 6 ∷ []) (comer_of school (ask 5 5) 999999 60) ≡ Refused OverBudget }
+    ensures leaving { coming small (named_held 1 5 ∷ named_held 2 5 ∷ []) (record (named_present 1 5) { told = Some Gone } ∷ named_present 2 6 ∷ []) (comer_of school (ask 5 5) 7 60) ≡ Waits OverBudget }
 {}
 
 /// Under a plan that gives the first customer half of what it has, its second session ends; the second customer's stays.

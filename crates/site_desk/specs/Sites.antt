@@ -50,7 +50,7 @@ IsListed book roll = names_present roll ≡ names_granted book.grants
 
 -- what comes of one who asks for a session at the desk, by its book, its roll and the time
 abbrev pub met : SiteOf → Comer → Coming
-met site comer = coming site.booked.book.plan site.booked.book.grants site.roll comer.who comer.ask comer.at comer.most
+met site comer = coming site.booked.book.plan site.booked.book.grants site.roll comer
 
 -- what is done where one asks a site's desk for a session. Where it enters, all at once: its tenant is admitted; its
 -- grant is entered, and the book's history has it; it is listed; and its share of the workers begins. Where a guest is

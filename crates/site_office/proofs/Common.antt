@@ -20,7 +20,7 @@ pub use Rattle.desk.specs.Histories.{IsLook, IsTrueTo, Took, core_at, lone_tenan
 pub use Rattle.session.specs.Asks.{KeepsAsks}
 pub use Rattle.std.specs.Prelude.{Contains, IfErr, MatchResult, sum_by}
 pub use Rattle.hall.specs.Halls.{HallOf}
-pub use Rattle.line_io.specs.Leads.{Answers, Leads}
+pub use Rattle.line_io.specs.Leads.{Answers, Leads, answering, between}
 pub use Rattle.line_io.specs.Lines.{LineText, TooLong, Whole}
 pub use Rattle.line_io.specs.Runs.{bytes_due, write_result}
 pub use Rattle.line_io.specs.Streams.{ReadAnswer, WriteAnswer}
@@ -36,9 +36,9 @@ pub use Rattle.session.proofs.DoneLemmas.{each-done}
 pub use Rattle.session.proofs.Served.{next_turns}
 pub use Rattle.session.proofs.TrueCalls.{all-true}
 pub use Rattle.session.specs.Calls.{Alive, AskLive, AskQuota, Call, Cancel, Ended, Get, Gone, Hello, Job, Leave, OfficeReply, Refused, Rest, Reserve, Reserved, Told, Wait, Welcome, reply_of}
-pub use Rattle.session.specs.Forms.{is_bye}
+pub use Rattle.session.specs.Requests.{is_bye}
 pub use Rattle.session.specs.Requests.{Ends, Fault, Makes, Request, Tabulates, request}
-pub use Rattle.session.specs.Sessions.{Called, LeavesIf, Turned, calls_for, session_lines}
+pub use Rattle.session.specs.Sessions.{Called, LeavesIf, Turned, calls_for, handler_of, session_lines}
 pub use Rattle.session.specs.Turns.{Closed, Faulted, LineTurn, Made, Tabulated, calls_in, leaving, reply_text, seated_after, turn_text, turns}
 pub use Rattle.session.specs.declared.faults.End.TheVariants.{Bye}
 pub use Rattle.session.specs.declared.faults.SessionFault.TheVariants.{Write}
@@ -52,7 +52,7 @@ pub use Rattle.site_office.specs.Offices.{IsSameSeat, SiteOfficeOf, at_site, off
 pub use Rattle.site_office.specs.Refusing.{comer_refusals, live_answer, raise_refusal}
 pub use Rattle.site_office.specs.Sessions.{AnyText, AreMixed, IsBeside, IsTenantAt, MayBeOwn, SeenSiteSession, tokenless, seated_by}
 pub use Rattle.site_office.specs.Tokens.{is_token, last_word, less_token, token_after, token_by, token_of, without_token, word_after, word_after_two}
-pub use Rattle.site_office.specs.Turns.{IsGreeted, IsRaised, IsRefused, IsWelcomed, SiteTurned}
+pub use Rattle.site_office.specs.Turns.{IfPaid, IsRefused, IsWelcomed, SiteTurned, site_relations}
 pub use Rattle.site_office.specs.declared.access.Greeted.{Greeted}
 pub use Rattle.site_office.specs.declared.access.Greeted.TheVariants.{Crowded, Known, Unknown}
 pub use Rattle.site_office.specs.declared.access.Info.{Info}

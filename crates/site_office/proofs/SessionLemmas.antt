@@ -1,5 +1,5 @@
 -- A site's session in the history of its desk.
-use Rattle.site_office.proofs.Common.{◌≡◌, ℕ, List, [], ◌∷◌, ◌++◌, Bool, true, false, refl, sym, ap, subst, ◌∙◌, inl, inr, Option, Some, None, Result, Ok, Err, concat, is_some, option_map, LineText, Answers, Leads, WriteFailed, LineFault, TalkEnd, IsAnswered, ReadAnswer, WriteAnswer, Talk, bytes_due, write_result, HallOf, SeatOf, Call, Hello, Get, Leave, OfficeReply, Gone, Request, Fault, Makes, Tabulates, Ends, request, LineTurn, Faulted, Made, Tabulated, Closed, turns, calls_in, leaving, calls_for, seated_after, turn_text, Called, LeavesIf, Turned, session_lines, is_bye, Bye, Write, next_turns, each-done, all-true, IsOneTenancy, IsTenantOf, OfficeOf, vacant, asks_of, is_stay, IsHello, IsTurnAt, IsTurnOf, answered-ends, ends-is_bye, one-tenant, seated-stays, stays-seated, EndsAtBye, kept, Greeted, Info, SiteTurned, site_request, SiteSeatOf, SiteTraceOf, SiteOfficeOf, office_of, IsSiteTurn, IsTracedAt, Stays, AnyText, AreMixed, IsBeside, IsTenantAt, MayBeOwn, SeenSiteSession, tokenless, seated_by}
+use Rattle.site_office.proofs.Common.{◌≡◌, ℕ, List, [], ◌∷◌, ◌++◌, Bool, true, false, refl, sym, ap, subst, ◌∙◌, inl, inr, Option, Some, None, Result, Ok, Err, concat, is_some, option_map, LineText, Answers, Leads, WriteFailed, LineFault, TalkEnd, IsAnswered, ReadAnswer, WriteAnswer, Talk, bytes_due, write_result, HallOf, SeatOf, Call, Hello, Get, Leave, OfficeReply, Gone, Request, Fault, Makes, Tabulates, Ends, request, LineTurn, Faulted, Made, Tabulated, Closed, turns, calls_in, leaving, calls_for, seated_after, turn_text, Called, LeavesIf, Turned, session_lines, is_bye, Bye, Write, next_turns, each-done, all-true, IsOneTenancy, IsTenantOf, OfficeOf, vacant, asks_of, is_stay, IsHello, IsTurnAt, IsTurnOf, answered-ends, ends-is_bye, one-tenant, seated-stays, stays-seated, EndsAtBye, kept, Greeted, Info, SiteTurned, site_request, SiteSeatOf, SiteTraceOf, SiteOfficeOf, office_of, IsSiteTurn, IsTracedAt, Stays, AnyText, AreMixed, IsBeside, IsTenantAt, MayBeOwn, SeenSiteSession, tokenless, seated_by, between, answering, site_relations, handler_of}
 use Rattle.site_office.proofs.BareLines.{bye-bare}
 use Rattle.site_office.proofs.LineLemmas.{leaves-own, line-came, Came, IsOwn}
 use Rattle.site_office.proofs.SeatLemmas.{none-of}
@@ -103,7 +103,7 @@ module _ (begun : ℕ → HallOf) where
         made = λ end left. let m = r.made end left in (subst (λ (o : OfficeOf). Leads (Called (IsTurnAt (begun n))) o (calls_in seated (turn ∷ r.turned)) (office_of end)) (same-office from met s) (leads end m.0), λ k. m.1 (knew (subst (IsOf n) (sym s.knew) k)));
       }
 
-      in-session : (q : Request) → request seated (tokenless line) ≡ q → (seated' : Bool) → Turned (IsOwnAt n) q met seated text next seated' → Lines n next seated' lines texts to seated'' → Lines n from seated (line ∷ lines) (text ∷ texts) to seated''
+      in-session : (q : Request) → request seated (tokenless line) ≡ q → (seated' : Bool) → Turned (IsOwnAt n) q (handler_of met seated) text (handler_of next seated') → Lines n next seated' lines texts to seated'' → Lines n from seated (line ∷ lines) (text ∷ texts) to seated''
       in-session (Fault fault) is seated' h r =
           let r' = subst (λ b. Lines n next b lines texts to seated'') h.1 r in
           own-line (Faulted fault) h.2 r' r'.replies (ap (λ x. next_turns x seated r'.own r'.replies) is ∙ ap (λ (l : List LineTurn). Faulted fault ∷ l) r'.are)
@@ -147,13 +147,13 @@ module _ (begun : ℕ → HallOf) where
       met-there b e = stays.there ∙ e
 
       by-call : (b : Bool) → is_some from.seat ≡ b → MayBeOwn (site_request b line) → (q : Request) (call : Call) (reply : OfficeReply) → request b (tokenless line) ≡ q → (b ≡ true → is_stay call ≡ true) → IsOwn begun met call reply next → s' ≡ seated_after b reply →
-          ((n : ℕ) → IsOwnAt n met call reply next → Turned (IsOwnAt n) q met b text next s') → Walk from b (line ∷ lines) (text ∷ texts) to s''
+          ((n : ℕ) → IsOwnAt n met call reply next → Turned (IsOwnAt n) q (handler_of met b) text (handler_of next s')) → Walk from b (line ∷ lines) (text ∷ texts) to s''
       by-call b e may q call reply is stay t new turned =
           let w = again (t.there ∙ ap (λ z. seated_after z reply) (met-there b e) ∙ sym new) in
           let o = own-at w.0 met next call reply b s' (met-there b e) new stay t w.1 in
           (w.0, λ there. sym (stays.place (e ∙ there)) ∙ o.1 there, in-session w.0 line lines text texts b from to s'' met next stays may last q is s' (turned w.0 o.0) w.2)
 
-      by : (b : Bool) → is_some from.seat ≡ b → MayBeOwn (site_request b line) → (q : Request) → request b (tokenless line) ≡ q → Turned (IsOwn begun) q met b text next s' → Walk from b (line ∷ lines) (text ∷ texts) to s''
+      by : (b : Bool) → is_some from.seat ≡ b → MayBeOwn (site_request b line) → (q : Request) → request b (tokenless line) ≡ q → Turned (IsOwn begun) q (handler_of met b) text (handler_of next s') → Walk from b (line ∷ lines) (text ∷ texts) to s''
       by b e may (Fault fault) is h =
           let w = again (ap (λ (o : SiteOfficeOf). is_some o.seat) (sym h.0) ∙ met-there b e ∙ sym h.1) in
           (w.0, λ there. sym (stays.place (e ∙ there)) ∙ ap (λ (o : SiteOfficeOf). o.at) h.0 ∙ w.1 (h.1 ∙ there), in-session w.0 line lines text texts b from to s'' met next stays may last (Fault fault) is s' h w.2)
@@ -180,7 +180,7 @@ module _ (begun : ℕ → HallOf) where
       (paid : (from : O) (passes : Bool) (to : O) → pays from passes to → Stays (seen from) (seen to))
       (informed : (from : O) (info : Info) (to : O) → informs from info to → Stays (seen from) (seen to))
       (office : A → O) (seated : A → Bool) (answers : A → LineText → List ℕ → A → Type 0)
-      (turned : (a : A) (line : LineText) (text : List ℕ) (b : A) → answers a line text b → SiteTurned does greets pays informs (site_request (seated a) line) (office a) (seated a) text (office b) (seated b)) where
+      (turned : (a : A) (line : LineText) (text : List ℕ) (b : A) → answers a line text b → SiteTurned (site_relations does greets pays informs) (site_request (seated a) line) (handler_of (office a) (seated a)) text (handler_of (office b) (seated b))) where
     abbrev pub at : A → SiteOfficeOf
     at a = seen (office a)
 
@@ -203,7 +203,7 @@ module _ (begun : ℕ → HallOf) where
 
     -- a talk whose office starts without a tenant, and whose tenant then leaves
     pub seen-site : {S K : Type 0} (gives : S → ReadAnswer → S → Type 0) (takes : K → WriteAnswer → K → Type 0) (s s' : S) (k k' : K) (a b : A) (end : O) (r : Result TalkEnd LineFault) → (at a).seat ≡ None → (at a).knew ≡ None → seated a ≡ false →
-        Talk gives takes answers is_bye s k a s' k' b r → LeavesIf does (seated b) (office b) end → SeenSiteSession begun gives takes s k s' k' r (seen end).knew
+        Talk (between gives s s') (between takes k k') (answering answers a b) is_bye r → LeavesIf does (seated b) (office b) end → SeenSiteSession begun (between gives s s') (between takes k k') r (seen end).knew
     seen-site gives takes s s' k k' a b end r no_seat none_left new talk left =
         let y = talk.lines in
         let w = walk a y.answered y.texts b (ends-of (write_result r) y.answered (bytes_due r (concat talk.blocks)) y.texts y.rest y.ends) (ap is_some no_seat ∙ sym new) y.answers_lead in

@@ -3,7 +3,7 @@
 use Rattle.std.specs.Prelude.{◌≡◌, ◌⊎◌, ℕ, List, [], ◌∷◌, Bool, false, Option, Some, None, Result, codes}
 use Rattle.line_io.specs.declared.faults.LineFault.{LineFault}
 use Rattle.line_io.specs.declared.talking.TalkEnd.{TalkEnd}
-use Rattle.line_io.specs.Leads.{Leads}
+use Rattle.line_io.specs.Leads.{Leads, Passage, answering}
 use Rattle.line_io.specs.Lines.{LineText, Whole, TooLong}
 use Rattle.line_io.specs.Streams.{ReadAnswer, WriteAnswer}
 use Rattle.line_io.specs.Talks.{Talk}
@@ -14,7 +14,7 @@ use Rattle.hall.specs.Halls.{HallOf}
 use Rattle.session.specs.Asks.{Asked, KeepsAsks}
 use Rattle.session.specs.Calls.{Call, OfficeReply}
 use Rattle.session.specs.DoneLines.{EachDoneIsTrue}
-use Rattle.session.specs.Forms.{is_bye}
+use Rattle.session.specs.Requests.{is_bye}
 use Rattle.session.specs.Requests.{Fault}
 use Rattle.session.specs.Sessions.{Called, calls_for}
 use Rattle.session.specs.Turns.{LineTurn, Faulted, Made, Tabulated, Closed, seated_after, turn_text, turns}
@@ -82,8 +82,8 @@ IsTenantAt begun calls (Some trace) = IsOneTenancy (begun trace.at) calls trace.
 -- were answered by what was written: some beside the session, the others as lines of a session (`own`), to whose calls the office replied this. Each
 -- JOB, DONE and TABLE line is true; it had one tenant at most; and the calls that its own lines made were answered by the tenant's own part of
 -- the history
-pub record SeenSiteSession {S K : Type 0} (begun : ℕ → HallOf) (gives : S → ReadAnswer → S → Type 0) (takes : K → WriteAnswer → K → Type 0) (source : S) (sink : K) (source' : S) (sink' : K) (r : Result TalkEnd LineFault) (knew : Option SiteTraceOf) : Type 0 where
-  pub talk : Talk gives takes AnyText is_bye source sink tt source' sink' tt r
+pub record SeenSiteSession {S K : Type 0} (begun : ℕ → HallOf) (reading : Passage S ReadAnswer) (writing : Passage K WriteAnswer) (r : Result TalkEnd LineFault) (knew : Option SiteTraceOf) : Type 0 where
+  pub talk : Talk reading writing (answering AnyText tt tt) is_bye r
   pub own : List LineText
   pub replies : List OfficeReply
   pub mixed : AreMixed false talk.lines.answered talk.lines.texts own (turns false own replies)

@@ -1,10 +1,11 @@
 //! A site's session from its first line to its last.
 ghost use Rattle.std.specs.Prelude.{◌≡◌, true, false};
-ghost use Rattle.session.specs.Forms.{is_bye};
-ghost use Rattle.session.specs.Sessions.{LeavesIf};
+ghost use Rattle.line_io.specs.Leads.{between, answering};
+ghost use Rattle.session.specs.Requests.{is_bye};
+ghost use Rattle.session.specs.Sessions.{LeavesIf, handler_of};
 ghost use Rattle.line_io.specs.Talks.{Talk};
 ghost use Rattle.site_office.specs.Lines.{site_request};
-ghost use Rattle.site_office.specs.Turns.{SiteTurned};
+ghost use Rattle.site_office.specs.Turns.{SiteTurned, site_relations};
 
 use crate::access::AccessControl;
 use crate::turns::take_site_turn;
@@ -39,7 +40,7 @@ impl<'a, O: Office + AccessControl> SiteHandler<'a, O> {
 
 impl<O: Office + AccessControl> LineAnswerer for SiteHandler<'_, O> {
     ghost answers = { λ s line text t. (t.office.ghost_name ≡ s.office.ghost_name)
-        × SiteTurned O.does O.greets O.pays O.informs (site_request s.seated line) s.office.now s.seated text t.office.now t.seated };
+        × SiteTurned (site_relations O.does O.greets O.pays O.informs) (site_request s.seated line) (handler_of s.office.now s.seated) text (handler_of t.office.now t.seated) };
 
     ghost kept = { λ handler. handler.text.items };
 
@@ -77,7 +78,7 @@ pub fn serve_site<'a, S: Source, K: Sink, O: Office + AccessControl, R: Wait>(
 ) -> Result<TalkEnd, LineFault>
     requires { O.ready ≡ true }
     ensures { (from to : SiteHandler O _ _) × (from.office.now ≡ office.old) × (from.seated ≡ false)
-        × Talk S.gives K.takes ⟦<SiteHandler<'a, O> as LineAnswerer>⟧.answers is_bye source.old sink.old from source.new sink.new to result
+        × Talk (between S.gives source.old source.new) (between K.takes sink.old sink.new) (answering ⟦<SiteHandler<'a, O> as LineAnswerer>⟧.answers from to) is_bye result
         × LeavesIf O.does to.seated to.office.now office.new }
 {
     let mut handler = SiteHandler::new(office);

@@ -1,10 +1,11 @@
 //! Laws on whole sessions of a site. A function here does nothing: its contract is the law.
 ghost use Rattle.std.specs.Prelude.{◌≡◌, ℕ, List, Bool, false, Option, Result};
+ghost use Rattle.line_io.specs.Leads.{between, answering};
 ghost use Rattle.line_io.specs.declared.faults.LineFault.{LineFault};
 ghost use Rattle.line_io.specs.declared.talking.TalkEnd.{TalkEnd};
 ghost use Rattle.line_io.specs.Talks.{Talk};
 ghost use Rattle.session.specs.Calls.{Call, OfficeReply};
-ghost use Rattle.session.specs.Forms.{is_bye};
+ghost use Rattle.session.specs.Requests.{is_bye};
 ghost use Rattle.session.specs.Sessions.{LeavesIf};
 ghost use Rattle.session.specs.Turns.{seated_after};
 ghost use Rattle.site_office.specs.declared.access.Greeted.{Greeted};
@@ -28,7 +29,7 @@ pub fn nobody_stays<'a, S: Source, K: Sink, O: Office + AccessControl>()
         → ((from : O) (info : Info) (to : O) → O.informs from info to → here to ≡ here from)
         → (from to : SiteHandler O _ _) (source source' : S) (sink sink' : K) (office : O) (r : Result TalkEnd LineFault)
         → here from.office.now ≡ false → from.seated ≡ false
-        → Talk S.gives K.takes ⟦<SiteHandler<'a, O> as LineAnswerer>⟧.answers is_bye source sink from source' sink' to r
+        → Talk (between S.gives source source') (between K.takes sink sink') (answering ⟦<SiteHandler<'a, O> as LineAnswerer>⟧.answers from to) is_bye r
         → LeavesIf O.does to.seated to.office.now office
         → here office ≡ false }
 {}

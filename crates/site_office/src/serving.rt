@@ -1,5 +1,6 @@
 //! The sessions of a site's connection: bytes in and bytes out.
 ghost use Rattle.std.specs.Prelude.{◌≡◌, None};
+ghost use Rattle.line_io.specs.Leads.{between};
 ghost use Rattle.site_office.specs.Sessions.{SeenSiteSession};
 
 use crate::environment::Environment;
@@ -46,7 +47,7 @@ where
     H: Environment,
     R: Wait + Clock,
     A: Allocator + Clone,
-    ensures { SeenSiteSession J.begun S.gives K.takes source.old sink.old source.new sink.new result.0 result.1 }
+    ensures { SeenSiteSession J.begun (between S.gives source.old source.new) (between K.takes sink.old sink.new) result.0 result.1 }
 {
     let Connection {
         desks,
@@ -77,7 +78,7 @@ where
     A: Allocator + Clone,
     requires { office.old.seat ≡ None }
     ensures nobody { office.new.seat ≡ None }
-    ensures seen { office.old.knew ≡ None → SeenSiteSession J.begun S.gives K.takes source.old sink.old source.new sink.new result office.new.knew }
+    ensures seen { office.old.knew ≡ None → SeenSiteSession J.begun (between S.gives source.old source.new) (between K.takes sink.old sink.new) result office.new.knew }
 {
     let end = serve_site(rt, source, sink, office);
     nobody_stays::<S, K, SiteOffice<'_, J, H, R, A>>();

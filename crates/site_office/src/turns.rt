@@ -3,8 +3,9 @@ ghost use Rattle.std.specs.Prelude.{◌≡◌, ◌+◌, ◌≤◌, ◌++◌, tru
 ghost use Rattle.std.specs.Option.{option_copied};
 ghost use Rattle.line_io.specs.Views.{text_of};
 ghost use Rattle.protocol.specs.Texts.{error_text};
+ghost use Rattle.session.specs.Sessions.{handler_of};
 ghost use Rattle.site_office.specs.Lines.{Greets, Raises, Informs, site_request};
-ghost use Rattle.site_office.specs.Turns.{IsWelcomed, SiteTurned, info_text, spaced_number};
+ghost use Rattle.site_office.specs.Turns.{IsWelcomed, SiteTurned, info_text, site_relations, spaced_number};
 ghost use Rattle.site_office.specs.Views.{asked_seen};
 
 use crate::access::{AccessControl, Greeted, Info};
@@ -78,7 +79,7 @@ fn welcome<O: Office>(
     reserve: Reserve,
 )
     requires { O.ready ≡ true }
-    ensures turn { IsWelcomed O.does greeted reserve office.old seated.old text.new.items office.new seated.new }
+    ensures turn { IsWelcomed O.does greeted reserve (handler_of office.old seated.old) text.new.items (handler_of office.new seated.new) }
     ensures short { length text.new.items ≤ 1114 }
 {
     match greeted {
@@ -98,7 +99,7 @@ fn take_greeting<O: Office + AccessControl>(
     reserve: Reserve,
 )
     requires { O.ready ≡ true }
-    ensures turn { SiteTurned O.does O.greets O.pays O.informs (Greets (option_copied token.entry) reserve) office.old seated.old text.new.items office.new seated.new }
+    ensures turn { SiteTurned (site_relations O.does O.greets O.pays O.informs) (Greets (option_copied token.entry) reserve) (handler_of office.old seated.old) text.new.items (handler_of office.new seated.new) }
     ensures short { length text.new.items ≤ 1114 }
 {
     let greeted = office.greet(token);
@@ -117,7 +118,7 @@ fn take_raise<O: Office + AccessControl>(
     reserve: Reserve,
 )
     requires { O.ready ≡ true }
-    ensures turn { SiteTurned O.does O.greets O.pays O.informs (Raises reserve) office.old seated.old text.new.items office.new seated.new }
+    ensures turn { SiteTurned (site_relations O.does O.greets O.pays O.informs) (Raises reserve) (handler_of office.old seated.old) text.new.items (handler_of office.new seated.new) }
     ensures short { length text.new.items ≤ 1114 }
 {
     if office.pay() {
@@ -135,7 +136,7 @@ pub fn take_site_turn<O: Office + AccessControl>(
     line: Line<'_>,
 )
     requires { O.ready ≡ true }
-    ensures turn { SiteTurned O.does O.greets O.pays O.informs (site_request seated.old (text_of line.entry)) office.old seated.old text.new.items office.new seated.new }
+    ensures turn { SiteTurned (site_relations O.does O.greets O.pays O.informs) (site_request seated.old (text_of line.entry)) (handler_of office.old seated.old) text.new.items (handler_of office.new seated.new) }
     ensures short { length text.new.items ≤ 1114 }
 {
     match read_site_request(*seated, line) {

@@ -24,7 +24,7 @@ pub use Rattle.jamboree_core.specs.jamboree_rules.declared.leaf.Leaf.{Leaf}
 pub use Rattle.jamboree_core.specs.jamboree_rules.declared.leaf.LeafAnswer.{LeafAnswer}
 pub use Rattle.jamboree_core.specs.sched_laws.Fitted.{origins_after, submits}
 pub use Rattle.line_io.proofs.ByFunction.{Run-function, Run-related, Run-written}
-pub use Rattle.line_io.specs.Leads.{Answers}
+pub use Rattle.line_io.specs.Leads.{Answers, answering, between}
 pub use Rattle.line_io.specs.Lines.{LineText, lines_of}
 pub use Rattle.line_io.specs.Runs.{IsOutput, Run, answers_to, bytes_due, write_result}
 pub use Rattle.line_io.specs.Streams.{ReadAnswer, WriteAnswer}

@@ -1,6 +1,6 @@
 -- Where each line is answered by a text that `solve` may answer to it, what `solve` writes is the answers to the lines
 -- for some list of lines that were refused memory.
-use Rattle.solve_engine.proofs.Common.{◌≡◌, ℕ, suc, Bool, List, [], ◌∷◌, ◌++◌, length, refl, sym, ap, ◌∙◌, append_assoc, append-nil, arith, length-append, Result, Ok, Err, concat, LineFault, WriteFailed, LineText, lines_of, Answers, ReadAnswer, WriteAnswer, IsAnswered, written_texts, with_newline, Run, IsOutput, answers_to, bytes_due, write_result, Run-written, solve_line, solve_line_unless, IsSolvedLine, answers_unless, OrderedRun, SolvedRun, subst}
+use Rattle.solve_engine.proofs.Common.{◌≡◌, ℕ, suc, Bool, List, [], ◌∷◌, ◌++◌, length, refl, sym, ap, ◌∙◌, append_assoc, append-nil, arith, length-append, Result, Ok, Err, concat, LineFault, WriteFailed, LineText, lines_of, Answers, ReadAnswer, WriteAnswer, IsAnswered, written_texts, with_newline, Run, IsOutput, answers_to, bytes_due, write_result, Run-written, solve_line, solve_line_unless, IsSolvedLine, answers_unless, OrderedRun, SolvedRun, subst, between, answering}
 
 -- which of these lines were refused memory: a flag for each, and the answers are those texts
 pub record AreRefusals (lines : List LineText) (texts : List (List ℕ)) : Type 0 where
@@ -48,7 +48,7 @@ module _ (pieces : List (List ℕ)) (rest : List ℕ) (texts : List (List ℕ)) 
 
 -- a run whose answers are such texts
 pub solved-run : {S K A : Type 0} (gives : S → ReadAnswer → S → Type 0) (takes : K → WriteAnswer → K → Type 0) {s : S} {k : K} {a : A} {s' : S} {k' : K} {a' : A}
-    {r : Result (Unit {0}) LineFault} → Run gives takes (solving A) s k a s' k' a' r → SolvedRun gives takes s k s' k' r
+    {r : Result (Unit {0}) LineFault} → Run (between gives s s') (between takes k k') (answering (solving A) a a') r → SolvedRun (between gives s s') (between takes k k') r
 solved-run {A = A} gives takes {s} {k} {a} {s'} {k'} {a'} {r} x =
     let y = x.lines in
     let refusals = refusals-of a y.answered y.texts a' y.answers_lead in
@@ -63,7 +63,7 @@ none_refused (line ∷ lines) = ap (λ rest. with_newline (solve_line line) ++ r
 
 -- a run that writes what `solve` writes where no memory was refused
 pub none-refused-run : {S K : Type 0} (gives : S → ReadAnswer → S → Type 0) (takes : K → WriteAnswer → K → Type 0) {s : S} {k : K} {s' : S} {k' : K}
-    {r : Result (Unit {0}) LineFault} → OrderedRun gives takes s k s' k' r → SolvedRun gives takes s k s' k' r
+    {r : Result (Unit {0}) LineFault} → OrderedRun (between gives s s') (between takes k k') r → SolvedRun (between gives s s') (between takes k k') r
 none-refused-run gives takes {s} {k} {s'} {k'} {r} x =
     let same = sym (none_refused (lines_of (bytes_due r (concat x.blocks)))) in (
       [],

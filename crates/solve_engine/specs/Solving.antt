@@ -4,6 +4,7 @@ use Rattle.othello_board.specs.declared.cells.Cell.{Cell}
 use Rattle.othello_eval.specs.Minimax.{minimax, best_choice}
 use Rattle.line_io.specs.Lines.{LineText, Whole, TooLong, lines_of}
 use Rattle.line_io.specs.declared.faults.LineFault.{LineFault}
+use Rattle.line_io.specs.Leads.{Passage, answering}
 use Rattle.line_io.specs.Streams.{ReadAnswer, WriteAnswer}
 use Rattle.line_io.specs.Writes.{with_newline}
 use Rattle.line_io.specs.Runs.{Run, FunctionRun, answers_to}
@@ -78,13 +79,13 @@ solve_out_unless refused bytes = answers_unless refused (lines_of bytes)
 
 -- what `solve` does with an input: what is written is the answers to the lines that are due, ERR 19 for those
 -- that were refused memory
-abbrev pub SolvedRun : {S K : Type 0} → (S → ReadAnswer → S → Type 0) → (K → WriteAnswer → K → Type 0) → S → K → S → K → Result (Unit {0}) LineFault → Type 0
-SolvedRun gives takes source sink source' sink' r = (refused : List Bool) × FunctionRun gives takes (solve_out_unless refused) source sink source' sink' r
+abbrev pub SolvedRun : {S K : Type 0} → Passage S ReadAnswer → Passage K WriteAnswer → Result (Unit {0}) LineFault → Type 0
+SolvedRun reading writing r = (refused : List Bool) × FunctionRun reading writing (solve_out_unless refused) r
 
 -- what `solve --ordered` does with an input: what is written is the answers to the lines that are due. No search takes
 -- memory, so no line is refused memory
-abbrev pub OrderedRun : {S K : Type 0} → (S → ReadAnswer → S → Type 0) → (K → WriteAnswer → K → Type 0) → S → K → S → K → Result (Unit {0}) LineFault → Type 0
-OrderedRun gives takes source sink source' sink' r = FunctionRun gives takes solve_out source sink source' sink' r
+abbrev pub OrderedRun : {S K : Type 0} → Passage S ReadAnswer → Passage K WriteAnswer → Result (Unit {0}) LineFault → Type 0
+OrderedRun reading writing r = FunctionRun reading writing solve_out r
 
 -- a text is an answer of `solve --visited` to a line: value, move and some number of positions, or the line's
 -- fault
@@ -93,6 +94,5 @@ IsVisitedLine line text = (count : ℕ) × (text ≡ answer_to (solved_with_coun
 
 -- what `solve --visited` does with an input: each line that is due is answered by value, move and a number of
 -- positions, or by its fault
-abbrev pub VisitedRun : {S K : Type 0} → (S → ReadAnswer → S → Type 0) → (K → WriteAnswer → K → Type 0) → S → K → S → K → Result (Unit {0}) LineFault → Type 0
-VisitedRun gives takes source sink source' sink' r =
-    Run gives takes (λ (_ : Unit {0}) line text (_ : Unit {0}). IsVisitedLine line text) source sink tt source' sink' tt r
+abbrev pub VisitedRun : {S K : Type 0} → Passage S ReadAnswer → Passage K WriteAnswer → Result (Unit {0}) LineFault → Type 0
+VisitedRun reading writing r = Run reading writing (answering (λ (_ : Unit {0}) line text (_ : Unit {0}). IsVisitedLine line text) tt tt) r

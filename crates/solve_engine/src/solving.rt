@@ -1,5 +1,6 @@
 //! Answering the lines of an input of `solve`, each by the minimax value of its position.
 ghost use Rattle.std.specs.Prelude.{◌≡◌, ◌≤◌, ◌++◌, ℕ, Bool, List, length, Some, OnOk};
+ghost use Rattle.line_io.specs.Leads.{between};
 ghost use Rattle.line_io.specs.Views.{text_of};
 ghost use Rattle.line_io.specs.Runs.{FunctionRun};
 ghost use Rattle.solve_engine.specs.Solving.{solve_line, solve_out_unless, IsSolvedLine, IsVisitedLine, OrderedRun, SolvedRun, VisitedRun};
@@ -151,7 +152,7 @@ pub fn solve<A: Allocator + Copy, S: Source, K: Sink>(
     grain: u8,
 ) -> Result<(), LineFault>
     requires { grain ≤ 6 }
-    ensures { SolvedRun S.gives K.takes source.old sink.old source.new sink.new result }
+    ensures { SolvedRun (between S.gives source.old source.new) (between K.takes sink.old sink.new) result }
 {
     let mut solver = Solver {
         alloc,
@@ -170,7 +171,7 @@ pub fn solve_bytes<A: Allocator + Copy, R: Read, W: Write>(
     grain: u8,
 ) -> Result<(), LineFault>
     requires { grain ≤ 6 }
-    ensures run { SolvedRun ⟦<FromReader<R> as Source>⟧.gives ⟦<FromWriter<W> as Sink>⟧.takes source.old sink.old source.new sink.new result }
+    ensures run { SolvedRun (between ⟦<FromReader<R> as Source>⟧.gives source.old source.new) (between ⟦<FromWriter<W> as Sink>⟧.takes sink.old sink.new) result }
     ensures known { OnOk result ((bytes held : List ℕ) → R.remaining source.old.reader ≡ Some bytes → W.contents sink.old.writer ≡ Some held
         → (refused : List Bool) × (W.contents sink.new.writer ≡ Some (held ++ solve_out_unless refused bytes))) }
 {
@@ -183,7 +184,7 @@ pub fn solve_bytes<A: Allocator + Copy, R: Read, W: Write>(
 /// `visited` is the number of positions that the search entered. Each search is serial, and none takes memory.
 /// The faults are those of [`solve`].
 pub fn solve_visited<S: Source, K: Sink>(source: &mut S, sink: &mut K) -> Result<(), LineFault>
-    ensures { VisitedRun S.gives K.takes source.old sink.old source.new sink.new result }
+    ensures { VisitedRun (between S.gives source.old source.new) (between K.takes sink.old sink.new) result }
 {
     let mut counter = VisitedSolver {
         text: SolveText::new(),
@@ -194,8 +195,8 @@ pub fn solve_visited<S: Source, K: Sink>(source: &mut S, sink: &mut K) -> Result
 /// [`solve`] with one ordered search for each line, outside any core: the fastest way. No search takes memory, so what is
 /// written is `solve_out` of what was read, and no line is answered `ERR 19`. The faults are those of [`solve`].
 pub fn solve_ordered<S: Source, K: Sink>(source: &mut S, sink: &mut K) -> Result<(), LineFault>
-    ensures solved { SolvedRun S.gives K.takes source.old sink.old source.new sink.new result }
-    ensures each { OrderedRun S.gives K.takes source.old sink.old source.new sink.new result }
+    ensures solved { SolvedRun (between S.gives source.old source.new) (between K.takes sink.old sink.new) result }
+    ensures each { OrderedRun (between S.gives source.old source.new) (between K.takes sink.old sink.new) result }
 {
     let mut solver = OrderedSolver {
         text: SolveText::new(),

@@ -23,13 +23,19 @@ abbrev pub IsPushedOf : Option Task → WorkerSeats → WorkerSeats → Type 0
 IsPushedOf None before after = after ≡ before
 IsPushedOf (Some task) before after = (after ≡ record before { own = with_pushed task before.own }) ⊎ (after ≡ before)
 
+-- what a worker has: what it holds, its badge's share, and its seats at the deques
+pub record WorkerHas : Type 0 where
+  pub holds : Holding
+  pub share : ℕ
+  pub seats : WorkerSeats
+
 -- a turn of a worker: by some answer of the hall it holds what the table says next, its badge's share is that after the
 -- answer, and just the task that the table says is pushed
-pub record IsTurn (worker : ℕ) (held next : Holding) (before after : ℕ) (seats pushed : WorkerSeats) : Type 0 where
+pub record IsTurn (worker : ℕ) (before after : WorkerHas) : Type 0 where
   pub answer : Result (DidOf Leaf) Refusal
-  pub holds : next ≡ (turn_after worker held answer).holding
-  pub share : after ≡ share_after before answer
-  pub task : IsPushedOf (turn_after worker held answer).task seats pushed
+  pub holds : after.holds ≡ (turn_after worker before.holds answer).holding
+  pub share : after.share ≡ share_after before.share answer
+  pub task : IsPushedOf (turn_after worker before.holds answer).task before.seats after.seats
 
 -- a worker's seats once its own has taken this task
 abbrev pub IsTakenFromOwn : Task → WorkerSeats → WorkerSeats → Type 0

@@ -126,7 +126,7 @@ fn turned<T: UnderLock, R: Wait>(
     step: &Step<Jamboree>,
 ) -> Holding
     requires { Some step.now ≡ offered worker holding }
-    ensures turn { IsTurn worker holding result (T.Badge.share badge.old) (T.Badge.share badge.new) (worker_seats tasks.old.ends) (worker_seats tasks.new.ends) }
+    ensures turn { IsTurn worker (record { holds = holding; share = T.Badge.share badge.old; seats = worker_seats tasks.old.ends }) (record { holds = result; share = T.Badge.share badge.new; seats = worker_seats tasks.new.ends }) }
     ensures ends { posts tasks.new.ends ≡ posts tasks.old.ends }
     ensures one { T.Badge.share badge.new ≤ T.Badge.share badge.old + 1 }
 {

@@ -1,6 +1,7 @@
 -- A session over a source and a sink with tapes is one of the tapes.
 use Rattle.std.proofs.Common.{◌≡◌, ℤ, map, subst, ◌++◌, Option, Result}
 use Rattle.sched_rules.specs.declared.step.StepOf.{StepOf}
+use Rattle.line_io.specs.Leads.{between}
 use Rattle.line_io.specs.Runs.{write_result}
 use Rattle.line_io.specs.Streams.{ReadAnswer, Gave, WriteAnswer}
 use Rattle.line_io.specs.Writes.{writes_of}
@@ -16,7 +17,7 @@ use Rattle.tcp_server.specs.Tapes.{TapeOf, TapedOf, blank_tape, Hears, Sends, He
 use Rattle.tcp_server.proofs.TapeLemmas.{heard-on-tape, sent-on-tape}
 
 pub on-tapes : {S K : Type 0} (begun : HallOf) (gives : S → ReadAnswer → S → Type 0) (takes : K → WriteAnswer → K → Type 0) (s s' : TapedOf S) (k k' : TapedOf K) (ended : Result End SessionFault) (knew : Option (Known (StepOf LeafAnswer)))
-    → SeenSession begun (HearsFrom gives) (SendsTo takes) s k s' k' ended knew → SeenSession begun Hears Sends s.tape k.tape s'.tape k'.tape ended knew
+    → SeenSession begun (between (HearsFrom gives) s s') (between (SendsTo takes) k k') ended knew → SeenSession begun (between Hears s.tape s'.tape) (between Sends k.tape k'.tape) ended knew
 on-tapes begun gives takes s s' k k' ended knew seen =
     let x = seen.session in
     record {
@@ -40,7 +41,7 @@ on-tapes begun gives takes s s' k k' ended knew seen =
 
 -- a session between new tapes of a socket and these is one on that socket
 pub from-blank : (begun : HallOf) (socket : ℤ) (s k read written : TapeOf) (ended : Result End SessionFault) (knew : Option (Known (StepOf LeafAnswer)))
-    → s ≡ blank_tape socket → k ≡ blank_tape socket → SeenSession begun Hears Sends s k read written ended knew → IsSessionOn begun socket read written ended knew
+    → s ≡ blank_tape socket → k ≡ blank_tape socket → SeenSession begun (between Hears s read) (between Sends k written) ended knew → IsSessionOn begun socket read written ended knew
 from-blank begun socket s k read written ended knew s_new k_new seen =
-    subst (λ (t : TapeOf). SeenSession begun Hears Sends t (blank_tape socket) read written ended knew) s_new
-    (subst (λ (t : TapeOf). SeenSession begun Hears Sends s t read written ended knew) k_new seen)
+    subst (λ (t : TapeOf). SeenSession begun (between Hears t read) (between Sends (blank_tape socket) written) ended knew) s_new
+    (subst (λ (t : TapeOf). SeenSession begun (between Hears s read) (between Sends t written) ended knew) k_new seen)

@@ -1,6 +1,7 @@
 //! The threads of a TCP server: the pool in one, and one for each connection.
 ghost use Rattle.std.specs.Prelude.{◌≡◌, true, IfOk, None, Ok};
 ghost use Rattle.std.specs.Net.Tcp.{stream_raw_fd};
+ghost use Rattle.line_io.specs.Leads.{between};
 ghost use Rattle.desk_office.specs.Answers.{SeenSession};
 ghost use Rattle.steal_pool.specs.Ends.{AreTasksOf};
 ghost use Rattle.tcp_server.specs.Connections.{IsSessionOn};
@@ -344,7 +345,7 @@ pub fn serve_taped<L: DeskLedger, R: Wait, S: Source + Drop, K: Sink + Drop>(
     mut sink: TapedSink<K>,
 ) -> Passed<L>
     requires { L.all ≡ L.parts }
-    ensures { SeenSession L.begun Hears Sends source.tape sink.tape result.read result.written result.ended result.knew }
+    ensures { SeenSession L.begun (between Hears source.tape result.read) (between Sends sink.tape result.written) result.ended result.knew }
 {
     let (ended, knew) = serve_desk_seen(rt, &mut source, &mut sink, desk);
     Passed {

@@ -1,13 +1,13 @@
 -- A session is served line by line (`serve_lines`): each call that it makes of the office is one that its lines ask
 -- for, and its end is that of the talk.
-use Rattle.session.proofs.Common.{◌≡◌, ℕ, List, sym, rules, ◌∙◌, LineText, Handler, Ghosts, request, Turned}
+use Rattle.session.proofs.Common.{◌≡◌, ℕ, List, sym, rules, ◌∙◌, LineText, Handler, Ghosts, request, Turned, handler_of}
 use Rattle.session.proofs.Served.{talk-session, chain-keeps, Session-office}
 use Rattle.session.proofs.serving.serve_lines.Goals as goal
 
 -- how a handler answers
 abbrev Answers-line : {O : Type 0} (office : Ghosts O) → Handler O office → LineText → List ℕ → Handler O office → Type 0
 Answers-line office s line text t =
-    (t.office.ghost_name ≡ s.office.ghost_name) × Turned office.does (request s.seated line) s.office.now s.seated text t.office.now t.seated
+    (t.office.ghost_name ≡ s.office.ghost_name) × Turned office.does (request s.seated line) (handler_of s.office.now s.seated) text (handler_of t.office.now t.seated)
 
 pub returns : goal.returns
 returns g c =

@@ -1,6 +1,6 @@
 -- A site's session is served line by line (`handler::serve_site`): each line is answered by one turn of the session,
 -- and the tenant has left at the end.
-use Rattle.site_office.proofs.Common.{◌≡◌, ℕ, List, sym, subst, rules, ◌∙◌, LineText, Ghosts, LeavesIf, SiteHandler, site_request, SiteTurned}
+use Rattle.site_office.proofs.Common.{◌≡◌, ℕ, List, sym, subst, rules, ◌∙◌, LineText, Ghosts, LeavesIf, SiteHandler, site_request, SiteTurned, site_relations, handler_of}
 use Rattle.site_office.specs.declared.access.AccessControl.{Ghosts as AccessControlGhosts}
 use Rattle.site_office.proofs.ChainLemmas.{chain-keeps}
 use Rattle.site_office.proofs.handler.serve_site.Goals as goal
@@ -8,7 +8,7 @@ use Rattle.site_office.proofs.handler.serve_site.Goals as goal
 -- how a handler answers
 abbrev Answers-line : {O : Type 0} (office : Ghosts O) (access : AccessControlGhosts O) → SiteHandler O office access → LineText → List ℕ → SiteHandler O office access → Type 0
 Answers-line office access s line text t =
-    (t.office.ghost_name ≡ s.office.ghost_name) × SiteTurned office.does access.greets access.pays access.informs (site_request s.seated line) s.office.now s.seated text t.office.now t.seated
+    (t.office.ghost_name ≡ s.office.ghost_name) × SiteTurned (site_relations office.does access.greets access.pays access.informs) (site_request s.seated line) (handler_of s.office.now s.seated) text (handler_of t.office.now t.seated)
 
 pub returns : goal.returns
 returns g c =

@@ -1,11 +1,11 @@
 -- The command `solve` over readers and writers of std (`solving::solve_bytes`): with known bytes, the writer holds
 -- at Ok what it held, and then just their answers.
-use Rattle.solve_engine.proofs.Common.{Result, Ok, Err, OnOk, LineFault, ReadAnswer, WriteAnswer, solve_out_unless, SolvedRun}
+use Rattle.solve_engine.proofs.Common.{Result, Ok, Err, OnOk, LineFault, ReadAnswer, WriteAnswer, solve_out_unless, SolvedRun, between}
 use Rattle.solve_engine.proofs.solving.solve_bytes.Goals as goal
 
 -- what follows from a run that ended well
 at-ok : {S K : Type 0} {gives : S → ReadAnswer → S → Type 0} {takes : K → WriteAnswer → K → Type 0} {s : S} {k : K} {s' : S} {k' : K} (P : Type 0) (r : Result (Unit {0}) LineFault) →
-    (SolvedRun gives takes s k s' k' (Ok tt) → P) → SolvedRun gives takes s k s' k' r → OnOk r P
+    (SolvedRun (between gives s s') (between takes k k') (Ok tt) → P) → SolvedRun (between gives s s') (between takes k k') r → OnOk r P
 at-ok P (Ok u) step run = step run
 at-ok P (Err fault) step run = tt
 
