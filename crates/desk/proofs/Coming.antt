@@ -1,5 +1,5 @@
 -- The hall under a desk's lock has come by the steps of the desk's history, one after the other.
-use Rattle.desk.proofs.Common.{◌≡◌, ℕ, ◌+◌, ◌<◌, ◌≤◌, List, [], ◌∷◌, ◌++◌, true, false, refl, sym, ap, ◌∙◌, subst, arith, None, Result, Ok, Err, OnOk, OnErr, IsPrefix, Quota, Refusal, Admit, Leave, DidOf, Left, refusal_in, tenant_of, only, alone_from, CoreState, tenant_in, shared_run, newest_after, IsOneStep, AreNumbersGiven, step-taken, known-number, tenant_in-new, Leaf, LeafAnswer, jamboree, HallOf, hall_after, IsExplained, own, Known, SeatOf, seeing, steps_of, core_at, is_admit, with_taken, is_leave, AreStepsOfSeat, HasNoLeave, HasOwners, IsAtEndOf, IsComeBy, IsThere, IsLook, IsToldOf}
+use Rattle.desk.proofs.Common.{◌≡◌, ℕ, ◌+◌, ◌<◌, ◌≤◌, List, [], ◌∷◌, ◌++◌, true, false, refl, sym, ap, ◌∙◌, subst, arith, None, Result, Ok, Err, OnOk, OnErr, IsPrefix, ReserveOf, Refusal, Admit, Leave, DidOf, Left, refusal_in, tenant_of, only, alone_from, CoreState, tenant_in, shared_run, newest_after, IsOneStep, AreNumbersGiven, step-taken, known-number, tenant_in-new, Leaf, LeafAnswer, jamboree, HallOf, hall_after, IsExplained, own, Known, SeatOf, seeing, steps_of, core_at, is_admit, with_taken, is_leave, AreStepsOfSeat, HasNoLeave, HasOwners, IsAtEndOf, IsComeBy, IsThere, IsLook, IsToldOf}
 use Rattle.desk.proofs.Judged.{run-more, taken-more, no-first, newest-stays, Rights, Headlines, isolated}
 use Rattle.desk.proofs.Staying.{there-more, seat-stays, leaves}
 use Rattle.desk.proofs.Owners.{Step, Entries, IsOfSeat, steps_of-more, owners-more, owners-admit, steps-are-mine, unused, unmade, upto-more}
@@ -83,7 +83,7 @@ module _ {begun : HallOf} {log : Entries} (before : HallOf) (come : IsComeBy beg
     come-offered m mine step (Err refusal) other seats is_mine one is refused newest explained = rw refused come
 
     -- the Admit of a new tenant
-    pub come-admitted : (m t : ℕ) (reserve : Quota) (did : DidOf Leaf) → t ≡ before.shared.newest + 1 → Answers (Admit t reserve) (Ok did) → Went (Admit t reserve) → after.shared.newest ≡ t → IsExplained after →
+    pub come-admitted : (m t : ℕ) (reserve : ReserveOf) (did : DidOf Leaf) → t ≡ before.shared.newest + 1 → Answers (Admit t reserve) (Ok did) → Went (Admit t reserve) → after.shared.newest ≡ t → IsExplained after →
         Comes (log ++ (m, Admit t reserve) ∷ [])
     come-admitted m t reserve did number one is newest explained =
         let none = unmade before.shared.newest t log come.upto (omega (arith, number)) in

@@ -34,7 +34,7 @@ pub use Rattle.sched_rules.specs.declared.step.DidOf.{DidOf}
 pub use Rattle.sched_rules.specs.declared.step.DidOf.TheVariants.{Left}
 pub use Rattle.sched_rules.specs.declared.step.StepOf.{StepOf}
 pub use Rattle.sched_rules.specs.declared.step.StepOf.TheVariants.{Admit, AdmitMore, Cancel, Leave, Submit}
-pub use Rattle.tenant_quota.specs.Quota.{Quota}
+pub use Rattle.tenant_quota.specs.Reserves.{ReserveOf}
 pub use Rattle.desk.specs.Counts.{IsLeft}
 pub use Rattle.desk.specs.Histories.{AllOwn, AreStepsOfSeat, AreStepsUpTo, AreTaken, HasNoLeave, HasOwners, IsAtEndOf, IsComeBy, IsLook, IsSeated, IsThere, IsToldOf, IsTrueTo}
 pub use Rattle.desk.specs.Histories.{Owned, core_at, is_admit, is_leave, is_seat_step, seat_steps, stays_by, steps_of, with_taken}

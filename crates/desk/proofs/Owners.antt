@@ -1,5 +1,5 @@
 -- Of a desk's history: the steps that a seat made are all the seat steps of its tenant.
-use Rattle.desk.proofs.Common.{◌≡◌, ℕ, ◌<◌, ◌≤◌, ◌==◌, List, [], ◌∷◌, ◌++◌, true, refl, sym, ap, ◌∙◌, subst, arith, if◌then◌else◌, Result, Ok, Err, nat_tests, Quota, Refusal, StepOf, Admit, tenant_of, only, LeafAnswer, own as own_by, steps_of, is_seat_step, seat_steps, with_taken, Owned, HasOwners, AllOwn, AreStepsOfSeat, AreStepsUpTo}
+use Rattle.desk.proofs.Common.{◌≡◌, ℕ, ◌<◌, ◌≤◌, ◌==◌, List, [], ◌∷◌, ◌++◌, true, refl, sym, ap, ◌∙◌, subst, arith, if◌then◌else◌, Result, Ok, Err, nat_tests, ReserveOf, Refusal, StepOf, Admit, tenant_of, only, LeafAnswer, own as own_by, steps_of, is_seat_step, seat_steps, with_taken, Owned, HasOwners, AllOwn, AreStepsOfSeat, AreStepsUpTo}
 
 abbrev pub Step : Type 0
 Step = StepOf LeafAnswer
@@ -18,7 +18,7 @@ IsOfSeat mine step = is_seat_step step ≡ true → AreStepsOfSeat (tenant_of st
 -- Owners of tenants.
 module _ (owner : ℕ → ℕ) (m t : ℕ) where
   -- who made the admission is the owner
-  owner-is : (reserve : Quota) (log : Entries) (later : List Step) → Owned owner log → own_by m log ≡ Admit t reserve ∷ later → owner t ≡ m
+  owner-is : (reserve : ReserveOf) (log : Entries) (later : List Step) → Owned owner log → own_by m log ≡ Admit t reserve ∷ later → owner t ≡ m
   owner-is reserve [] later o h = absurd (cc h)
   owner-is reserve (e ∷ es) later o h = grind (arith, nat_tests, owner-is reserve es later o.1)
 
@@ -49,7 +49,7 @@ module _ (m : ℕ) (log : Entries) (o : HasOwners log) where
   pub owners-more : (mine : List Step) (step : Step) → IsOfSeat mine step → own_by m log ≡ mine → HasOwners (log ++ (m, step) ∷ [])
   owners-more mine step seats h = (o.0, owned-more o.0 log m step o.1 (λ own. let a = seats own in sym (owner-is o.0 m (tenant_of step) a.0 log a.1 o.1 (h ∙ a.2))))
 
-  pub owners-admit : (t : ℕ) (reserve : Quota) → seat_steps t (steps_of log) ≡ [] → HasOwners (log ++ (m, Admit t reserve) ∷ [])
+  pub owners-admit : (t : ℕ) (reserve : ReserveOf) → seat_steps t (steps_of log) ≡ [] → HasOwners (log ++ (m, Admit t reserve) ∷ [])
   owners-admit t reserve none =
       let owner : ℕ → ℕ = λ n. if n == t then m else o.0 n in
       let here : m ≡ owner t = grind (arith, nat_tests) in

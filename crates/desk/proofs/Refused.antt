@@ -1,5 +1,5 @@
 -- By which refusals a seat's ask, cancel and raise of its reservation can be refused at a desk.
-use Rattle.desk.proofs.Common.{◌≡◌, ℕ, Bool, true, false, Option, Some, None, refl, lit<, inl, inr, Result, Ok, Err, Refusal, OutOfMemory, Lower, AdmitMore, Cancel, Submit, DidOf, Quota, tenant_in, step_result, is_beyond, unless_beyond, reserved_by, reservations_in, Functions, Outcome, is_lower, cancelled, lone, raised, refusal_in, answer_of, Tenant, Leaf, LeafAnswer, root_words, frame_size, jamboree, HallOf, IsDecided, reserve_refusals, ask_refusals, cancel_refusals, ask-refused as offered_refused}
+use Rattle.desk.proofs.Common.{◌≡◌, ℕ, Bool, true, false, Option, Some, None, refl, lit<, inl, inr, Result, Ok, Err, Refusal, OutOfMemory, Lower, AdmitMore, Cancel, Submit, DidOf, ReserveOf, tenant_in, step_result, is_beyond, unless_beyond, reserved_by, reservations_in, Functions, Outcome, is_lower, cancelled, lone, raised, refusal_in, answer_of, Tenant, Leaf, LeafAnswer, root_words, frame_size, jamboree, HallOf, IsDecided, reserve_refusals, ask_refusals, cancel_refusals, ask-refused as offered_refused}
 use Rattle.sched_rules.specs.declared.job.Job.{Job}
 use Rattle.sched_rules.specs.declared.job.Job.TheVariants.{Live, Done, Spent, Cancelled}
 use Rattle.sched_rules.specs.Trees.{job_at}
@@ -23,7 +23,7 @@ raise-tested : {X : Type 0} (effect : X) (lower : Bool) → Within (if lower the
 raise-tested effect true = (1, lit< tt, refl)
 raise-tested effect false = tt
 
-raise-within : (rules : Functions Leaf LeafAnswer) (tenant : Option Tenant) (number : ℕ) (quota : Quota) → Within (lone rules tenant (AdmitMore number quota))
+raise-within : (rules : Functions Leaf LeafAnswer) (tenant : Option Tenant) (number : ℕ) (quota : ReserveOf) → Within (lone rules tenant (AdmitMore number quota))
 raise-within rules None number quota = (0, lit< tt, refl)
 raise-within rules (Some tenant) number quota = raise-tested {X = Outcome Leaf} (raised tenant quota) (is_lower tenant.reserve quota)
 
@@ -32,7 +32,7 @@ beyond-within true (Ok outcome) h = (2, lit< tt, refl)
 beyond-within false (Ok outcome) h = tt
 beyond-within beyond (Err refusal) h = h
 
-pub reserve-refused : (before after : HallOf) (number : ℕ) (quota : Quota) (answer : Result (DidOf Leaf) Refusal) → IsDecided before (AdmitMore number quota) answer after → Within answer
+pub reserve-refused : (before after : HallOf) (number : ℕ) (quota : ReserveOf) (answer : Result (DidOf Leaf) Refusal) → IsDecided before (AdmitMore number quota) answer after → Within answer
 reserve-refused before after number quota answer h =
     let right = h.one.answered.0 refl in
     let rules = jamboree before.grain in

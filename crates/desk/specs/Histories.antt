@@ -2,7 +2,7 @@
 -- call says of it to the maker who made the call.
 use Rattle.std.specs.Prelude.{◌≡◌, ℕ, ◌≤◌, ◌==◌, ◌&&◌, Bool, not, true, false, List, [], ◌∷◌, ◌++◌, filter, Option, Some, None, Result, Ok, Err, if◌then◌else◌}
 use mathlib.Core.List.{IsPrefix}
-use Rattle.tenant_quota.specs.Quota.{Quota}
+use Rattle.tenant_quota.specs.Reserves.{ReserveOf}
 use Rattle.sched_rules.specs.declared.refusal.Refusal.{Refusal}
 use Rattle.sched_rules.specs.declared.step.StepOf.{StepOf}
 use Rattle.sched_rules.specs.declared.step.StepOf.TheVariants.{Admit, Leave}
@@ -81,7 +81,7 @@ IsToldOf begun before step (Err refusal) now = Saw before now × IsAnswerTo (jam
 
 -- a new seat: the history that it has seen ends with its tenant's Admit; no step before that is of this tenant or by
 -- this maker; and the Admit is the maker's only step
-pub record IsSeated (reserve : Quota) (seat : SeatOf) : Type 0 where
+pub record IsSeated (reserve : ReserveOf) (seat : SeatOf) : Type 0 where
   pub before : List (ℕ × StepOf LeafAnswer)
   pub seen : seat.known.seen ≡ before ++ (seat.known.maker, Admit seat.tenant reserve) ∷ []
   pub unused : only seat.tenant (steps_of before) ≡ []
@@ -125,7 +125,7 @@ AllOwn number (step ∷ steps) = (is_seat_step step ≡ true) × (tenant_of step
 
 -- the steps of a tenant's seat, from its admission on
 abbrev pub AreStepsOfSeat : ℕ → List (StepOf LeafAnswer) → Type 0
-AreStepsOfSeat number steps = (reserve : Quota) × (later : List (StepOf LeafAnswer)) × (steps ≡ Admit number reserve ∷ later) × AllOwn number steps
+AreStepsOfSeat number steps = (reserve : ReserveOf) × (later : List (StepOf LeafAnswer)) × (steps ≡ Admit number reserve ∷ later) × AllOwn number steps
 
 -- none of these steps is a Leave
 abbrev pub HasNoLeave : {A : Type 0} → List (StepOf A) → Type 0

@@ -1,5 +1,5 @@
 -- A session's calls at a desk: each is answered by what the session's tenant has come to.
-use Rattle.desk_office.proofs.Common.{◌≡◌, ℕ, ◌+◌, ◌-◌, ◌==◌, List, [], ◌∷◌, length, map, Bool, true, false, refl, sym, ap, ◌∙◌, subst, if◌then◌else◌, Option, Some, None, Result, Ok, Err, inl, inr, arith, ◌⊎◌, option_map, option_and_then, slice_index, Quota, Cell, Side, Refusal, Full, NoJobsLeft, OutOfMemory, refusal_number, AdmitMore, Submit, DidOf, Functions, Tenant, left, job_at, cancelled, lone, lone_refusal, refusal_in, unless, submit_tests, submitted, tenant_of, answer_of, CoreState, tenant_in, is_beyond, reservations_in, reserved_by, step_result, shared_refusal, unless_beyond, IsAnswerTo, IsAnswerToAdmit, AreReplies, HoldsReply, bounds_of, own_word, opp_word, frame_of, root_words, frame_size, jamboree, Leaf, LeafAnswer, HallOf, Reply, Outcome as OutcomeOf, Done, IsOutcomeIn, IsOutcomeOf, IsReplyOf, SeatAsked, found_or_no_tenant, seat_asked_at, IsShown, IsShownOf, IsToldBy, Shows, core_at, is_admit, lone_tenant, Reserve, Ask, Cancel, OfficeReply, Reserved, Job, Told, Ended, Rest, Alive, Refused, reply_of, analysis_of, standing_of, told_answer, History, analysis_by, if_there, job_reply, live_in, reply_to, standing_in, unless_refused, IsReplyAt, IsJobTold, IsRefusedAtOnce}
+use Rattle.desk_office.proofs.Common.{◌≡◌, ℕ, ◌+◌, ◌-◌, ◌==◌, List, [], ◌∷◌, length, map, Bool, true, false, refl, sym, ap, ◌∙◌, subst, if◌then◌else◌, Option, Some, None, Result, Ok, Err, inl, inr, arith, ◌⊎◌, option_map, option_and_then, slice_index, ReserveOf, Cell, Side, Refusal, Full, NoJobsLeft, OutOfMemory, refusal_number, AdmitMore, Submit, DidOf, Functions, Tenant, left, job_at, cancelled, lone, lone_refusal, refusal_in, unless, submit_tests, submitted, tenant_of, answer_of, CoreState, tenant_in, is_beyond, reservations_in, reserved_by, step_result, shared_refusal, unless_beyond, IsAnswerTo, IsAnswerToAdmit, AreReplies, HoldsReply, bounds_of, own_word, opp_word, frame_of, root_words, frame_size, jamboree, Leaf, LeafAnswer, HallOf, Reply, Outcome as OutcomeOf, Done, IsOutcomeIn, IsOutcomeOf, IsReplyOf, SeatAsked, found_or_no_tenant, seat_asked_at, IsShown, IsShownOf, IsToldBy, Shows, core_at, is_admit, lone_tenant, Reserve, Ask, Cancel, OfficeReply, Reserved, Job, Told, Ended, Rest, Alive, Refused, reply_of, analysis_of, standing_of, told_answer, History, analysis_by, if_there, job_reply, live_in, reply_to, standing_in, unless_refused, IsReplyAt, IsJobTold, IsRefusedAtOnce}
 use Rattle.sched_rules.specs.declared.job.Job.{Job as JobOf}
 use Rattle.sched_rules.specs.declared.job.Job.TheVariants.{Done as DoneJob}
 use Rattle.sched_rules.specs.declared.step.StepOf.TheVariants.{Cancel as CancelStep}
@@ -79,7 +79,7 @@ same-search : (rules : Rules) (its : Tenant) (number a b c d depth : ℕ) → lo
 same-search rules its number a b c d depth =
     same-tests {X = Outcome Leaf} (submit_tests its (root_words a b depth) frame_size) (submitted its number (root_words a b depth) frame_size) (submitted its number (root_words c d depth) frame_size)
 
-pub reserve-taken : (begun : HallOf) (number : ℕ) (history : History) (origins : List (List ℕ)) (quota : Quota) → IsAtMoment begun number history origins → shared_refusal (jamboree begun.grain) (core_at begun history) (AdmitMore number quota) ≡ None →
+pub reserve-taken : (begun : HallOf) (number : ℕ) (history : History) (origins : List (List ℕ)) (quota : ReserveOf) → IsAtMoment begun number history origins → shared_refusal (jamboree begun.grain) (core_at begun history) (AdmitMore number quota) ≡ None →
     reply_to begun.grain number (lone_tenant begun history number) (Reserve quota) ≡ Reserved quota
 reserve-taken begun number history origins quota m none = grind (arith, granted)
 
@@ -129,7 +129,7 @@ ask-refused begun number history origins depth own opp board side refusal m righ
     inl (sym (asked-by begun number history origins depth own opp board side (Some refusal) m alone))
 
 -- a raise that was refused: for the tenant's own state, or for room
-raise-refused : (rules : Rules) (core : CoreState) (number : ℕ) (quota : Quota) (refusal : Refusal) (beyond : Bool) (came : Came) → lone {A = LeafAnswer} rules (tenant_in core.tenants number) (AdmitMore number quota) ≡ came →
+raise-refused : (rules : Rules) (core : CoreState) (number : ℕ) (quota : ReserveOf) (refusal : Refusal) (beyond : Bool) (came : Came) → lone {A = LeafAnswer} rules (tenant_in core.tenants number) (AdmitMore number quota) ≡ came →
     step_result {A = LeafAnswer} rules core (AdmitMore number quota) ≡ unless_beyond beyond came → IsAnswerToAdmit {A = LeafAnswer} rules core (AdmitMore number quota) (Err refusal) →
     (lone_refusal {A = LeafAnswer} rules (tenant_in core.tenants number) (AdmitMore number quota) ≡ Some refusal)
     ⊎ ((lone_refusal {A = LeafAnswer} rules (tenant_in core.tenants number) (AdmitMore number quota) ≡ None)
@@ -138,7 +138,7 @@ raise-refused rules core number quota refusal beyond (Err other) own is right = 
 raise-refused rules core number quota refusal true (Ok outcome) own is right = grind arith
 raise-refused rules core number quota refusal false (Ok outcome) own is right = grind arith
 
-pub reserve-refused : (begun : HallOf) (number : ℕ) (history : History) (origins : List (List ℕ)) (quota : Quota) (refusal : Refusal) → IsAtMoment begun number history origins →
+pub reserve-refused : (begun : HallOf) (number : ℕ) (history : History) (origins : List (List ℕ)) (quota : ReserveOf) (refusal : Refusal) → IsAtMoment begun number history origins →
     IsAnswerTo {A = LeafAnswer} (jamboree begun.grain) (core_at begun history) (AdmitMore number quota) (Err refusal) → IsReplyAt begun number history (Reserve quota) (Refused (refusal_number refusal))
 reserve-refused begun number history origins quota refusal m right =
     by (raise-refused rules core number quota refusal (is_beyond (reservations_in core) (reserved_by (tenant_in core.tenants number)) quota) (lone {A = LeafAnswer} rules (tenant_in core.tenants number) (AdmitMore number quota)) refl refl (right.0 refl))

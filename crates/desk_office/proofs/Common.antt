@@ -77,7 +77,7 @@ pub use Rattle.session.specs.Turns.{calls_in, later_replies, next_reply, seated_
 pub use Rattle.session.specs.declared.faults.End.{End}
 pub use Rattle.session.specs.declared.faults.SessionFault.{SessionFault}
 pub use Rattle.session.specs.declared.standings.Standing.{Standing}
-pub use Rattle.tenant_quota.specs.Quota.{Quota}
+pub use Rattle.tenant_quota.specs.Reserves.{ReserveOf}
 pub use Rattle.tenant_quota.specs.declared.account.Left.{Left}
 pub use Rattle.desk_office.specs.Answers.{Adds, AllStay, AreAnswered, History, IsBoardIn, IsOneTenancy, IsReplyAt, IsTenantOf, NobodyCame, SeenSession}
 pub use Rattle.desk_office.specs.Answers.{analysis_by, if_there, is_stay, is_taken, is_welcome, job_reply, live_in, reply_to, standing_in, step_for}

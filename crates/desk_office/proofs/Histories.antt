@@ -1,6 +1,6 @@
 -- A session's tenant at a moment of a desk's history: what its own steps have made of it, and that its jobs are what
 -- its seat asked for.
-use Rattle.desk_office.proofs.Common.{◌≡◌, ◌≢◌, ℕ, ◌≤◌, ◌==◌, ◌&&◌, List, [], ◌∷◌, ◌++◌, length, Bool, true, false, refl, sym, ap, ◌∙◌, subst, arith, if◌then◌else◌, Option, Some, None, Result, Ok, Err, nat_tests, Quota, Refusal, StepOf, Admit, AdmitMore, Admitted, Functions, Tenant, admitted_with, first_step, lone, refusal_in, unless, tenant_of, only, state_after, alone_from, CoreState, tenant_in, with_outcome, meets_busy, is_beyond, reservations_in, reserved_by, unless_busy, unless_beyond, admit_tests, step_result, shared_refusal, shared_after, shared_with, shared_run, tenant_in-with_outcome, tenant_in-other-with_outcome, submits, origins_of, AreTakenFrom, IsJournalOf, StaysTaken, AreReplies, AreSearches, IsSearch, journal-searches, tenant-replies, Leaf, LeafAnswer, jamboree, HallOf, own, core_at, is_admit, is_leave, is_seat_step, seat_steps, steps_of, lone_tenant, AllOwn, AreTaken, IsThere, lone-keeps, History}
+use Rattle.desk_office.proofs.Common.{◌≡◌, ◌≢◌, ℕ, ◌≤◌, ◌==◌, ◌&&◌, List, [], ◌∷◌, ◌++◌, length, Bool, true, false, refl, sym, ap, ◌∙◌, subst, arith, if◌then◌else◌, Option, Some, None, Result, Ok, Err, nat_tests, ReserveOf, Refusal, StepOf, Admit, AdmitMore, Admitted, Functions, Tenant, admitted_with, first_step, lone, refusal_in, unless, tenant_of, only, state_after, alone_from, CoreState, tenant_in, with_outcome, meets_busy, is_beyond, reservations_in, reserved_by, unless_busy, unless_beyond, admit_tests, step_result, shared_refusal, shared_after, shared_with, shared_run, tenant_in-with_outcome, tenant_in-other-with_outcome, submits, origins_of, AreTakenFrom, IsJournalOf, StaysTaken, AreReplies, AreSearches, IsSearch, journal-searches, tenant-replies, Leaf, LeafAnswer, jamboree, HallOf, own, core_at, is_admit, is_leave, is_seat_step, seat_steps, steps_of, lone_tenant, AllOwn, AreTaken, IsThere, lone-keeps, History}
 use Rattle.sched_rules.specs.Lone.{Outcome}
 
 abbrev pub Step : Type 0
@@ -152,7 +152,7 @@ unless-taken [] effect none = refl
 unless-taken {X = X} (test ∷ tests) effect none = grind (arith, unless-taken tests effect)
 
 -- a tenant that wasn't there, from its Admit on
-pub begins : (rules : Rules) (t : ℕ) (quota : Quota) (later : List Step) (shared : CoreState) (steps : List Step) → tenant_in shared.tenants t ≡ None → AreTaken rules shared steps → seat_steps t steps ≡ Admit t quota ∷ later → AllGo later →
+pub begins : (rules : Rules) (t : ℕ) (quota : ReserveOf) (later : List Step) (shared : CoreState) (steps : List Step) → tenant_in shared.tenants t ≡ None → AreTaken rules shared steps → seat_steps t steps ≡ Admit t quota ∷ later → AllGo later →
     Follows rules t shared None steps (only t steps)
 begins rules t quota later shared [] at legal is go = absurd (cc is)
 begins rules t quota later shared (step ∷ steps) at legal is go = by (is_seat_step step) (tenant_of step == t) refl refl is (λ next. begins rules t quota later next steps)
@@ -214,7 +214,7 @@ pub record IsAtMoment (begun : HallOf) (number : ℕ) (history : History) (origi
   pub core : tenant_in (core_at begun history).tenants number ≡ Some tenant
   pub jobs : AreReplies origins tenant.jobs
 
-pub moment : (begun : HallOf) (number : ℕ) (quota : Quota) (later : List Step) (history : History) → tenant_in begun.shared.tenants number ≡ None → AreTaken (jamboree begun.grain) begun.shared (steps_of history) →
+pub moment : (begun : HallOf) (number : ℕ) (quota : ReserveOf) (later : List Step) (history : History) → tenant_in begun.shared.tenants number ≡ None → AreTaken (jamboree begun.grain) begun.shared (steps_of history) →
     seat_steps number (steps_of history) ≡ Admit number quota ∷ later → AllGo later → AreSearches (Admit number quota ∷ later) → IsAtMoment begun number history (origins_of (Admit number quota ∷ later))
 moment begun number quota later history new legal mine go searches =
     let rules = jamboree begun.grain in

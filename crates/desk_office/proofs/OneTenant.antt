@@ -1,5 +1,5 @@
 -- A session at a desk has one tenant at most.
-use Rattle.desk_office.proofs.Common.{◌≡◌, ℕ, List, [], ◌∷◌, ◌++◌, Bool, true, false, Option, Some, None, Result, refl, sym, ap, subst, ◌∙◌, inl, inr, codes, arith, ◌⊎◌, option_map, bytes_eq, Leads, LineText, Whole, TooLong, upto, Quota, StepOf, tenant_in, Known, LeafAnswer, HallOf, SeatOf, IsSeated, End, SessionFault, KeepsAsks, IsOfficeReplyTo, Call, Hello, Leave, OfficeReply, Welcome, Gone, Refused, LineCommand, OnceSeated, AtAnyTime, command_alone, command_with_one, command_with_two, line_command, line_command_by, line_command_after, command_request, is_bye, Request, Fault, Makes, Tabulates, Ends, request, quota_request, ask_request, job_request, Called, IsAnsweredOf, session_lines, turns, calls_in, next_reply, later_replies, seated_after, next_turns, asks_of, AllStay, IsOneTenancy, IsTenantOf, NobodyCame, is_stay, is_welcome, OfficeOf, IsHello, IsTurnAt, IsTurnOf}
+use Rattle.desk_office.proofs.Common.{◌≡◌, ℕ, List, [], ◌∷◌, ◌++◌, Bool, true, false, Option, Some, None, Result, refl, sym, ap, subst, ◌∙◌, inl, inr, codes, arith, ◌⊎◌, option_map, bytes_eq, Leads, LineText, Whole, TooLong, upto, ReserveOf, StepOf, tenant_in, Known, LeafAnswer, HallOf, SeatOf, IsSeated, End, SessionFault, KeepsAsks, IsOfficeReplyTo, Call, Hello, Leave, OfficeReply, Welcome, Gone, Refused, LineCommand, OnceSeated, AtAnyTime, command_alone, command_with_one, command_with_two, line_command, line_command_by, line_command_after, command_request, is_bye, Request, Fault, Makes, Tabulates, Ends, request, quota_request, ask_request, job_request, Called, IsAnsweredOf, session_lines, turns, calls_in, next_reply, later_replies, seated_after, next_turns, asks_of, AllStay, IsOneTenancy, IsTenantOf, NobodyCame, is_stay, is_welcome, OfficeOf, IsHello, IsTurnAt, IsTurnOf}
 use Rattle.std.specs.Prelude.{◌==◌, if◌then◌else◌}
 use Rattle.desk_office.proofs.Tenancies.{tenancy}
 
@@ -11,7 +11,7 @@ Goes (Makes call) = is_stay call ≡ true
 Goes Ends = ⊥
 Goes _ = Unit {0}
 
-quota-goes : (call : Quota → Call) → ((quota : Quota) → is_stay (call quota) ≡ true) → (quota : Option Quota) → Goes (quota_request call quota)
+quota-goes : (call : ReserveOf → Call) → ((quota : ReserveOf) → is_stay (call quota) ≡ true) → (quota : Option ReserveOf) → Goes (quota_request call quota)
 quota-goes call stays quota = grind arith
 
 ask-goes : (asked : _) → Goes (ask_request asked)
@@ -90,7 +90,7 @@ IsEarly (Makes _) = ⊥
 IsEarly (Tabulates job) = ⊥
 IsEarly Ends = Unit {0}
 
-quota-early : (quota : Option Quota) → IsEarly (quota_request Hello quota)
+quota-early : (quota : Option ReserveOf) → IsEarly (quota_request Hello quota)
 quota-early quota = grind arith
 
 command-early : (command : Option LineCommand) → IsEarly (command_request false command)
@@ -163,7 +163,7 @@ module _ (begun : HallOf) where
   Comes from calls to = (NobodyCame calls × (to.knew ≡ from.knew)) ⊎ ((known : Known (StepOf LeafAnswer)) × (to.knew ≡ Some known) × IsOneTenancy begun calls known)
 
   -- a HELLO that was refused
-  one-refused : (quota : Quota) (reply : OfficeReply) (number : ℕ) (from next to : OfficeOf) (calls : List (Call × OfficeReply)) → reply ≡ Refused number → next ≡ from → Comes next calls to → Comes from ((Hello quota, reply) ∷ calls) to
+  one-refused : (quota : ReserveOf) (reply : OfficeReply) (number : ℕ) (from next to : OfficeOf) (calls : List (Call × OfficeReply)) → reply ≡ Refused number → next ≡ from → Comes next calls to → Comes from ((Hello quota, reply) ∷ calls) to
   one-refused quota reply number from next to calls said same (inl none) = inl ((ap (λ (r : OfficeReply). is_welcome r) said, none.0), none.1 ∙ ap (λ (o : OfficeOf). o.knew) same)
   one-refused quota reply number from next to calls said same (inr came) =
       let t = came.2 in
@@ -186,7 +186,7 @@ module _ (begun : HallOf) where
       )
 
   -- a HELLO that brought a tenant
-  one-welcome : (quota : Quota) (reply : OfficeReply) (from next to : OfficeOf) (seat : SeatOf) (calls : List (Call × OfficeReply)) → reply ≡ Welcome quota → next.seat ≡ Some seat → IsSeated quota seat → tenant_in begun.shared.tenants seat.tenant ≡ None → seat.asked ≡ [] → AreSeated calls → Led next calls to → Comes from ((Hello quota, reply) ∷ calls) to
+  one-welcome : (quota : ReserveOf) (reply : OfficeReply) (from next to : OfficeOf) (seat : SeatOf) (calls : List (Call × OfficeReply)) → reply ≡ Welcome quota → next.seat ≡ Some seat → IsSeated quota seat → tenant_in begun.shared.tenants seat.tenant ≡ None → seat.asked ≡ [] → AreSeated calls → Led next calls to → Comes from ((Hello quota, reply) ∷ calls) to
   one-welcome quota reply from next to seat calls said here admitted new none seated h =
       let t = tenancy begun quota seat seated.0 next to admitted new none here seated.1 (subst (λ (l : List (Call × OfficeReply)). Led next l to) seated.2 h) in
       inr (

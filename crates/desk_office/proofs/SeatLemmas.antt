@@ -1,5 +1,5 @@
 -- What a desk's seat shows of its jobs, as a session has it.
-use Rattle.desk_office.proofs.Common.{◌≡◌, ℕ, ◌-◌, ◌<◌, List, [], ◌∷◌, map, Option, Some, None, refl, sym, subst, ap, ap₂, ◌∙◌, Result, Ok, Err, arith, ◌⊎◌, Contains, IfErr, MatchResult, get_or-map, length-map, cells, cells_of, minimax, best_choice, Reply, IsTable, board_of, depth_of, table_of, Outcome, Done, Refusal, NoJob, refusal_number, Quota, Call, Get, Wait, Cancel, Reserve, Reserved, Ended, Told as ToldOf, reply_of, Asked, asked_at, asks_after, IsAnalysisOf, IsOfficeReplyTo, IsJobReply, KeepsAsks, SaysTrue, ShowsFound, Standing, SeatAsked, SeatOf, reserve_refusals, seeing, stepped, cancel_refusals, IsShown, seat_asked_at, ask_of, analysis_of, standing_of, told_answer}
+use Rattle.desk_office.proofs.Common.{◌≡◌, ℕ, ◌-◌, ◌<◌, List, [], ◌∷◌, map, Option, Some, None, refl, sym, subst, ap, ap₂, ◌∙◌, Result, Ok, Err, arith, ◌⊎◌, Contains, IfErr, MatchResult, get_or-map, length-map, cells, cells_of, minimax, best_choice, Reply, IsTable, board_of, depth_of, table_of, Outcome, Done, Refusal, NoJob, refusal_number, ReserveOf, Call, Get, Wait, Cancel, Reserve, Reserved, Ended, Told as ToldOf, reply_of, Asked, asked_at, asks_after, IsAnalysisOf, IsOfficeReplyTo, IsJobReply, KeepsAsks, SaysTrue, ShowsFound, Standing, SeatAsked, SeatOf, reserve_refusals, seeing, stepped, cancel_refusals, IsShown, seat_asked_at, ask_of, analysis_of, standing_of, told_answer}
 use Rattle.std.specs.Option.{option_map}
 
 -- what was asked under a number
@@ -60,7 +60,7 @@ cancels before after job (Ok done) share none refused = grind (arith, unasked, a
 cancels before after job (Err refusal) share none refused = grind (arith, refused-by, unasked, asked_at-map)
 
 -- a seat reserves more
-pub reserves : (before after : SeatOf) (quota : Quota) (answer : Result (Unit {0}) Refusal) → MatchResult answer (λ _. after ≡ stepped after.known before) (λ _. after ≡ seeing after.known before) → IfErr answer (Contains reserve_refusals)
+pub reserves : (before after : SeatOf) (quota : ReserveOf) (answer : Result (Unit {0}) Refusal) → MatchResult answer (λ _. after ≡ stepped after.known before) (λ _. after ≡ seeing after.known before) → IfErr answer (Contains reserve_refusals)
     → KeepsAsks (map ask_of before.asked) (Reserve quota) (reply_of (λ _. Reserved quota) answer) (map ask_of after.asked)
 reserves before after quota (Ok done) share refused = (ap (λ s. map ask_of s.asked) share, tt, tt, refl)
 reserves before after quota (Err refusal) share refused = (ap (λ s. map ask_of s.asked) share, tt, refused-by reserve_refusals refusal refused, tt)

@@ -1,5 +1,5 @@
 -- A session's tenant from its seat to its Leave: each call is answered at a moment of the desk's history.
-use Rattle.desk_office.proofs.Common.{◌≡◌, ℕ, ◌+◌, ◌==◌, List, [], ◌∷◌, ◌++◌, length, map, Bool, true, false, Option, Some, None, Result, Err, refl, sym, ap, subst, ◌∙◌, inl, inr, arith, if◌then◌else◌, append_assoc, append-nil, ◌⊎◌, nat_tests, map-append, IsPrefix, Board, Cell, Side, Quota, Leads, Refusal, refusal_number, Admit, AdmitMore, Submit, Functions, only, CoreState, tenant_in, shared_run, shared_after, shared_refusal, step_result, IsAnswerTo, submits, origins_of, AreSearches, IsSearch, own, Known, Leaf, LeafAnswer, root_words, frame_size, jamboree, HallOf, SeatOf, seeing, core_at, seat_steps, steps_of, lone_tenant, AllOwn, AreTaken, IsSeated, IsTrueTo, Saw, Took, Call, Hello, Reserve, Ask, Get, Wait, Cancel, AskQuota, AskLive, Leave, OfficeReply, Told, Gone, Refused, reply_of, Called, told_answer, History, is_stay, is_taken, reply_to, step_for, Adds, AllStay, AreAnswered, IsBoardIn, IsReplyAt, OfficeOf, asked_after, taken_reply, with_seat, IsLookBy, IsStepRefused, IsRefusedAtOnce, IsLookReply, IsStepBy, IsStepTaken, IsTurnAt, IsTurnOf, prefix-self, prefix-trans}
+use Rattle.desk_office.proofs.Common.{◌≡◌, ℕ, ◌+◌, ◌==◌, List, [], ◌∷◌, ◌++◌, length, map, Bool, true, false, Option, Some, None, Result, Err, refl, sym, ap, subst, ◌∙◌, inl, inr, arith, if◌then◌else◌, append_assoc, append-nil, ◌⊎◌, nat_tests, map-append, IsPrefix, Board, Cell, Side, ReserveOf, Leads, Refusal, refusal_number, Admit, AdmitMore, Submit, Functions, only, CoreState, tenant_in, shared_run, shared_after, shared_refusal, step_result, IsAnswerTo, submits, origins_of, AreSearches, IsSearch, own, Known, Leaf, LeafAnswer, root_words, frame_size, jamboree, HallOf, SeatOf, seeing, core_at, seat_steps, steps_of, lone_tenant, AllOwn, AreTaken, IsSeated, IsTrueTo, Saw, Took, Call, Hello, Reserve, Ask, Get, Wait, Cancel, AskQuota, AskLive, Leave, OfficeReply, Told, Gone, Refused, reply_of, Called, told_answer, History, is_stay, is_taken, reply_to, step_for, Adds, AllStay, AreAnswered, IsBoardIn, IsReplyAt, OfficeOf, asked_after, taken_reply, with_seat, IsLookBy, IsStepRefused, IsRefusedAtOnce, IsLookReply, IsStepBy, IsStepTaken, IsTurnAt, IsTurnOf, prefix-self, prefix-trans}
 use Rattle.sched_rules.specs.declared.step.StepOf.TheVariants.{Cancel as CancelStep, Leave as LeaveStep}
 use Rattle.desk_office.proofs.Histories.{adds-none, all-mine, all-own, moment, own-more, seat-more, steps-more, AllGo, Goes, IsAtMoment, Step}
 use Rattle.desk_office.proofs.Answered.{ask-at-once, ask-refused, ask-taken, cancel-at-once, cancel-refused, cancel-taken, live-at, reserve-refused, reserve-taken, rest-at, root_of, told-at}
@@ -24,7 +24,7 @@ took-whose before now step t =
 -- a seat's own steps are its maker's: the Admit, and steps by which its tenant stays, whose searches are what it asked for
 record SeatHolds (seat : SeatOf) : Type 0 where
   pub whose : own seat.known.maker seat.known.seen ≡ seat.known.mine
-  pub quota : Quota
+  pub quota : ReserveOf
   pub later : List Step
   pub first : seat.known.mine ≡ Admit seat.tenant quota ∷ later
   pub go : AllGo later
@@ -143,7 +143,7 @@ told-is-none said answer none = grind arith
 abbrev PartOf : HallOf → Call → Type 0
 PartOf begun call = (from next : OfficeOf) (first : SeatOf) (reply : OfficeReply) → SeatHolds first → IsTurnOf begun (Some first) call reply from next → Part begun next first call reply
 
-by-reserve : (begun : HallOf) (quota : Quota) → PartOf begun (Reserve quota)
+by-reserve : (begun : HallOf) (quota : ReserveOf) → PartOf begun (Reserve quota)
 by-reserve begun quota from next first reply is t =
     by-step begun from next first t.0 (Reserve quota) reply is t.1 t.2 refl (λ none. absurd none)
     (λ words step board asks. let same : raise ≡ step = cc asks in subst (λ (s : Step). Goes s × IsSearch s × (map root_of first.asked ≡ map root_of first.asked ++ submits s)) same ((refl, refl), tt, sym (append-nil (map root_of first.asked))))
@@ -302,7 +302,7 @@ walk begun first (made ∷ more) from to last knew is here stay h w =
     (p.between, p.added, a.0, a.1, p.adds, subst (λ (l : History). AreAnswered begun first.tenant first.known.maker l more last.seen) p.seen rest')
 
 -- a tenant came with this seat, these calls were made for it, and it left
-pub record Tenancy (begun : HallOf) (number : ℕ) (quota : Quota) (calls : List (Call × OfficeReply)) (to : OfficeOf) : Type 0 where
+pub record Tenancy (begun : HallOf) (number : ℕ) (quota : ReserveOf) (calls : List (Call × OfficeReply)) (to : OfficeOf) : Type 0 where
   pub known : Known Step
   pub knew : to.knew ≡ Some known
   pub true_to : IsTrueTo begun number known
@@ -310,7 +310,7 @@ pub record Tenancy (begun : HallOf) (number : ℕ) (quota : Quota) (calls : List
   pub unused : only number (steps_of before) ≡ []
   pub answered : AreAnswered begun number known.maker (before ++ (known.maker, Admit number quota) ∷ []) calls known.seen
 
-pub tenancy : (begun : HallOf) (quota : Quota) (seat : SeatOf) (calls : List (Call × OfficeReply)) (from to : OfficeOf) → IsSeated quota seat → tenant_in begun.shared.tenants seat.tenant ≡ None → seat.asked ≡ [] → from.seat ≡ Some seat → AllStay calls →
+pub tenancy : (begun : HallOf) (quota : ReserveOf) (seat : SeatOf) (calls : List (Call × OfficeReply)) (from to : OfficeOf) → IsSeated quota seat → tenant_in begun.shared.tenants seat.tenant ≡ None → seat.asked ≡ [] → from.seat ≡ Some seat → AllStay calls →
     Leads (Called (IsTurnAt begun)) from (calls ++ (Leave, Gone) ∷ []) to → Tenancy begun seat.tenant quota calls to
 tenancy begun quota seat calls from to a new none here stay h =
     let t = seat.tenant in

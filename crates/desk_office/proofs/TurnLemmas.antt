@@ -1,5 +1,5 @@
 -- What a call of a session's office is, by what the desk's call has done.
-use Rattle.desk_office.proofs.Common.{◌≡◌, ◌≢◌, ℕ, ◌+◌, ◌≤◌, [], ◌∷◌, map, length, Bool, true, false, Option, Some, None, Result, Ok, Err, refl, sym, ap, subst, ◌∙◌, inl, inr, arith, Contains, IfErr, MatchResult, nat_tests, length-append, length-map, map-append, Board, cells, Side, Quota, Refusal, NoJob, NoJobsLeft, refusal_number, AdmitMore, Submit, root_words, frame_size, HallOf, Outcome, SeatAsked, ask_refusals, cancel_refusals, seat_asked_at, IsShown, SeatOf, reserve_refusals, seeing, stepped, IsAsked, lone_tenant, IsLook, IsShownAt, IsToldOf, Standing, KeepsAsks, Call, Reserve, Ask, Get, Wait, Cancel, OfficeReply, Reserved, Job, Told, Ended, Refused, reply_of, ask_of, told_answer, OfficeOf, with_seat, IsJobTold, IsStepBy, IsTurnAt, IsTurnOf, greatest_depth}
+use Rattle.desk_office.proofs.Common.{◌≡◌, ◌≢◌, ℕ, ◌+◌, ◌≤◌, [], ◌∷◌, map, length, Bool, true, false, Option, Some, None, Result, Ok, Err, refl, sym, ap, subst, ◌∙◌, inl, inr, arith, Contains, IfErr, MatchResult, nat_tests, length-append, length-map, map-append, Board, cells, Side, ReserveOf, Refusal, NoJob, NoJobsLeft, refusal_number, AdmitMore, Submit, root_words, frame_size, HallOf, Outcome, SeatAsked, ask_refusals, cancel_refusals, seat_asked_at, IsShown, SeatOf, reserve_refusals, seeing, stepped, IsAsked, lone_tenant, IsLook, IsShownAt, IsToldOf, Standing, KeepsAsks, Call, Reserve, Ask, Get, Wait, Cancel, OfficeReply, Reserved, Job, Told, Ended, Refused, reply_of, ask_of, told_answer, OfficeOf, with_seat, IsJobTold, IsStepBy, IsTurnAt, IsTurnOf, greatest_depth}
 use Rattle.std.specs.Prelude.{◌==◌}
 use Rattle.sched_rules.specs.declared.step.StepOf.TheVariants.{Cancel as CancelStep}
 use Rattle.desk_office.proofs.SeatLemmas.{cancels, job-kept, refused-by, reserves}
@@ -16,7 +16,7 @@ no_words = record { own = 0; opp = 0; disjoint = refl }
 -- The step by which a call comes (IsStepBy), from what the desk's contract says of the call.
 
 -- the seat reserves more
-reserve-step : (begun : HallOf) (before after : SeatOf) (quota : Quota) (answer : Result (Unit {0}) Refusal) → MatchResult answer (λ _. after ≡ stepped after.known before) (λ _. after ≡ seeing after.known before) →
+reserve-step : (begun : HallOf) (before after : SeatOf) (quota : ReserveOf) (answer : Result (Unit {0}) Refusal) → MatchResult answer (λ _. after ≡ stepped after.known before) (λ _. after ≡ seeing after.known before) →
     IsToldOf begun before.known (AdmitMore before.tenant quota) answer after.known → IsStepBy begun before (Reserve quota) (reply_of (λ _. Reserved quota) answer) after
 reserve-step begun before after quota (Ok done) share told =
     record { words = no_words; board = tt; step = AdmitMore before.tenant quota; asks = refl; came = inl (record { took = told; seat = share; said = refl }) }
@@ -74,7 +74,7 @@ asks-kept before after words depth side (Ok job) asked refused = grind (arith, l
 asks-kept before after words depth side (Err refusal) asked refused = grind (arith, length-map, refused-by)
 
 -- the calls of an office whose seat is there
-pub reserve-turn : (begun : HallOf) (from : OfficeOf) (before after : SeatOf) (quota : Quota) (answer : Result (Unit {0}) Refusal) → from.seat ≡ Some before →
+pub reserve-turn : (begun : HallOf) (from : OfficeOf) (before after : SeatOf) (quota : ReserveOf) (answer : Result (Unit {0}) Refusal) → from.seat ≡ Some before →
     MatchResult answer (λ _. after ≡ stepped after.known before) (λ _. after ≡ seeing after.known before) → IsToldOf begun before.known (AdmitMore before.tenant quota) answer after.known → IfErr answer (Contains reserve_refusals) →
     IsTurnAt begun from (Reserve quota) (reply_of (λ _. Reserved quota) answer) (with_seat after from)
 reserve-turn begun from before after quota answer is share told refused =

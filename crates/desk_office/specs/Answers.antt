@@ -1,7 +1,7 @@
 -- Meaning: what a session's tenant is answered, as a function of the call and of what the tenant has come to at a moment of the
 -- desk's history.
 use Rattle.std.specs.Prelude.{◌≡◌, ◌⊎◌, ℕ, ◌+◌, ◌≤◌, Bool, true, false, List, [], ◌∷◌, ◌++◌, length, slice_index, sum_by, Option, Some, None, option_and_then, Result}
-use Rattle.tenant_quota.specs.Quota.{Quota}
+use Rattle.tenant_quota.specs.Reserves.{ReserveOf}
 use Rattle.line_io.specs.Leads.{Passage, between}
 use Rattle.line_io.specs.Streams.{ReadAnswer, WriteAnswer}
 use Rattle.othello_board.specs.declared.boards.Board.{Board}
@@ -167,7 +167,7 @@ NobodyCame (made ∷ more) = (is_welcome made.1 ≡ false) × NobodyCame more
 -- order, and its Leave; and each of these calls was answered by what the tenant's own part of the history had made of it
 pub record IsOneTenancy (begun : HallOf) (calls : List (Call × OfficeReply)) (known : Known (StepOf LeafAnswer)) : Type 0 where
   pub early : List (Call × OfficeReply)
-  pub quota : Quota
+  pub quota : ReserveOf
   pub later : List (Call × OfficeReply)
   pub are : calls ≡ early ++ (Hello quota, Welcome quota) ∷ (later ++ (Leave, Gone) ∷ [])
   pub nobody : NobodyCame early

@@ -42,7 +42,7 @@ pub use Rattle.sched_rules.specs.declared.refusal.Refusal.TheVariants.{BadAct, F
 pub use Rattle.sched_rules.specs.declared.step.DidOf.{DidOf}
 pub use Rattle.sched_rules.specs.declared.step.StepOf.{StepOf}
 pub use Rattle.sched_rules.specs.declared.step.StepOf.TheVariants.{Admit, AdmitMore, Answer, Cancel, Leave, Submit}
-pub use Rattle.tenant_quota.specs.Quota.{IsWithinLimits, Quota}
+pub use Rattle.tenant_quota.specs.Reserves.{IsWithinLimits, ReserveOf}
 pub use Rattle.hall.specs.Entries.{is_long, is_long_step, long_count, long_step, long_steps, serial_in, short_steps, steps_in}
 pub use Rattle.hall.specs.Halls.{Explains, HallOf, IsExplained, IsHall, KeepsEndedJobs, empty_hall, hall_after, lets_go}
 pub use Rattle.hall.specs.Journals.{AreBegun, AreUpTo, IsBegun, JournalOf, admitted_journal, has_journal, is_appended, journal_in}

@@ -1,6 +1,6 @@
 -- What a hall (the core, with each tenant's journal) keeps true, over an admission, a Leave, and any other step that
 -- was taken.
-use Rattle.hall.proofs.Common.{all-map, rising-push, is_ok, false≢true, ◌≡◌, ◌≢◌, ℕ, ◌+◌, ◌*◌, ◌^◌, ◌<◌, ◌≤◌, Bool, true, false, ◌||◌, eqb, List, [], ◌∷◌, ◌++◌, length, Option, Some, None, Result, Ok, Err, refl, ap, sym, ◌∙◌, subst, arith, inl, inr, length-append, ◌==◌, nat_le, nat_lt, OnOk, cases_Bool, eqb-true, eqb-false, eq-eqb, true≢false, nat_tests, Quota, IsWithinLimits, Refusal, OldTenant, BadAct, Full, StepOf, Admit, AdmitMore, Leave, DidOf, Functions, Job, Tenant, job_at, step-ended, IsOfSearches, tenant-none-bad, Outcome, unless, refusal_in, lone, lone_step, tenant_of, CoreState, tenant_in, without_tenant, accounts_in, unless_beyond, shared_by_nobody, shared_refusal, newest_after, IsOneStep, AreNumbersGiven, IsAnswerTo, step-taken, shared-after-taken, there, more-there, tenant_in-with_outcome, tenant_in-other-without_tenant, one-step, Leaf, LeafAnswer, jamboree, IsSearch, AreSearches, job_of, origins_of, submits, TenantSearches, ServesSearches, origin_at, IsOutcomeIn, AnswersTo, IsJournalOf, journal-searches, journal-goes-on, journal-begins, others-stay, serial_in, is_long_step, long_steps, AreRising, all-push, all-with, all-without, said-lacks, has-above, inserted, said-with-other, said-without-own, said-without-other, rising-with, rising-without, length-with, length-without, JournalOf, journal_in, places_in, longs_in, owner_of_journal, has_journal, with_step, without_journal, total_length, places_for, longs_for, longs_with, raise_in, raise_count, reserved_in, admitted_journal, is_appended, longer, AreUpTo, AreBegun, HallOf, empty_hall, hall_after, Explains, IsExplained, IsHall, lets_go, KeepsEndedJobs}
+use Rattle.hall.proofs.Common.{all-map, rising-push, is_ok, false≢true, ◌≡◌, ◌≢◌, ℕ, ◌+◌, ◌*◌, ◌^◌, ◌<◌, ◌≤◌, Bool, true, false, ◌||◌, eqb, List, [], ◌∷◌, ◌++◌, length, Option, Some, None, Result, Ok, Err, refl, ap, sym, ◌∙◌, subst, arith, inl, inr, length-append, ◌==◌, nat_le, nat_lt, OnOk, cases_Bool, eqb-true, eqb-false, eq-eqb, true≢false, nat_tests, ReserveOf, IsWithinLimits, Refusal, OldTenant, BadAct, Full, StepOf, Admit, AdmitMore, Leave, DidOf, Functions, Job, Tenant, job_at, step-ended, IsOfSearches, tenant-none-bad, Outcome, unless, refusal_in, lone, lone_step, tenant_of, CoreState, tenant_in, without_tenant, accounts_in, unless_beyond, shared_by_nobody, shared_refusal, newest_after, IsOneStep, AreNumbersGiven, IsAnswerTo, step-taken, shared-after-taken, there, more-there, tenant_in-with_outcome, tenant_in-other-without_tenant, one-step, Leaf, LeafAnswer, jamboree, IsSearch, AreSearches, job_of, origins_of, submits, TenantSearches, ServesSearches, origin_at, IsOutcomeIn, AnswersTo, IsJournalOf, journal-searches, journal-goes-on, journal-begins, others-stay, serial_in, is_long_step, long_steps, AreRising, all-push, all-with, all-without, said-lacks, has-above, inserted, said-with-other, said-without-own, said-without-other, rising-with, rising-without, length-with, length-without, JournalOf, journal_in, places_in, longs_in, owner_of_journal, has_journal, with_step, without_journal, total_length, places_for, longs_for, longs_with, raise_in, raise_count, reserved_in, admitted_journal, is_appended, longer, AreUpTo, AreBegun, HallOf, empty_hall, hall_after, Explains, IsExplained, IsHall, lets_go, KeepsEndedJobs}
 use Rattle.jamboree_core.specs.declared.outcomes.Outcome.{Outcome as Outcomes}
 use Rattle.hall.proofs.Lists.{raise-more, raised-after, IsAllowed, steps_of, longer-longs, step-own, step-total, step-begun, without-total, push-own, push-other, push-total, push-inserted, push-upto, total-within, IsAt, found-at}
 use Rattle.hall.proofs.Using.{IsToldBy, step-used, serial-given, told-by}
@@ -10,7 +10,7 @@ abbrev pub Step : Type 0
 Step = StepOf LeafAnswer
 
 -- a hall where nobody was yet
-pub empty-kept : (grain : ℕ) (totals : Quota) → AreNumbersGiven (shared_by_nobody totals) → IsHall (empty_hall grain totals) 0 0
+pub empty-kept : (grain : ℕ) (totals : ReserveOf) → AreNumbersGiven (shared_by_nobody totals) → IsHall (empty_hall grain totals) 0 0
 empty-kept grain totals known = grind arith
 
 -- a tenant that is there has a journal
@@ -73,14 +73,14 @@ abbrev pub IsStepOf : HallOf → Step → Result (DidOf Leaf) Refusal → CoreSt
 IsStepOf hall step answer after = IsOneStep (jamboree hall.grain) hall.shared step answer after
 
 -- the core would raise what a tenant reserves: the tenant has a journal, which has few raises, and is shorter than it may become
-pub record IsReady (hall : HallOf) (number : ℕ) (quota : Quota) : Type 0 where
+pub record IsReady (hall : HallOf) (number : ℕ) (quota : ReserveOf) : Type 0 where
   pub has : has_journal number hall.journals ≡ true
   pub few : raise_count (journal_in hall.journals number) ≤ 69632
   pub place : length (journal_in hall.journals number) < places_for quota + (raise_count (journal_in hall.journals number) + 1)
   pub long : long_steps (journal_in hall.journals number) < longs_for quota + (raise_count (journal_in hall.journals number) + 1)
 
 -- it was asked of a tenant that is there, and is more than that reserves
-asked : {I : Type 0} (beyond : Bool) (functions : Functions I LeafAnswer) (own : Option Tenant) (number : ℕ) (quota : Quota) →
+asked : {I : Type 0} (beyond : Bool) (functions : Functions I LeafAnswer) (own : Option Tenant) (number : ℕ) (quota : ReserveOf) →
     refusal_in (unless_beyond beyond (lone functions own (AdmitMore number quota))) ≡ None → (tenant : Tenant) × (own ≡ Some tenant) × (tenant.reserve.nodes ≤ quota.nodes)
 asked beyond functions None number quota none = grind arith
 asked beyond functions (Some tenant) number quota none = (tenant, refl, grind (arith, nat_tests))
@@ -189,7 +189,7 @@ pub record LeavesOff (hall : HallOf) (latest count n : ℕ) (after : CoreState) 
 
 -- what a hall keeps
 module _ {hall : HallOf} {latest count : ℕ} (keeps : IsHall hall latest count) where
-  pub is-ready : (number : ℕ) (quota : Quota) → shared_refusal {A = LeafAnswer} (jamboree hall.grain) hall.shared (AdmitMore number quota) ≡ None → IsReady hall number quota
+  pub is-ready : (number : ℕ) (quota : ReserveOf) → shared_refusal {A = LeafAnswer} (jamboree hall.grain) hall.shared (AdmitMore number quota) ≡ None → IsReady hall number quota
   is-ready number quota none =
       let found = asked _ (jamboree hall.grain) (tenant_in hall.shared.tenants number) number quota none in
       let tenant = found.0 in
@@ -234,12 +234,12 @@ module _ {hall : HallOf} {latest count : ℕ} (keeps : IsHall hall latest count)
       let place = has-place hall.grain step at goes on in
       let searches = searches-push (journal_in hall.journals n) step (explained.searches n) search in
       let given = serial-given (jamboree hall.grain) went.tenant step (Some went.next, went.told) went.taken told.shape in
-      let nodes = ap (λ (q : Quota). q.nodes) (told.reserve ∙ ap (λ (js : List Step). reserved_in js) at.steps) in
+      let nodes = ap (λ (q : ReserveOf). q.nodes) (told.reserve ∙ ap (λ (js : List Step). reserved_in js) at.steps) in
       let more = step-own n step hall.journals has in
       record {
         has = has;
         place = grind arith;
-        long = λ none is. (let same = at.long_after step ∙ ap (λ (r : Option Quota). longs_with r at.journal) none ∙ sym at.longs in
+        long = λ none is. (let same = at.long_after step ∙ ap (λ (r : Option ReserveOf). longs_with r at.journal) none ∙ sym at.longs in
             let long_place = has-long-place hall.grain step at goes on is searches in omega (arith, long_place, same));
         serial = omega (arith, given, told.shape.opened, nodes, at.begun.nodes);
         left = grind arith;
@@ -267,15 +267,15 @@ module _ {hall : HallOf} {latest count : ℕ} (keeps : IsHall hall latest count)
   lacking : (n : ℕ) → tenant_in hall.shared.tenants n ≡ None → journal_in hall.journals n ≡ []
   lacking n none = grind arith
 
-  pub is-free : (number : ℕ) (quota : Quota) → shared_refusal {A = LeafAnswer} (jamboree hall.grain) hall.shared (Admit number quota) ≡ None → length hall.journals < 64
+  pub is-free : (number : ℕ) (quota : ReserveOf) → shared_refusal {A = LeafAnswer} (jamboree hall.grain) hall.shared (Admit number quota) ≡ None → length hall.journals < 64
   is-free number quota none = grind (arith, length-accounts, few-journals, lacking, no-refusal, nat_tests)
 
-  pub is-last : (number : ℕ) (quota : Quota) → shared_refusal {A = LeafAnswer} (jamboree hall.grain) hall.shared (Admit number quota) ≡ None →
+  pub is-last : (number : ℕ) (quota : ReserveOf) → shared_refusal {A = LeafAnswer} (jamboree hall.grain) hall.shared (Admit number quota) ≡ None →
       inserted owner_of_journal (admitted_journal number quota) hall.journals ≡ hall.journals ++ admitted_journal number quota ∷ []
   is-last number quota none = grind (arith, numbered, no-refusal, push-inserted)
 
   -- an admission
-  pub admitted : {number : ℕ} {quota : Quota} {did : DidOf Leaf} {after : CoreState} → IsStepOf hall (Admit number quota) (Ok did) after →
+  pub admitted : {number : ℕ} {quota : ReserveOf} {did : DidOf Leaf} {after : CoreState} → IsStepOf hall (Admit number quota) (Ok did) after →
       shared_refusal {A = LeafAnswer} (jamboree hall.grain) hall.shared (Admit number quota) ≡ None → IsWithinLimits quota → AreNumbersGiven after →
       IsHall (record hall { shared = after; journals = hall.journals ++ admitted_journal number quota ∷ [] }) number (count + 1)
   admitted {number} {quota} {did} {after} one none limit known =

@@ -1,5 +1,5 @@
 -- The hall's journals by their tenants' numbers: one more step in one of them, one journal fewer, one more.
-use Rattle.hall.proofs.Common.{◌≡◌, ◌≢◌, ℕ, ◌+◌, ◌<◌, ◌≤◌, true, List, [], ◌∷◌, ◌++◌, Option, Some, None, length, refl, sym, ◌∙◌, arith, length-append, ◌*◌, false≢true, ne_eqb, eq-eqb, StepOf, LeafAnswer, Quota, IsWithinLimits, find_by_number, inserted, nat_tests, all-map, all-of, all-push, all-with, thing-there, thing-with, said-found, said-with-own, reserve_in, raise_in, newer, reserved_after, reserved_in, one_for, raise_count, places_with, longs_for, longs_with, longs_in, longer, is_appended, JournalOf, journal_in, places_in, owner_of_journal, has_journal, with_step, without_journal, total_length, AreUpTo, IsBegun, AreBegun}
+use Rattle.hall.proofs.Common.{◌≡◌, ◌≢◌, ℕ, ◌+◌, ◌<◌, ◌≤◌, true, List, [], ◌∷◌, ◌++◌, Option, Some, None, length, refl, sym, ◌∙◌, arith, length-append, ◌*◌, false≢true, ne_eqb, eq-eqb, StepOf, LeafAnswer, ReserveOf, IsWithinLimits, find_by_number, inserted, nat_tests, all-map, all-of, all-push, all-with, thing-there, thing-with, said-found, said-with-own, reserve_in, raise_in, newer, reserved_after, reserved_in, one_for, raise_count, places_with, longs_for, longs_with, longs_in, longer, is_appended, JournalOf, journal_in, places_in, owner_of_journal, has_journal, with_step, without_journal, total_length, AreUpTo, IsBegun, AreBegun}
 
 abbrev Js : Type 0
 Js = List JournalOf
@@ -16,7 +16,7 @@ pub further-longer : (step : Step) (j : JournalOf) → raise_in step ≡ None �
 further-longer step j none = grind arith
 
 -- what is reserved after one more step, and how many raises there are
-pub reserved-more : {A : Type 0} (now : Quota) (steps : List (StepOf A)) (step : StepOf A) → reserved_after now (steps ++ step ∷ []) ≡ newer (reserved_after now steps) (reserve_in step)
+pub reserved-more : {A : Type 0} (now : ReserveOf) (steps : List (StepOf A)) (step : StepOf A) → reserved_after now (steps ++ step ∷ []) ≡ newer (reserved_after now steps) (reserve_in step)
 reserved-more now [] step = refl
 reserved-more now (s ∷ steps) step = reserved-more (newer now (reserve_in s)) steps step
 
@@ -25,12 +25,12 @@ raise-more [] step = omega arith
 raise-more (s ∷ steps) step = grind (arith, raise-more steps step)
 
 -- a raise is within the limits
-abbrev pub IsAllowed : Option Quota → Type 0
+abbrev pub IsAllowed : Option ReserveOf → Type 0
 IsAllowed None = Unit {0}
 IsAllowed (Some quota) = IsWithinLimits quota
 
 -- and brings a segment or a node
-abbrev pub Brings : Option Quota → Quota → Type 0
+abbrev pub Brings : Option ReserveOf → ReserveOf → Type 0
 Brings None now = Unit {0}
 Brings (Some quota) now = now.segments + now.nodes + 1 ≤ quota.segments + quota.nodes
 
@@ -50,7 +50,7 @@ module _ (n : ℕ) (step : Step) where
 pub raised-after : (step : Step) (steps : List Step) → is_appended step ≡ true → reserved_in (steps ++ step ∷ []) ≡ newer (reserved_in steps) (raise_in step)
 raised-after step steps goes = grind (arith, reserved-more, false≢true)
 
-pub counted-after : (step : Step) (steps : List Step) (r : Option Quota) → raise_in step ≡ r → raise_count (steps ++ step ∷ []) ≡ raise_count steps + one_for r
+pub counted-after : (step : Step) (steps : List Step) (r : Option ReserveOf) → raise_in step ≡ r → raise_count (steps ++ step ∷ []) ≡ raise_count steps + one_for r
 counted-after step steps r is = grind (arith, raise-more)
 
 module _ (step : Step) (j : JournalOf) (goes : is_appended step ≡ true) where

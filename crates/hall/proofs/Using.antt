@@ -1,16 +1,16 @@
 -- Each taken step of a tenant uses up one of what the tenant may do, so its journal in the hall stays within its
 -- places.
-use Rattle.hall.proofs.Common.{◌≡◌, ℕ, ◌+◌, ◌*◌, ◌≤◌, Bool, false, true, List, [], ◌∷◌, ◌++◌, length, Option, Some, None, Result, Ok, Err, refl, ap, arith, length-append, eqb-true, Quota, path_in, Job, Live, Refusal, StepOf, Admit, AdmitMore, Functions, DidOf, Tree, Tenant, admitted_with, with_ended, Outcome, lone_step, ended, state_after, alone_from, HasEnded, IsShaped, AreRootsLive, live_count, unless-passed, frame-found, by-kinds, step-shaped, admitted-shaped, length-with_ended, live-root, root-above, StaysTaken, AreTakenFrom, IsJournalOf, serial_in, is_appended, raise_in, newer, reserved_after, reserved_in, raise_count, ended_count, uses}
+use Rattle.hall.proofs.Common.{◌≡◌, ℕ, ◌+◌, ◌*◌, ◌≤◌, Bool, false, true, List, [], ◌∷◌, ◌++◌, length, Option, Some, None, Result, Ok, Err, refl, ap, arith, length-append, eqb-true, ReserveOf, path_in, Job, Live, Refusal, StepOf, Admit, AdmitMore, Functions, DidOf, Tree, Tenant, admitted_with, with_ended, Outcome, lone_step, ended, state_after, alone_from, HasEnded, IsShaped, AreRootsLive, live_count, unless-passed, frame-found, by-kinds, step-shaped, admitted-shaped, length-with_ended, live-root, root-above, StaysTaken, AreTakenFrom, IsJournalOf, serial_in, is_appended, raise_in, newer, reserved_after, reserved_in, raise_count, ended_count, uses}
 use Rattle.frame_table.proofs.TreeLaws.{below-found, found-there}
 
 -- one more is used by each step but a raise
-abbrev UsedBy : Option Quota → ℕ → ℕ → Type 0
+abbrev UsedBy : Option ReserveOf → ℕ → ℕ → Type 0
 UsedBy None before after = before + 1 ≤ after
 UsedBy (Some quota) before after = before ≤ after
 
 -- a tenant, if it stays, has used one more, and reserves what it did; a raise uses nothing, and reserves what it says. And it does
 -- stay where the step goes on
-abbrev pub HasUsed : Bool → Option Quota → Tenant → Option Tenant → Type 0
+abbrev pub HasUsed : Bool → Option ReserveOf → Tenant → Option Tenant → Type 0
 HasUsed goes raise tenant None = goes ≡ false
 HasUsed goes raise tenant (Some after) = UsedBy raise (uses tenant) (uses after) × (after.reserve ≡ newer tenant.reserve raise)
 
@@ -84,7 +84,7 @@ module _ {I A : Type 0} (functions : Functions I A) (before tenant : Tenant) (st
   followed taken comes shape = grind (arith, followed-by)
 
 -- a tenant after so many steps, of which so many are raises
-record HasGone (before : Tenant) (steps raises : ℕ) (reserve : Quota) (after : Tenant) : Type 0 where
+record HasGone (before : Tenant) (steps raises : ℕ) (reserve : ReserveOf) (after : Tenant) : Type 0 where
   used : uses before + steps ≤ uses after + raises
   same : after.reserve ≡ reserve
   shape : IsShaped after

@@ -1,6 +1,6 @@
 -- Meaning: what contracts see of a hall (the core, with each tenant's journal), and how the journals explain it.
 use Rattle.std.specs.Prelude.{◌≡◌, ℕ, ◌+◌, ◌*◌, ◌^◌, ◌≤◌, ◌==◌, Bool, false, List, [], Option, Some, None, Result, OnOk, OnErr, length}
-use Rattle.tenant_quota.specs.Quota.{Quota}
+use Rattle.tenant_quota.specs.Reserves.{ReserveOf}
 use Rattle.sched_rules.specs.declared.job.Job.{Job}
 use Rattle.sched_rules.specs.declared.refusal.Refusal.{Refusal}
 use Rattle.sched_rules.specs.declared.step.DidOf.{DidOf}
@@ -34,7 +34,7 @@ abbrev pub count_of : HallOf → ℕ
 count_of hall = total_length hall.journals + hall.gone
 
 -- a new hall with these totals, where no tenant was yet
-abbrev pub empty_hall : ℕ → Quota → HallOf
+abbrev pub empty_hall : ℕ → ReserveOf → HallOf
 empty_hall grain totals = record { grain = grain; shared = shared_by_nobody totals; journals = []; gone = 0; kept = 0 }
 
 -- the hall after a taken step, where the core then holds this: the step is added to its tenant's journal and

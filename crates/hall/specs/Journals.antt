@@ -2,7 +2,7 @@
 use Rattle.std.specs.Prelude.{◌≡◌, ℕ, ◌+◌, ◌*◌, ◌^◌, ◌<◌, ◌≤◌, Bool, true, false, List, [], ◌∷◌, ◌++◌, Option, Some, None, length}
 use Rattle.std.specs.List.{AllByRecursion}
 use Rattle.numbered_list.specs.Places.{read_by_number, has_by_number, change_by_number, remove_by_number}
-use Rattle.tenant_quota.specs.Quota.{Quota}
+use Rattle.tenant_quota.specs.Reserves.{ReserveOf}
 use Rattle.sched_rules.specs.declared.step.StepOf.{StepOf}
 use Rattle.sched_rules.specs.declared.step.StepOf.TheVariants.{Admit, AdmitMore, Submit, Cancel, Leave}
 use Rattle.sched_rules.specs.Runs.{tenant_of}
@@ -40,32 +40,32 @@ has_journal number journals = has_by_number owner_of_journal number journals
 
 -- what a step makes of its tenant's reservation: an Admit begins it, and an AdmitMore raises it to this; None for
 -- any other step, which doesn't change it
-abbrev pub reserve_in : {A : Type 0} → StepOf A → Option Quota
+abbrev pub reserve_in : {A : Type 0} → StepOf A → Option ReserveOf
 reserve_in (Admit number quota) = Some quota
 reserve_in (AdmitMore number quota) = Some quota
 reserve_in _ = None
 
 -- what a step raises its tenant's reservation to; None where it isn't an AdmitMore
-abbrev pub raise_in : {A : Type 0} → StepOf A → Option Quota
+abbrev pub raise_in : {A : Type 0} → StepOf A → Option ReserveOf
 raise_in (AdmitMore number quota) = Some quota
 raise_in _ = None
 
 -- the new reservation, if there is one, else the old
-abbrev pub newer : Quota → Option Quota → Quota
+abbrev pub newer : ReserveOf → Option ReserveOf → ReserveOf
 newer now None = now
 newer now (Some quota) = quota
 
 -- what a tenant reserves after these steps of it, where it reserved this before them
-abbrev pub reserved_after : {A : Type 0} → Quota → List (StepOf A) → Quota
+abbrev pub reserved_after : {A : Type 0} → ReserveOf → List (StepOf A) → ReserveOf
 reserved_after now [] = now
 reserved_after now (step ∷ steps) = reserved_after (newer now (reserve_in step)) steps
 
 -- what the tenant of these steps reserves: what the last Admit or AdmitMore among them says
-abbrev pub reserved_in : {A : Type 0} → List (StepOf A) → Quota
+abbrev pub reserved_in : {A : Type 0} → List (StepOf A) → ReserveOf
 reserved_in steps = reserved_after (record { segments = 0; nodes = 0 }) steps
 
 -- 1 where a step raised its tenant's reservation, 0 where it didn't
-abbrev pub one_for : Option Quota → ℕ
+abbrev pub one_for : Option ReserveOf → ℕ
 one_for None = 0
 one_for (Some quota) = 1
 
@@ -77,23 +77,23 @@ raise_count (step ∷ steps) = one_for (raise_in step) + raise_count steps
 -- how many places a journal has for such a reservation, beside one for each raise: 16 for each node, as that
 -- allows 16 counted steps; one each for Admit and Leave; and 256 each for the Submits, the Spends and the Cancels
 -- of at most 256 jobs
-abbrev pub places_for : Quota → ℕ
+abbrev pub places_for : ReserveOf → ℕ
 places_for quota = 16 * quota.nodes + 770
 
 -- how many places a journal has for long entries for such a reservation, beside one for each raise: one for each
 -- node, as a frame is given at most one Answer; one for the Admit; and 256 each for the Submits and the Cancels
-abbrev pub longs_for : Quota → ℕ
+abbrev pub longs_for : ReserveOf → ℕ
 longs_for quota = quota.nodes + 513
 
 -- how many places a journal has after a step: an AdmitMore makes those of the new reservation, and one for each
 -- raise so far, this one included
-abbrev pub places_with : Option Quota → JournalOf → ℕ
+abbrev pub places_with : Option ReserveOf → JournalOf → ℕ
 places_with None journal = journal.places
 places_with (Some quota) journal = places_for quota + (raise_count journal.steps + 1)
 
 -- how many places for long entries a journal has after a step: an AdmitMore makes those of the new reservation, and
 -- one for each raise so far, this one included
-abbrev pub longs_with : Option Quota → JournalOf → ℕ
+abbrev pub longs_with : Option ReserveOf → JournalOf → ℕ
 longs_with None journal = journal.longs
 longs_with (Some quota) journal = longs_for quota + (raise_count journal.steps + 1)
 
@@ -115,7 +115,7 @@ total_length [] = 0
 total_length (journal ∷ journals) = length journal.steps + total_length journals
 
 -- the journal of a tenant that was just admitted
-abbrev pub admitted_journal : ℕ → Quota → JournalOf
+abbrev pub admitted_journal : ℕ → ReserveOf → JournalOf
 admitted_journal number quota = record { tenant = number; places = places_for quota; longs = longs_for quota; steps = Admit number quota ∷ [] }
 
 -- the journals after a taken step: an Admit begins one, a Leave ends one, and any other step is added to its tenant's
@@ -153,7 +153,7 @@ AreUpTo number journals = AllByRecursion (λ journal. journal.tenant ≤ number)
 -- of a journal: it begins with its tenant's Admit; it has the places for what is reserved, and one for each
 -- raise; it has no more steps than places; and each raise has added a segment or a node
 pub record IsBegun (journal : JournalOf) : Type 0 where
-  pub quota : Quota
+  pub quota : ReserveOf
   pub later : List (StepOf LeafAnswer)
   pub begins : journal.steps ≡ Admit journal.tenant quota ∷ later
   pub places : journal.places ≡ places_for (reserved_in journal.steps) + raise_count journal.steps

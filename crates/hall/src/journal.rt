@@ -1,6 +1,6 @@
 //! The journal of one tenant of the hall (the list of its taken steps), and where it stands among all.
 ghost use Rattle.std.specs.Prelude.{◌≡◌, ◌+◌, ◌++◌, ◌∷◌, ◌<◌, ◌≤◌, ◌^◌, [], true, None, length, IfOk, OnOk, OnErr};
-ghost use Rattle.tenant_quota.specs.Quota.{IsWithinLimits};
+ghost use Rattle.tenant_quota.specs.Reserves.{IsWithinLimits};
 ghost use Rattle.sched_rules.specs.Headline.{IsOneStep, AreNumbersGiven};
 ghost use Rattle.jamboree_core.specs.jamboree_rules.Procedure.{jamboree};
 ghost use Rattle.jamboree_core.specs.Replies.{IsSearch};

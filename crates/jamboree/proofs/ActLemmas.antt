@@ -68,7 +68,7 @@ child-opens grain f q own opp c phase got holds own_fits opp_fits disjoint =
     let same : cells_of own opp ≡ b = holds ∙ ap (λ (x : Choice). after (board q) x) (choice-got (choices (board q)) f.number c got) in
     let opp_same : opp ≡ opp_word b = opp-is own opp disjoint opp_fits ∙ ap opp_word same in
     ap (λ (o : ℕ). opening_on grain f o opp) (own-is own opp own_fits ∙ ap own_word same) ∙ ap (λ (p : ℕ). opening_on grain f (own_word b) p) opp_same
-    ∙ ap (λ (n : ℕ). act_by (n == 0) (n == 1) (n == 2) (n == 3) grain f (Some q)) (sym phase)
+    ∙ ap (λ (n : ℕ). act_by (n == 0) (n == 1) (n == 2) (n == 3) (grain, Some q) f) (sym phase)
 
 -- the act of the tests, by their flags
 pub tests-by : (f : Frame) (at : ℕ) (act : Act) (failed more all : Bool) → (nat_lt at (length f.statuses) && (slice_index f.statuses at == 3)) ≡ failed →

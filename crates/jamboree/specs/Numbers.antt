@@ -1,6 +1,8 @@
 -- Representation: the numbers that stand for phases, roles and statuses in the words of a search's frame, and a frame
 -- by its parts.
-use Rattle.std.specs.Prelude.{ℕ, ℤ, List}
+use Rattle.std.specs.Prelude.{ℕ, ℤ, List, map}
+use Rattle.othello_board.specs.declared.boards.Board.{Board}
+use Rattle.jamboree.specs.declared.frame.Goal.{Goal}
 use Rattle.jamboree.specs.declared.phases.Phase.{Phase}
 use Rattle.jamboree.specs.declared.phases.Phase.TheVariants.{New, Computing, First, Tests, Done}
 use Rattle.jamboree.specs.declared.phases.Role.{Role}
@@ -8,6 +10,7 @@ use Rattle.jamboree.specs.declared.phases.Role.TheVariants.{Root, FirstChild, Te
 use Rattle.jamboree.specs.declared.phases.Status.{Status}
 use Rattle.jamboree.specs.declared.phases.Status.TheVariants.{NotSpawned, Runs, Settled, Failed, RunsAgain}
 use Rattle.jamboree_rules.specs.Frames.{Frame, phase_new, phase_computing, phase_first, phase_tests, phase_done, role_root, role_first_child, role_test, role_again, status_not_spawned, status_runs, status_settled, status_failed, status_runs_again}
+use Rattle.jamboree_rules.specs.Places.{status_of, entry_rest}
 
 -- the number that stands for a phase in a frame's words
 abbrev pub phase_number : Phase → ℕ
@@ -32,6 +35,31 @@ status_number Settled = status_settled
 status_number Failed = status_failed
 status_number RunsAgain = status_runs_again
 
--- the frame of the search that has these parts
-abbrev pub frame_by : (own opp depth : ℕ) (alpha beta : ℤ) → Role → ℕ → Phase → ℤ → (choice count spawned : ℕ) → (statuses rests : List ℕ) → Frame
-frame_by own opp depth alpha beta role number phase best choice count spawned statuses rests = record { own = own; opp = opp; depth = depth; alpha = alpha; beta = beta; role = role_number role; number = number; phase = phase_number phase; best = best; choice = choice; count = count; spawned = spawned; statuses = statuses; rests = rests }
+-- how far a frame has come: its phase, its best score and the code of the choice that has it, how many choices it
+-- has, and for how many of them a child was opened
+pub record Progress : Type 0 where
+  pub phase : Phase
+  pub best : ℤ
+  pub choice : ℕ
+  pub count : ℕ
+  pub spawned : ℕ
+
+-- the frame with this board, goal, role and number of its choice among its parent's, that has come so far, where its
+-- choices have these entries
+abbrev pub frame_by : Board → Goal → Role → ℕ → Progress → List ℕ → Frame
+frame_by board goal role number progress entries = record {
+  own = board.own;
+  opp = board.opp;
+  depth = goal.depth;
+  alpha = goal.alpha;
+  beta = goal.beta;
+  role = role_number role;
+  number = number;
+  phase = phase_number progress.phase;
+  best = progress.best;
+  choice = progress.choice;
+  count = progress.count;
+  spawned = progress.spawned;
+  statuses = map status_of entries;
+  rests = map entry_rest entries;
+}

@@ -56,7 +56,7 @@ rests_in words = map entry_rest (entries_of words)
 
 -- the frame that a view shows, where its choices have these entries
 abbrev pub frame_with : FrameView → List ℕ → Frame
-frame_with v entries = frame_by v.board.own v.board.opp v.goal.depth v.goal.alpha v.goal.beta v.role v.number v.phase v.best v.choice v.count v.spawned (map status_of entries) (map entry_rest entries)
+frame_with v entries = frame_by v.board v.goal v.role v.number (record { phase = v.phase; best = v.best; choice = v.choice; count = v.count; spawned = v.spawned }) entries
 
 -- the frame that a view shows, without entries: for what doesn't depend on them
 abbrev pub frame_in : FrameView → Frame

@@ -41,7 +41,7 @@ pub(crate) struct FrameView {
     pub(crate) count: usize,
     /// For how many of these choices, from the first on, a child was opened.
     pub(crate) spawned: usize,
-    ghost form: { is_frame (frame_by board.own board.opp goal.depth goal.alpha goal.beta role number phase best choice count spawned [] []) ≡ true },
+    ghost form: { is_frame (frame_by board goal role number (record { phase = phase; best = best; choice = choice; count = count; spawned = spawned }) []) ≡ true },
     ghost few: { count ≤ 116 },
     ghost least: { negsuc 199999 ≤ℤ goal.alpha },
     ghost window: { goal.alpha <ℤ goal.beta },

@@ -1,6 +1,6 @@
 -- A frame of a search gets at most one Answer from a worker: each answers a frame that was opened, and makes it one
 -- that is never computed again.
-use Rattle.jamboree_core.proofs.Common.{Quota, ◌≡◌, ℕ, ◌+◌, ◌≤◌, inl, inr, Bool, List, [], ◌∷◌, ◌++◌, Option, Some, None, Result, Ok, Err, refl, ap, ◌∙◌, arith, nat_le, if◌then◌else◌, not-false, nat_tests, Running, FrameId, frame_at, found-serial, padded, Refusal, StepOf, Admit, Answer, Tree, Tenant, admitted_with, with_frame_words, stored, Outcome, unless, lone_step, answer_tests, answered, is_computed_by, state_after, alone_from, IsShaped, TenantFits, submits, frame-found, unless-passed, came, step-shaped, admitted-shaped, step-fits, Leaf, AreFitting, IsRoot, jamboree, LeafAnswer, phase_computing, frame_of, accepts, AreSearches, StaysTaken, AreTakenFrom, IsJournalOf, computes-marked, Computes, frame_at-with_frame_words, tree-with_frame_words, frame_by, Weight, Frame}
+use Rattle.jamboree_core.proofs.Common.{ReserveOf, ◌≡◌, ℕ, ◌+◌, ◌≤◌, inl, inr, Bool, List, [], ◌∷◌, ◌++◌, Option, Some, None, Result, Ok, Err, refl, ap, ◌∙◌, arith, nat_le, if◌then◌else◌, not-false, nat_tests, Running, FrameId, frame_at, found-serial, padded, Refusal, StepOf, Admit, Answer, Tree, Tenant, admitted_with, with_frame_words, stored, Outcome, unless, lone_step, answer_tests, answered, is_computed_by, state_after, alone_from, IsShaped, TenantFits, submits, frame-found, unless-passed, came, step-shaped, admitted-shaped, step-fits, Leaf, AreFitting, IsRoot, jamboree, LeafAnswer, phase_computing, frame_of, accepts, AreSearches, StaysTaken, AreTakenFrom, IsJournalOf, computes-marked, Computes, frame_at-with_frame_words, tree-with_frame_words, frame_by, Weight, Frame}
 use Rattle.jamboree_core.proofs.Replying.{search-fits, lawful}
 use Rattle.jamboree_core.proofs.Moves.{by-moves, by-inlet, by-answer}
 use Rattle.jamboree_core.proofs.Weights.{UsesUp, Pays, IsAccount, Leaves, step-left, tolls_in, free, words-toll, state-toll, fits-leaf}
@@ -44,7 +44,7 @@ closes grain = record {
 }
 
 -- after a taken step so many frames fewer may be answered yet, but for those that it opened
-abbrev Closes : ℕ → Tenant → (steps serials : ℕ) → Quota → ℕ → Type 0
+abbrev Closes : ℕ → Tenant → (steps serials : ℕ) → ReserveOf → ℕ → Type 0
 Closes k before steps serials quota sum = sum + before.serials + k ≤ unanswered before.frames + serials
 
 abbrev ClosesBy : ℕ → Tenant → Option Tenant → Type 0

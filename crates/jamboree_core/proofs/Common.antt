@@ -40,7 +40,7 @@ pub use Rattle.sched_laws.proofs.Common.{Act, Admit, AdmitMore, Admitted, Advanc
 pub use Rattle.sched_laws.proofs.Common.{Bool, Busy, Cancel, Cancelled, Compute, Computes, Computing, Continuation, CoreFits, CoreState, DidOf, Done, EachFits}
 pub use Rattle.sched_laws.proofs.Common.{Err, Finish, FrameId, Functions, Go, Grow, HasReturned, Inlet, IsAnswerTo, IsShaped, IsTree, Job, JobFits}
 pub use Rattle.sched_laws.proofs.Common.{JobsFit, Leave, List, Live, Lower, Mark, Neither, NoTenant, None, NotSpent, Ok, OldTenant, Option, Outcome, ParentFits}
-pub use Rattle.sched_laws.proofs.Common.{Quota, Ready, Refusal, Result, Return, Returned, RootFits, RootsFit, Running, Some, Spawn, Spend, Spent, State, Steal}
+pub use Rattle.sched_laws.proofs.Common.{Ready, Refusal, ReserveOf, Result, Return, Returned, RootFits, RootsFit, Running, Some, Spawn, Spend, Spent, State, Steal}
 pub use Rattle.sched_laws.proofs.Common.{StepOf, Submit, Take, Tenant, TenantFits, Tree, Wait, [], aborted, above-missing, act_by_sight, admitted_with, left}
 pub use Rattle.sched_laws.proofs.Common.{advance_tests, advanced, after_answers, alone_from, and_parts, answer_of, answer_tests, answered, ap, append-nil}
 pub use Rattle.sched_laws.proofs.Common.{append_assoc, arith, at_frame, cases_Bool, children_of, counted, does_wait, ended, eq-eqb, eqb, eqb-true, false}

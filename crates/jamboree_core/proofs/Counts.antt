@@ -131,13 +131,13 @@ module _ (grain : ℕ) (origin own : List ℕ) (above older younger children : L
   })
 
 -- So it is a law of the procedure.
-pub fitting-above : (grain : ℕ) (origin own : List ℕ) (above older younger : Lists) → ParentFits (AreCounted grain) IsRoot origin above older own younger →
+pub fitting-above : (grain : ℕ) (origin own : List ℕ) (above older younger : Lists) → ParentFits (AreCounted grain) IsRoot origin above (older, younger) own →
     StandsUnder origin above older younger own
 fitting-above grain origin own [] older younger parent = parent
 fitting-above grain origin own (q ∷ above) older younger parent = parent.fits
 
 counted-above : (grain : ℕ) (origin own changed : List ℕ) (above older younger : Lists) → (frame_of changed).number ≡ (frame_of own).number →
-    ParentFits (AreCounted grain) IsRoot origin above older own younger → StandsUnder origin above older younger changed → ParentFits (AreCounted grain) IsRoot origin above older changed younger
+    ParentFits (AreCounted grain) IsRoot origin above (older, younger) own → StandsUnder origin above older younger changed → ParentFits (AreCounted grain) IsRoot origin above (older, younger) changed
 counted-above grain origin own changed [] older younger number parent fits = fits
 counted-above grain origin own changed (q ∷ above) older younger number parent fits =
     record { fits = fits; counted = parent.counted; runs = record { first = λ e k low. rw (same k) (parent.runs.first e k low); tests = λ e k low not2 not3. rw (same k) (parent.runs.tests e k low not2 not3) } }

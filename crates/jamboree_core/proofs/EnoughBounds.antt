@@ -1,6 +1,6 @@
 -- What suffices for a search, by the empty squares and the opposing discs of its position: it meets the inequality of
 -- each frame; and how it is computed.
-use Rattle.jamboree_core.proofs.Common.{◌≡◌, ℕ, inl, inr, Bool, true, false, List, [], ◌∷◌, length, refl, ap, subst, ◌∙◌, ◌+◌, ◌-◌, ◌<◌, ◌≤◌, arith, cases_Bool, replicate, Cell, zero, suc, ◌*◌, slice_index_or, map, if◌then◌else◌, ne_eqb, get_or-map, All-get_or, All-from_get_or, sum_by-le, is_nil, exchanged, played, Choice, Square, Pass, IsAllowed, choices, legal_squares, empty_squares, opposing_discs, after, plies, choices_allowed, legal-empty, legal-opposing, few-choices, exchanged-empty, board-parts, played-fewer, charge, Cost, choice_of, search_cost, later_cost, later_costs, first_costs, choice_costs, IsEnough, enough_nodes, Size, choice_sizes, IsRoomy, enough_segments, most_choices, choices_within, spawning_plies, search_nodes, search_segments, board_nodes, board_segments, length-map, mul-le, Option, Some, None, sym, Quota, cells_of, ◌≢◌, ◌^◌, ◌↔◌, min, max, count_by, IsSome, IfSome, cases_lt, IsWithinLimits, is_own_cell, is_opp_cell, count-squares, count-own}
+use Rattle.jamboree_core.proofs.Common.{◌≡◌, ℕ, inl, inr, Bool, true, false, List, [], ◌∷◌, length, refl, ap, subst, ◌∙◌, ◌+◌, ◌-◌, ◌<◌, ◌≤◌, arith, cases_Bool, replicate, Cell, zero, suc, ◌*◌, slice_index_or, map, if◌then◌else◌, ne_eqb, get_or-map, All-get_or, All-from_get_or, sum_by-le, is_nil, exchanged, played, Choice, Square, Pass, IsAllowed, choices, legal_squares, empty_squares, opposing_discs, after, plies, choices_allowed, legal-empty, legal-opposing, few-choices, exchanged-empty, board-parts, played-fewer, charge, Cost, choice_of, search_cost, later_cost, later_costs, first_costs, choice_costs, IsEnough, enough_nodes, Size, choice_sizes, IsRoomy, enough_segments, most_choices, choices_within, spawning_plies, search_nodes, search_segments, board_nodes, board_segments, length-map, mul-le, Option, Some, None, sym, ReserveOf, cells_of, ◌≢◌, ◌^◌, ◌↔◌, min, max, count_by, IsSome, IfSome, cases_lt, IsWithinLimits, is_own_cell, is_opp_cell, count-squares, count-own}
 
 -- ---- the choices of a board
 
@@ -273,10 +273,10 @@ module _ (own opp : ℕ) {mine theirs : ℕ} (are_mine : mine ≡ count_by is_ow
 
 -- what is within the limits isn't cut off
 module _ {segments nodes : ℕ} (s n : ℕ) (are_segments : segments ≡ min s most) (are_nodes : nodes ≡ min n most) where
-  pub within-limits : (found : Option Quota) → IsSome found ↔ IsWithinLimits (record { segments = segments; nodes = nodes }) → IsSome found ↔ IsWithinLimits (record { segments = s; nodes = n })
+  pub within-limits : (found : Option ReserveOf) → IsSome found ↔ IsWithinLimits (record { segments = segments; nodes = nodes }) → IsSome found ↔ IsWithinLimits (record { segments = s; nodes = n })
   within-limits found w = (λ some. let fits = w.0 some in grind arith, λ fits. w.1 (grind arith))
 
-  pub value-within : (found : Option Quota) → IsSome found ↔ IsWithinLimits (record { segments = segments; nodes = nodes }) → IfSome found (λ r. r ≡ record { segments = segments; nodes = nodes }) →
+  pub value-within : (found : Option ReserveOf) → IsSome found ↔ IsWithinLimits (record { segments = segments; nodes = nodes }) → IfSome found (λ r. r ≡ record { segments = segments; nodes = nodes }) →
       IfSome found (λ r. r ≡ record { segments = s; nodes = n })
   value-within None w is = tt
   value-within (Some r) w is =

@@ -1,6 +1,6 @@
 -- Tenants' journals (lists of taken steps): what a tenant of searches comes to by its own taken steps, and how a
 -- journal grows.
-use Rattle.jamboree_core.proofs.Common.{◌≡◌, ◌≢◌, ℕ, List, [], ◌∷◌, ◌++◌, Option, Some, None, Result, Ok, Err, refl, ap, sym, ◌∙◌, subst, append_assoc, append-nil, arith, Quota, Refusal, NoTenant, StepOf, DidOf, Admit, Functions, Tenant, admitted_with, Outcome, lone, tenant_of, state_after, alone_from, CoreState, tenant_in, shared_with, AreNumbersGiven, IsOneStep, tenant_in-with_outcome, tenant_in-other-with_outcome, step-taken, shared-after-taken, submits, origins_of, LeftShaped, lone-shaped, LeftFits, step-fits, Leaf, LeafAnswer, AreFitting, IsRoot, jamboree, IsSearch, AreSearches, TenantSearches, StaysTaken, AreTakenFrom, IsJournalOf, Fitting, IsLawful, RootFits}
+use Rattle.jamboree_core.proofs.Common.{◌≡◌, ◌≢◌, ℕ, List, [], ◌∷◌, ◌++◌, Option, Some, None, Result, Ok, Err, refl, ap, sym, ◌∙◌, subst, append_assoc, append-nil, arith, ReserveOf, Refusal, NoTenant, StepOf, DidOf, Admit, Functions, Tenant, admitted_with, Outcome, lone, tenant_of, state_after, alone_from, CoreState, tenant_in, shared_with, AreNumbersGiven, IsOneStep, tenant_in-with_outcome, tenant_in-other-with_outcome, step-taken, shared-after-taken, submits, origins_of, LeftShaped, lone-shaped, LeftFits, step-fits, Leaf, LeafAnswer, AreFitting, IsRoot, jamboree, IsSearch, AreSearches, TenantSearches, StaysTaken, AreTakenFrom, IsJournalOf, Fitting, IsLawful, RootFits}
 use Rattle.jamboree_core.proofs.Replying.{search-fits, lawful}
 use Rattle.jamboree_core.proofs.Serving.{searches-asked}
 
@@ -83,7 +83,7 @@ module _ {I A : Type 0} (functions : Functions I A) where
       record { taken = on.0; comes = on.1 }
 
   -- an admission begins a journal
-  pub journal-begins : (before : CoreState) (number : ℕ) (quota : Quota) (did : DidOf I) (after : CoreState) → AreNumbersGiven before →
+  pub journal-begins : (before : CoreState) (number : ℕ) (quota : ReserveOf) (did : DidOf I) (after : CoreState) → AreNumbersGiven before →
       IsOneStep {A = A} functions before (Admit number quota) (Ok did) after →
       (tenant_in after.tenants number ≡ Some (admitted_with quota)) × IsJournalOf {A = A} functions (Admit number quota ∷ []) (admitted_with quota)
   journal-begins before number quota did after known one =
@@ -93,7 +93,7 @@ module _ {I A : Type 0} (functions : Functions I A) where
       let found = ap (λ (s : CoreState). tenant_in s.tenants number) after_is ∙ tenant_in-with_outcome number t.outcome.0 before.tenants in
       (found ∙ admitted-left functions (tenant_in before.tenants number) number quota t.outcome t.own, record { taken = (tt, tt); comes = refl })
     where
-      admitted-left : (functions : Functions I A) (own : Option Tenant) (number : ℕ) (quota : Quota) (outcome : Outcome I) → lone {A = A} functions own (Admit number quota) ≡ Ok outcome → outcome.0 ≡ Some (admitted_with quota)
+      admitted-left : (functions : Functions I A) (own : Option Tenant) (number : ℕ) (quota : ReserveOf) (outcome : Outcome I) → lone {A = A} functions own (Admit number quota) ≡ Ok outcome → outcome.0 ≡ Some (admitted_with quota)
       admitted-left functions own number quota outcome is = grind arith
 
   -- a step changes its own tenant alone

@@ -109,10 +109,10 @@ module _ {grain : ℕ} {cost : Cost} (enough : IsEnough grain cost) where
       high = let w = fits.frame.window in let h = form.frame.leaf.high in omega (arith, ints)
 
       floor-high : least ≤ℤ neg_ℤ (floor this)
-      floor-high = let w = fits.frame.window in let below = s.search.below in let h = form.frame.leaf.high in omega (arith, ints, clamps)
+      floor-high = let w = fits.frame.window in let below = s.below in let h = form.frame.leaf.high in omega (arith, ints, clamps)
 
       test-low : least ≤ℤ neg_ℤ (floor this +ℤ pos 1)
-      test-low = let w = fits.frame.window in let below = s.search.below in let h = form.frame.leaf.high in omega (arith, ints, clamps)
+      test-low = let w = fits.frame.window in let below = s.below in let h = form.frame.leaf.high in omega (arith, ints, clamps)
 
     pub next-uses : Uses cost own up children (frame_of (grown (next_act grain (own ∷ above)).after (stored (next_act grain (own ∷ above)).stores own))) (next_act grain (own ∷ above)).after
     next-uses = by-moves grain origin own above older younger children fits parent (Uses cost own up children) (record {

@@ -1,6 +1,6 @@
 -- A tenant of searches that reserved enough nodes and segments is never refused one, and no job of it is spent (ended
 -- as it couldn't go on within the reservation).
-use Rattle.jamboree_core.proofs.Common.{◌≡◌, ◌≢◌, ℕ, false, not, ◌&&◌, List, [], Some, None, Ok, refl, ◌≤◌, arith, not-false, frame_at, Tenant, Outcome, is_run_by, act_by_sight, advance_tests, ◌==◌, run-free, IsShaped, F, Leaf, LeafAnswer, jamboree, StepOf, Advance, FrameId, lone_step, TenantSearches, Submit, cells_of, root_words, padded, NoNodes, lone_refusal, frame_size, ltb-false, or_parts, HasNodes, HasNodesToo, StillHasNodes, Cost, IsEnough, enough_nodes, root_cost, still_opens, found-own, inl, inr, cases_Bool, ne_eqb, common_steps, ◌⊎◌, Bool, true, ◌∷◌, ◌++◌, Option, length, ap, ◌∙◌, ◌+◌, tree-rising, replicate, with_frame_words, Neither, new_frame, is_outside, advanced, then_done, counted, holding, stored, grown, is_bad_act, has_child, LeftShaped, LeftFits, TenantFits, step-shaped, step-fits, Lists, Refusal, Act, Continuation, Grow, Spawn, Wait, AreFitting, IsRoot, board, frame_of, next_act, inlet_act, accepts, le-ltb, leb-true, nat_lt, length-padded, length-stored, is_bad_then, charged_for, charge, weight_in, IsStillPaid, charged-with_frame_words, charged-append, charged-one, with_frame_words-twice, AllPass, formed-told, StandsUnder, frame_after, next-goes, inlet-stores, answer-good, answered_frame, Size, IsRoomy, enough_segments, root_weight, HasSegments, Cell, Result, Err, false≢true, eq-eqb, NoTenant, Admit, Quota, parent_of, State, Running, is_returned, has-returned, Spend, NotSpent, IsJournalOf, AreSearches, origins_of, is_spendable, lone, IsSearch, submits, or_from, is_run, applies, act_tests, is_bad_inlet, board_nodes, board_segments, FindsEnough, EachFindsEnough, HasSegmentsToo, StillHasSegments, is_spawn, is_lower, left, and_parts, segments_for, Frame}
+use Rattle.jamboree_core.proofs.Common.{◌≡◌, ◌≢◌, ℕ, false, not, ◌&&◌, List, [], Some, None, Ok, refl, ◌≤◌, arith, not-false, frame_at, Tenant, Outcome, is_run_by, act_by_sight, advance_tests, ◌==◌, run-free, IsShaped, F, Leaf, LeafAnswer, jamboree, StepOf, Advance, FrameId, lone_step, TenantSearches, Submit, cells_of, root_words, padded, NoNodes, lone_refusal, frame_size, ltb-false, or_parts, HasNodes, HasNodesToo, StillHasNodes, Cost, IsEnough, enough_nodes, root_cost, still_opens, found-own, inl, inr, cases_Bool, ne_eqb, common_steps, ◌⊎◌, Bool, true, ◌∷◌, ◌++◌, Option, length, ap, ◌∙◌, ◌+◌, tree-rising, replicate, with_frame_words, Neither, new_frame, is_outside, advanced, then_done, counted, holding, stored, grown, is_bad_act, has_child, LeftShaped, LeftFits, TenantFits, step-shaped, step-fits, Lists, Refusal, Act, Continuation, Grow, Spawn, Wait, AreFitting, IsRoot, board, frame_of, next_act, inlet_act, accepts, le-ltb, leb-true, nat_lt, length-padded, length-stored, is_bad_then, charged_for, charge, weight_in, IsStillPaid, charged-with_frame_words, charged-append, charged-one, with_frame_words-twice, AllPass, formed-told, StandsUnder, frame_after, next-goes, inlet-stores, answer-good, answered_frame, Size, IsRoomy, enough_segments, root_weight, HasSegments, Cell, Result, Err, false≢true, eq-eqb, NoTenant, Admit, ReserveOf, parent_of, State, Running, is_returned, has-returned, Spend, NotSpent, IsJournalOf, AreSearches, origins_of, is_spendable, lone, IsSearch, submits, or_from, is_run, applies, act_tests, is_bad_inlet, board_nodes, board_segments, FindsEnough, EachFindsEnough, HasSegmentsToo, StillHasSegments, is_spawn, is_lower, left, and_parts, segments_for, Frame}
 use Rattle.jamboree_core.proofs.Weights.{step-room, node-paid, nearest_words, Pays, UsesUp}
 use Rattle.jamboree_core.proofs.Needs.{search-uses}
 use Rattle.jamboree_core.proofs.Possible.{frame-none-by, act-good, inlet-good}
@@ -12,10 +12,10 @@ use Rattle.jamboree_core.proofs.JournalLemmas.{journal-searches, all-lasts, Fits
 use Rattle.jamboree_core.proofs.SearchTurns.{journal-left, journal-counts}
 
 -- a raise lowers no number
-pub more-nodes : (now quota : Quota) → is_lower now quota ≡ false → now.nodes ≤ quota.nodes
+pub more-nodes : (now quota : ReserveOf) → is_lower now quota ≡ false → now.nodes ≤ quota.nodes
 more-nodes now quota enough = ltb-false quota.nodes now.nodes (or_parts _ _ (or_parts _ _ enough).0).1
 
-pub more-segments : (now quota : Quota) → is_lower now quota ≡ false → now.segments ≤ quota.segments
+pub more-segments : (now quota : ReserveOf) → is_lower now quota ≡ false → now.segments ≤ quota.segments
 more-segments now quota enough = ltb-false quota.segments now.segments (or_parts _ _ (or_parts _ _ enough).0).0
 
 module _ {grain : ℕ} {cost : Cost} {origins : List (List ℕ)} {tenant : Tenant} (enough : IsEnough grain cost) (shape : IsShaped tenant)
@@ -144,7 +144,7 @@ module _ {grain : ℕ} {size : Size} {origins : Lists} {tenant : Tenant} (roomy 
 
     -- what a longer frame and a new child are charged
     charged-more : (after : Continuation) → is_bad_then (length f.value) (has_child tenant.frames f.serial) after ≡ false →
-        ChargedAtMost roots (then_done (jamboree grain) (counted (holding f.serial words big)) worker name f.path words after).0 →
+        ChargedAtMost roots (then_done (jamboree grain) (counted (holding f.serial words big)) worker name (record f { value = words }) after).0 →
         (segments_for f after ≡ 0) ⊎ (charged_for tenant.frames + segments_for f after ≤ roots)
     charged-more (Grow more) fine most =
         let charged = charged-with_frame_words f.serial (words ++ replicate more 0) tenant.frames f (tree-rising tenant.frames shape.tree) at in

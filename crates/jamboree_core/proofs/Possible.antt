@@ -1,5 +1,5 @@
 -- What a tenant of searches does on a core can be done: none of its steps but a Submit is refused by BadAct.
-use Rattle.jamboree_core.proofs.Common.{◌≡◌, ◌≢◌, ℕ, inl, inr, Bool, true, false, not, List, [], ◌∷◌, Option, Some, None, Result, Ok, Err, refl, ap, sym, ◌∙◌, arith, cases_Bool, false≢true, not-false, frame_at, parent_of, Job, Live, Refusal, NotSpent, BadAct, Busy, Lower, StepOf, Admit, AdmitMore, Submit, Take, Steal, Advance, Answer, Inlet, Finish, Spend, Cancel, Leave, DidOf, Quota, tenant_of, answer_of, CoreState, tenant_in, shared_refusal, IsAnswerTo, IsAnswerToStep, IsAnswerToAdmit, Tree, Tenant, words_in, is_outside, has_child, job_at, Neither, Computes, HasReturned, mark_of_state, Outcome, unless, refusal_in, first_step, lone_step, is_lower, raised, at_frame, is_run_by, is_computed_by, is_returned, is_bad_act, act_by_sight, take_tests, steal_tests, advance_tests, answer_tests, inlet_tests, inlet_under, taken_in, finish_tests, is_spendable, cancelled, IsShaped, AreShaped, TenantFits, CoreFits, submits, shaped-in, run-free, Lists, F, kids, words-found, has-one, computes-marked, has-returned, Leaf, LeafAnswer, next_act, inlet_act, accepts, AreFitting, IsRoot, jamboree, next-possible, inlet-possible, accept-possible, NoFrame, found-own, fits-marked, meets_busy, lone}
+use Rattle.jamboree_core.proofs.Common.{◌≡◌, ◌≢◌, ℕ, inl, inr, Bool, true, false, not, List, [], ◌∷◌, Option, Some, None, Result, Ok, Err, refl, ap, sym, ◌∙◌, arith, cases_Bool, false≢true, not-false, frame_at, parent_of, Job, Live, Refusal, NotSpent, BadAct, Busy, Lower, StepOf, Admit, AdmitMore, Submit, Take, Steal, Advance, Answer, Inlet, Finish, Spend, Cancel, Leave, DidOf, ReserveOf, tenant_of, answer_of, CoreState, tenant_in, shared_refusal, IsAnswerTo, IsAnswerToStep, IsAnswerToAdmit, Tree, Tenant, words_in, is_outside, has_child, job_at, Neither, Computes, HasReturned, mark_of_state, Outcome, unless, refusal_in, first_step, lone_step, is_lower, raised, at_frame, is_run_by, is_computed_by, is_returned, is_bad_act, act_by_sight, take_tests, steal_tests, advance_tests, answer_tests, inlet_tests, inlet_under, taken_in, finish_tests, is_spendable, cancelled, IsShaped, AreShaped, TenantFits, CoreFits, submits, shaped-in, run-free, Lists, F, kids, words-found, has-one, computes-marked, has-returned, Leaf, LeafAnswer, next_act, inlet_act, accepts, AreFitting, IsRoot, jamboree, next-possible, inlet-possible, accept-possible, NoFrame, found-own, fits-marked, meets_busy, lone}
 use Rattle.jamboree_core.proofs.Weights.{above-of, fits-leaf, is-taken-in}
 
 -- tests of which none refuses by r, where none before it applies
@@ -109,7 +109,7 @@ module _ (grain : ℕ) (before : CoreState) (step : StepOf LeafAnswer) (answer :
   admission-none-bad none right = grind arith
 
 -- an admission is refused by OldTenant or Full
-module _ (grain : ℕ) (before : CoreState) (number : ℕ) (quota : Quota) where
+module _ (grain : ℕ) (before : CoreState) (number : ℕ) (quota : ReserveOf) where
   admit-none-bad : shared_refusal {A = LeafAnswer} (jamboree grain) before (Admit number quota) ≢ Some BadAct
   admit-none-bad = grind (arith, not-by)
 

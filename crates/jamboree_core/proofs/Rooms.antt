@@ -64,7 +64,7 @@ module _ (size : Size) (own : List ℕ) where
 
 -- the room of a frame
 module _ {grain : ℕ} {size : Size} (roomy : IsRoomy grain size) (origin own : List ℕ) (above older younger children : Lists) {mark : Mark}
-    (fits : AreCounted grain own children mark) (parent : ParentFits (AreCounted grain) IsRoot origin above older own younger) where
+    (fits : AreCounted grain own children mark) (parent : ParentFits (AreCounted grain) IsRoot origin above (older, younger) own) where
   abbrev f : Frame
   f = frame_of own
 
@@ -95,7 +95,7 @@ module _ {grain : ℕ} {size : Size} (roomy : IsRoomy grain size) (origin own : 
         let long : charge (length own) ≡ charge (12 + length (choices (board f))) = ap charge (form.places ∙ ap (λ (n : ℕ). 12 + n) count) in
         omega (arith, sizes, most, long)
 
-    size-above : (levels : Lists) → ParentFits (AreCounted grain) IsRoot origin levels older own younger → choice_sizes size f.depth (board f) ≤ frame_size_of size own (nearest_words levels)
+    size-above : (levels : Lists) → ParentFits (AreCounted grain) IsRoot origin levels (older, younger) own → choice_sizes size f.depth (board f) ≤ frame_size_of size own (nearest_words levels)
     size-above [] root = rw (ne_eqb f.depth 0 (λ e. absurd (let deep = (fits.counted some).1 in omega (arith, deep, e)))) (omega arith)
     size-above (q ∷ levels) under =
         let kin = kin-of q own older younger under.fits in

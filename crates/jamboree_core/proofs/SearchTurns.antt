@@ -1,6 +1,6 @@
 -- A tenant of searches takes at most sixteen steps for each node, whatever their order; and what lasts over its
 -- journal (the list of its taken steps).
-use Rattle.jamboree_core.proofs.Common.{◌≡◌, ℕ, inl, inr, true, false, List, [], ◌∷◌, Option, Some, Ok, ◌+◌, ◌≤◌, ◌==◌, if◌then◌else◌, arith, cases_Bool, eqb, neg_ℤ, frame_at, padded, Lists, IsRoot, jamboree, floor, Tenant, Leaf, LeafAnswer, StepOf, Outcome, lone_step, IsShaped, F, frame_of, ℤ, pos, ◌+ℤ◌, ◌*◌, ne_eqb, new_words, inlet-stores, turns_in, turns_of, HasSteps, extra_turns, Weight, Quota, ◌++◌, None, Result, Err, refl, Refusal, NoTenant, Submit, Admit, lone, submits, origins_of, IsSearch, AreSearches, IsJournalOf, RootFits, nat_tests, has_one, left}
+use Rattle.jamboree_core.proofs.Common.{◌≡◌, ℕ, inl, inr, true, false, List, [], ◌∷◌, Option, Some, Ok, ◌+◌, ◌≤◌, ◌==◌, if◌then◌else◌, arith, cases_Bool, eqb, neg_ℤ, frame_at, padded, Lists, IsRoot, jamboree, floor, Tenant, Leaf, LeafAnswer, StepOf, Outcome, lone_step, IsShaped, F, frame_of, ℤ, pos, ◌+ℤ◌, ◌*◌, ne_eqb, new_words, inlet-stores, turns_in, turns_of, HasSteps, extra_turns, Weight, ReserveOf, ◌++◌, None, Result, Err, refl, Refusal, NoTenant, Submit, Admit, lone, submits, origins_of, IsSearch, AreSearches, IsJournalOf, RootFits, nat_tests, has_one, left}
 use Rattle.jamboree_core.proofs.Counts.{AreCounted, TenantCounts, children_for, fitting-above, counts-lawful, runs-else}
 use Rattle.jamboree_core.proofs.Moves.{by-moves, by-inlet, by-answer}
 use Rattle.jamboree_core.proofs.Weights.{UsesUp, Pays, IsAccount, Leaves, step-left, sum-member}
@@ -44,7 +44,7 @@ search-turns grain = record {
 }
 
 -- sixteen steps a node
-abbrev HasTurns : (steps serials : ℕ) → Quota → ℕ → Type 0
+abbrev HasTurns : (steps serials : ℕ) → ReserveOf → ℕ → Type 0
 HasTurns steps serials quota sum = steps + sum ≤ 16 * serials
 
 turns-account : IsAccount 1 16 0 turns_in HasTurns

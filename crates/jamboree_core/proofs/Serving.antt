@@ -1,10 +1,10 @@
 -- Cores of searches: what follows from each frame being right and each job holding what it was asked.
-use Rattle.jamboree_core.proofs.Common.{◌≡◌, ℕ, true, List, [], ◌∷◌, ◌++◌, Option, Some, None, Result, Ok, Err, refl, arith, is_ok, OnOk, Quota, Refusal, StepOf, DidOf, Tenant, only, CoreState, shared_by_nobody, tenant_in, AreNumbersGiven, IsHeadline, taken_steps, tenant_in-new, CoreFits, RootsFit, submits, origins_of, origins_after, nobody-fits, Leaf, LeafAnswer, AreFitting, IsRoot, jamboree, IsSearch, AreSearches, AreReplies, AreAllSound, AreAllRootWords, TenantSearches, ServesSearches, CoreSearches, HoldsReplies, submitted_to, IsHeadlineInFull, IsHeadlineFromNew, submitted_by, ap, sym, ◌∙◌, ◌-◌, option_and_then, Job, Live, Done, Spent as SpentJob, Cancelled as CancelledJob, Tree, job_at, job_of, JobsFit, JobFits, HoldsReply, Reply, table_of, Pending, IsJournalOf, origin_at, IsOfSearch, IsOutcomeOf, IsOutcomeIn, IsTo, AnswersTo}
+use Rattle.jamboree_core.proofs.Common.{◌≡◌, ℕ, true, List, [], ◌∷◌, ◌++◌, Option, Some, None, Result, Ok, Err, refl, arith, is_ok, OnOk, ReserveOf, Refusal, StepOf, DidOf, Tenant, only, CoreState, shared_by_nobody, tenant_in, AreNumbersGiven, IsHeadline, taken_steps, tenant_in-new, CoreFits, RootsFit, submits, origins_of, origins_after, nobody-fits, Leaf, LeafAnswer, AreFitting, IsRoot, jamboree, IsSearch, AreSearches, AreReplies, AreAllSound, AreAllRootWords, TenantSearches, ServesSearches, CoreSearches, HoldsReplies, submitted_to, IsHeadlineInFull, IsHeadlineFromNew, submitted_by, ap, sym, ◌∙◌, ◌-◌, option_and_then, Job, Live, Done, Spent as SpentJob, Cancelled as CancelledJob, Tree, job_at, job_of, JobsFit, JobFits, HoldsReply, Reply, table_of, Pending, IsJournalOf, origin_at, IsOfSearch, IsOutcomeOf, IsOutcomeIn, IsTo, AnswersTo}
 use Rattle.jamboree_core.proofs.Replying.{replies-held, all-sound, search-parts, searches-fit}
 use Rattle.jamboree_core.specs.declared.outcomes.Outcome.{Outcome}
 use Rattle.jamboree_core.specs.declared.outcomes.Outcome.TheVariants.{Done as DoneWith, Spent, Cancelled}
 
-pub nobody-searches : (totals : Quota) → CoreSearches (λ number. []) (shared_by_nobody totals)
+pub nobody-searches : (totals : ReserveOf) → CoreSearches (λ number. []) (shared_by_nobody totals)
 nobody-searches totals = record { fits = nobody-fits AreFitting IsRoot totals; asked = λ number. tt }
 
 pub tenant-replies : (origins : List (List ℕ)) (tenant : Tenant) → TenantSearches origins tenant → AreReplies origins tenant.jobs
@@ -96,7 +96,7 @@ taken-searches (step ∷ steps) (answer ∷ answers) are = grind (arith, taken-s
 taken-searches steps answers are = grind arith
 
 -- the headline from a new core, and that its jobs are searches
-pub headline-from-new : (grain : ℕ) (totals : Quota) (before : CoreState) (steps : List (StepOf LeafAnswer)) (answered : List (Result (DidOf Leaf) Refusal)) (after : CoreState) → before ≡ shared_by_nobody totals → AreSearches steps →
+pub headline-from-new : (grain : ℕ) (totals : ReserveOf) (before : CoreState) (steps : List (StepOf LeafAnswer)) (answered : List (Result (DidOf Leaf) Refusal)) (after : CoreState) → before ≡ shared_by_nobody totals → AreSearches steps →
     IsHeadlineInFull grain before steps answered after → IsHeadlineFromNew grain totals steps answered after × CoreSearches (submitted_by steps answered) after
 headline-from-new grain totals before steps answered after new are whole =
     let full = rw new at whole in

@@ -1,6 +1,6 @@
 -- The weight of a frame (what it may still take: nodes, segments or steps): for any procedure, what all frames weigh
 -- stays within what was reserved, whatever the order of the steps.
-use Rattle.jamboree_core.proofs.Common.{Act, AreSerialsRising, Bool, Compute, Computes, Computing, Continuation, Each, Fitting, FrameId, Functions, Go, Grow, HasReturned, Mark, IsShaped, IsTree, List, Neither, None, Ok, Option, ParentFits, Ready, Return, Returned, Rooting, Running, Some, Spawn, State, StepOf, Submit, Tenant, TenantFits, Tree, Wait, [], aborted, aborted-itself, above-missing, act_by_sight, advance_tests, advanced, answer_tests, answered, ap, arith, cases_Bool, children_of, counted, does_wait, eq-eqb, eqb, eqb-true, false, false≢true, filter, filter-found, finished, found-each, found-serial, found-there, frame_at, frame_at-left, frame_words, frames_without, goes_under, grown, has_child, has_frame, holding, in_state, inl, inlet_tests, inr, is_child_of, is_computed_by, is_ready, is_returned, is_run_by, is_that, lone_step, mark_of_state, named-under, new_frame, not, not-false, opened, padded, parent_of, parent_of-path_under, placed, refl, replicate, root_of, sight, staying, stored, submitted, subst, sum_by-append, sym, taken_in, then_done, there-found, tree-aborted, tree-rising, tree-with_state, tree-without, tree-without_job, true, under-there, values_of, with_frame_words, with_state, without_job, words_in, ℕ, ◌&&◌, ◌*◌, ◌++◌, ◌+◌, ◌-◌, ◌||◌, ◌∙◌, ◌∷◌, ◌≡◌, ◌≢◌, ◌≤◌, ◌⊎◌, Lists, found-same, found-own, among-kids, frame_at-with_frame_words, tree-with_frame_words, with_frame_words-missing, children_of-with_frame_words, words-found, words-other, words-own, words-with_state, with_frame_words-twice, sight-top, sight-under, sight-head, has-one, parent-neither, kept-above, has-origin, fits-marked, computes-marked, has-returned, has_child-with_frame_words, AllPass, by-effects, run-free, returned-marked, returned-childless, staying-parent, sum_by, taken_by, child-under-parent, turns_in, Weight, parent_words, weight_among, weight_in, IsPaid, IsStillPaid, IsPaidToo, Outcome, Quota, and_parts, cases_eq, has_one, is_lower, is_spawn, left, sum_by-cons, F, kids, Waiting}
+use Rattle.jamboree_core.proofs.Common.{Act, AreSerialsRising, Bool, Compute, Computes, Computing, Continuation, Each, Fitting, FrameId, Functions, Go, Grow, HasReturned, Mark, IsShaped, IsTree, List, Neither, None, Ok, Option, ParentFits, Ready, Return, Returned, Rooting, Running, Some, Spawn, State, StepOf, Submit, Tenant, TenantFits, Tree, Wait, [], aborted, aborted-itself, above-missing, act_by_sight, advance_tests, advanced, answer_tests, answered, ap, arith, cases_Bool, children_of, counted, does_wait, eq-eqb, eqb, eqb-true, false, false≢true, filter, filter-found, finished, found-each, found-serial, found-there, frame_at, frame_at-left, frame_words, frames_without, goes_under, grown, has_child, has_frame, holding, in_state, inl, inlet_tests, inr, is_child_of, is_computed_by, is_ready, is_returned, is_run_by, is_that, lone_step, mark_of_state, named-under, new_frame, not, not-false, opened, padded, parent_of, parent_of-path_under, placed, refl, replicate, root_of, sight, staying, stored, submitted, subst, sum_by-append, sym, taken_in, then_done, there-found, tree-aborted, tree-rising, tree-with_state, tree-without, tree-without_job, true, under-there, values_of, with_frame_words, with_state, without_job, words_in, ℕ, ◌&&◌, ◌*◌, ◌++◌, ◌+◌, ◌-◌, ◌||◌, ◌∙◌, ◌∷◌, ◌≡◌, ◌≢◌, ◌≤◌, ◌⊎◌, Lists, found-same, found-own, among-kids, frame_at-with_frame_words, tree-with_frame_words, with_frame_words-missing, children_of-with_frame_words, words-found, words-other, words-own, words-with_state, with_frame_words-twice, sight-top, sight-under, sight-head, has-one, parent-neither, kept-above, has-origin, fits-marked, computes-marked, has-returned, has_child-with_frame_words, AllPass, by-effects, run-free, returned-marked, returned-childless, staying-parent, sum_by, taken_by, child-under-parent, turns_in, Weight, parent_words, weight_among, weight_in, IsPaid, IsStillPaid, IsPaidToo, Outcome, ReserveOf, and_parts, cases_eq, has_one, is_lower, is_spawn, left, sum_by-cons, F, kids, Waiting}
 
 -- the parent's words, from what a frame sees above itself
 abbrev pub nearest_words : List (List ℕ) → Option (List ℕ)
@@ -23,7 +23,7 @@ Pays toll gain price own left child children _ = left + toll ≤ own
 -- each step of a procedure's frames uses up weight
 pub record UsesUp {I A : Type 0} (functions : Functions I A) (fits : Fitting) (rooted : Rooting) (toll gain price : ℕ) (weight : Weight) : Type 0 where
   -- Advance: its children, if it has any, weigh no more than they did
-  pub next : (origin own : List ℕ) (above older younger children : List (List ℕ)) → fits own children Neither → ParentFits fits rooted origin above older own younger →
+  pub next : (origin own : List ℕ) (above older younger children : List (List ℕ)) → fits own children Neither → ParentFits fits rooted origin above (older, younger) own →
       let act = functions.next (own ∷ above) in
       let changed = grown act.after (stored act.stores own) in
       Pays toll gain price (weight own (nearest_words above)) (weight changed (nearest_words above)) (λ words. weight words (Some changed)) children act.after
@@ -35,12 +35,12 @@ pub record UsesUp {I A : Type 0} (functions : Functions I A) (fits : Fitting) (r
   pub accept : (own : List ℕ) (answer : A) (above : Option (List ℕ)) → fits own [] Computes → weight (stored (functions.accept own answer) own) above ≤ weight own above
 
 -- an account of a tenant, by its steps, its nodes, its reservation and what its frames weigh together, that tolls and prices keep
-pub record IsAccount (toll gain price : ℕ) (pace : State → ℕ) (Within : (steps serials : ℕ) → Quota → ℕ → Type 0) : Type 0 where
+pub record IsAccount (toll gain price : ℕ) (pace : State → ℕ) (Within : (steps serials : ℕ) → ReserveOf → ℕ → Type 0) : Type 0 where
   pub paced : (state : State) → pace state ≡ turns_in state * toll
-  pub raises : (steps serials sum : ℕ) (now quota : Quota) → is_lower now quota ≡ false → Within steps serials now sum → Within steps serials quota sum
-  pub fewer : (steps serials : ℕ) (quota : Quota) (old new : ℕ) → new ≤ old → Within steps serials quota old → Within steps serials quota new
-  pub step : (steps serials : ℕ) (quota : Quota) (old new : ℕ) → new + toll ≤ old → Within steps serials quota old → Within (steps + 1) serials quota new
-  pub opens : (steps serials : ℕ) (quota : Quota) (old new : ℕ) → new + price + toll ≤ old + gain → Within steps serials quota old → Within (steps + 1) (serials + 1) quota new
+  pub raises : (steps serials sum : ℕ) (now quota : ReserveOf) → is_lower now quota ≡ false → Within steps serials now sum → Within steps serials quota sum
+  pub fewer : (steps serials : ℕ) (quota : ReserveOf) (old new : ℕ) → new ≤ old → Within steps serials quota old → Within steps serials quota new
+  pub step : (steps serials : ℕ) (quota : ReserveOf) (old new : ℕ) → new + toll ≤ old → Within steps serials quota old → Within (steps + 1) serials quota new
+  pub opens : (steps serials : ℕ) (quota : ReserveOf) (old new : ℕ) → new + price + toll ≤ old + gain → Within steps serials quota old → Within (steps + 1) (serials + 1) quota new
 
 -- Sums over frames.
 
@@ -201,7 +201,7 @@ pub record IsTakenIn (fits : Fitting) (tenant : Tenant) (f : F) (parent : ℕ) :
 module _ {fits : Fitting} {rooted : Rooting} {origins : Lists} {tenant : Tenant} (shape : IsShaped tenant) (fitting : TenantFits fits rooted origins tenant) where
   -- what holds of a frame whatever stands above it, if that fits
   pub above-of : (C : Type 0) (f : F) → frame_at tenant.frames f.serial ≡ Some f →
-      ((origin : List ℕ) (above older younger : Lists) → sight tenant.frames f.path ≡ f.value ∷ above → ParentFits fits rooted origin above older f.value younger → C) → C
+      ((origin : List ℕ) (above older younger : Lists) → sight tenant.frames f.path ≡ f.value ∷ above → ParentFits fits rooted origin above (older, younger) f.value → C) → C
   above-of C f at each =
       (kept-above C fits rooted tenant.frames f.serial f f.value shape.tree shape.childless fitting.frames at (has-origin fits rooted origins tenant f.serial f shape fitting at)
       (λ origin above older younger seen parent. (each origin above older younger seen parent, parent))).0
@@ -227,13 +227,13 @@ module _ {fits : Fitting} {rooted : Rooting} {origins : Lists} {tenant : Tenant}
       }
 
 -- a tenant, if it is still there, is within an account
-abbrev pub Leaves : (State → ℕ) → Weight → ((steps serials : ℕ) → Quota → ℕ → Type 0) → Option Tenant → Type 0
+abbrev pub Leaves : (State → ℕ) → Weight → ((steps serials : ℕ) → ReserveOf → ℕ → Type 0) → Option Tenant → Type 0
 Leaves pace weight Within None = Unit {0}
 Leaves pace weight Within (Some after) = Within after.steps after.serials after.reserve (tolls_in pace weight after.frames)
 
 -- Each step of a tenant whose frames' steps use up their weight.
 module _ {I A : Type 0} {functions : Functions I A} {fits : Fitting} {rooted : Rooting} {toll gain price : ℕ} {weight : Weight} {pace : State → ℕ}
-    {Within : (steps serials : ℕ) → Quota → ℕ → Type 0} {origins : Lists} {tenant : Tenant} (uses : UsesUp functions fits rooted toll gain price weight)
+    {Within : (steps serials : ℕ) → ReserveOf → ℕ → Type 0} {origins : Lists} {tenant : Tenant} (uses : UsesUp functions fits rooted toll gain price weight)
     (account : IsAccount toll gain price pace Within) (shape : IsShaped tenant) (fitting : TenantFits fits rooted origins tenant)
     (has : Within tenant.steps tenant.serials tenant.reserve (tolls_in pace weight tenant.frames)) where
   abbrev Above : F → Option (List ℕ)
@@ -290,16 +290,16 @@ module _ {I A : Type 0} {functions : Functions I A} {fits : Fitting} {rooted : R
         let six = account.paced (Ready worker) in
         account.opens tenant.steps tenant.serials tenant.reserve _ _ (omega (arith, less, more, own, six, room)) has
 
-    then-room : (worker : ℕ) (name : FrameId) (path : List ℕ) (after : Continuation) → name.serial ≡ f.serial → pace f.state ≡ 5 * toll →
+    then-room : (worker : ℕ) (name : FrameId) (after : Continuation) → name.serial ≡ f.serial → pace f.state ≡ 5 * toll →
         Pays toll gain price (weight f.value (Above f)) (weight (grown after words) (Above f)) (λ child. weight child (Some (grown after words))) (kids tenant.frames f.serial) after → Kept (grown after words) →
-        IsLeft (then_done functions (counted (holding f.serial words tenant)) worker name path words after).0
-    then-room worker name path (Grow more) own five pays kept =
+        IsLeft (then_done functions (counted (holding f.serial words tenant)) worker name (record f { value = words }) after).0
+    then-room worker name (Grow more) own five pays kept =
         let twice = with_frame_words-twice f.serial words (words ++ replicate more 0) tenant.frames in
         let less = words-toll pace weight tenant.frames shape.tree f.serial f (words ++ replicate more 0) at kept in
         rw (own, twice) (a-step _ (omega (arith, less, pays)))
-    then-room worker name path (Spawn given size) own five pays kept = rw own (spawn-room given size worker pays kept)
-    then-room worker name path Go own five pays kept = words-room pays kept
-    then-room worker name path Wait own five pays kept =
+    then-room worker name (Spawn given size) own five pays kept = rw own (spawn-room given size worker pays kept)
+    then-room worker name Go own five pays kept = words-room pays kept
+    then-room worker name Wait own five pays kept =
         let four = account.paced Waiting in
         elim (cases_Bool (has_child stored_in name.serial)) [
           | inl some ↦ rw (some, own) (state-room Waiting (omega (arith, five, four, pays.0)) kept)
@@ -311,8 +311,8 @@ module _ {I A : Type 0} {functions : Functions I A} {fits : Fitting} {rooted : R
         free none (inr some) =
             let child : has_child stored_in name.serial ≡ true = rw own (has_child-with_frame_words f.serial words tenant.frames f.serial shape.tree ∙ sym (has-one tenant.frames f.serial) ∙ some) in
             absurd (false≢true (sym none ∙ child))
-    then-room worker name path Compute own five pays kept = let six = account.paced (Computing worker) in rw own (state-room (Computing worker) (omega (arith, five, six, pays)) kept)
-    then-room worker name path Return own five pays kept =
+    then-room worker name Compute own five pays kept = let six = account.paced (Computing worker) in rw own (state-room (Computing worker) (omega (arith, five, six, pays)) kept)
+    then-room worker name Return own five pays kept =
         let four = account.paced Waiting in
         let three = account.paced Returned in
         elim (cases_Bool (has_child stored_in name.serial)) [
@@ -351,7 +351,7 @@ module _ {I A : Type 0} {functions : Functions I A} {fits : Fitting} {rooted : R
       let at_own = found-own tenant.frames name.serial f at in
       let runs = not-false (is_run_by worker f.state) passed.0 in
       let both = act-uses f at_own (run-free worker f.state runs) in
-      then-room f at_own (stored act.stores f.value) worker name f.path act.after (sym (found-serial tenant.frames name.serial f at)) (cost-run worker f.state runs) both.0 both.1
+      then-room f at_own (stored act.stores f.value) worker name act.after (sym (found-serial tenant.frames name.serial f at)) (cost-run worker f.state runs) both.0 both.1
 
   answer-room : (worker s : ℕ) (f : F) (answer : A) → frame_at tenant.frames s ≡ Some f → AllPass (answer_tests functions tenant worker f answer) → IsLeft (answered functions tenant worker f answer).0
   answer-room worker s f answer at passed =
@@ -451,13 +451,13 @@ module _ {I A : Type 0} {functions : Functions I A} {fits : Fitting} {rooted : R
 times-one : (price n : ℕ) → price * (n + 1) ≡ price * n + price
 times-one price n = omega arith
 
-abbrev pub Within : ℕ → (Quota → ℕ) → (steps serials : ℕ) → Quota → ℕ → Type 0
+abbrev pub Within : ℕ → (ReserveOf → ℕ) → (steps serials : ℕ) → ReserveOf → ℕ → Type 0
 Within price bound steps serials quota sum = price * serials + sum ≤ bound quota
 
 abbrev pub free : State → ℕ
 free state = 0
 
-paid-account : (price : ℕ) {bound : Quota → ℕ} → ((now quota : Quota) → is_lower now quota ≡ false → bound now ≤ bound quota) → IsAccount 0 0 price free (Within price bound)
+paid-account : (price : ℕ) {bound : ReserveOf → ℕ} → ((now quota : ReserveOf) → is_lower now quota ≡ false → bound now ≤ bound quota) → IsAccount 0 0 price free (Within price bound)
 paid-account price raises = grind (arith, raises, times-one)
 
 sum-plain : (h : F → ℕ) (xs : Tree) → sum_by (λ x. 0 + h x) xs ≡ sum_by h xs
@@ -465,8 +465,8 @@ sum-plain h [] = refl
 sum-plain h (x ∷ xs) = grind (arith, sum-plain h xs, sum_by-cons)
 
 module _ {I A : Type 0} {functions : Functions I A} {fits : Fitting} {rooted : Rooting} {price : ℕ} {weight : Weight} {origins : Lists} {tenant : Tenant}
-    (uses : UsesUp functions fits rooted 0 0 price weight) (shape : IsShaped tenant) (fitting : TenantFits fits rooted origins tenant) {bound : Quota → ℕ}
-    (raises : (now quota : Quota) → is_lower now quota ≡ false → bound now ≤ bound quota) (has : IsPaid price weight bound tenant) where
+    (uses : UsesUp functions fits rooted 0 0 price weight) (shape : IsShaped tenant) (fitting : TenantFits fits rooted origins tenant) {bound : ReserveOf → ℕ}
+    (raises : (now quota : ReserveOf) → is_lower now quota ≡ false → bound now ≤ bound quota) (has : IsPaid price weight bound tenant) where
   plain : (tree : Tree) → tolls_in free weight tree ≡ weight_in weight tree
   plain tree = sum-plain (weight_among weight tree) tree
 

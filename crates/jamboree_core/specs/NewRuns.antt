@@ -1,7 +1,7 @@
 -- Meaning: what a list of searches comes to from a new core: the headline (no tenant disturbs another), every reply,
 -- and that every frame is sound.
 use Rattle.std.specs.Prelude.{◌≡◌, ℕ, List, Some, Result}
-use Rattle.tenant_quota.specs.Quota.{Quota}
+use Rattle.tenant_quota.specs.Reserves.{ReserveOf}
 use Rattle.sched_rules.specs.declared.refusal.Refusal.{Refusal}
 use Rattle.sched_rules.specs.declared.step.StepOf.{StepOf}
 use Rattle.sched_rules.specs.declared.step.DidOf.{DidOf}
@@ -23,7 +23,7 @@ submitted_by steps answers number = origins_of (only number (taken_steps steps a
 -- step is refused only for its own tenant's state or a busy worker. Each job of a tenant that is done holds the
 -- minimax value, the best choice and a table of the board to the depth that its Submit carried; the k-th job is
 -- that of the tenant's k-th taken Submit. And every frame is sound
-pub record IsHeadlineFromNew (grain : ℕ) (totals : Quota) (steps : List (StepOf LeafAnswer)) (answers : List (Result (DidOf Leaf) Refusal)) (after : CoreState) : Type 0 where
+pub record IsHeadlineFromNew (grain : ℕ) (totals : ReserveOf) (steps : List (StepOf LeafAnswer)) (answers : List (Result (DidOf Leaf) Refusal)) (after : CoreState) : Type 0 where
   pub tenants : IsHeadline (jamboree grain) (shared_by_nobody totals) steps answers after
   pub replies : (number : ℕ) (tenant : Tenant) → tenant_in after.tenants number ≡ Some tenant → AreReplies (submitted_by steps answers number) tenant.jobs
   pub sound : (number : ℕ) (tenant : Tenant) → tenant_in after.tenants number ≡ Some tenant → AreAllSound tenant.frames tenant.frames

@@ -1,7 +1,7 @@
 -- Representation: words, a tenant and its journals on which the definitions are tried: the opening, Black to move, is searched to depth 1.
 use Rattle.std.specs.Prelude.{ℕ, List, [], ◌∷◌}
 use Rattle.cactus_stack.specs.Nodes.{padded}
-use Rattle.tenant_quota.specs.Quota.{Quota}
+use Rattle.tenant_quota.specs.Reserves.{ReserveOf}
 use Rattle.frame_table.specs.declared.names.State.TheVariants.{Ready}
 use Rattle.sched_rules.specs.declared.job.Job.TheVariants.{Live}
 use Rattle.sched_rules.specs.declared.step.StepOf.{StepOf}
@@ -25,7 +25,7 @@ abbrev pub kept : ℕ → ℕ → ℕ → List ℕ
 kept depth value choice = kept_with (entry 2 3 999997) depth value choice
 
 -- a reservation of 4 segments and 8 nodes
-abbrev pub few : Quota
+abbrev pub few : ReserveOf
 few = record { segments = 4; nodes = 8 }
 
 -- tenant 1's Admit with the reservation `few`, and then these steps

@@ -1,7 +1,7 @@
 -- Meaning: what a search's frames may still open: a weight of each, which its steps use up, so that what is reserved
 -- is seen to suffice.
 use Rattle.std.specs.Prelude.{ℕ, ◌+◌, ◌*◌, ◌≤◌, List, Option, Some, None, sum_by}
-use Rattle.tenant_quota.specs.Quota.{Quota}
+use Rattle.tenant_quota.specs.Reserves.{ReserveOf}
 use Rattle.sched_rules.specs.cactus_stack.Nodes.{padded}
 use Rattle.frame_table.specs.Frames.{Frame, parent_of}
 use Rattle.sched_rules.specs.declared.step.StepOf.{StepOf}
@@ -31,17 +31,17 @@ taken_with price weight tenant = price * tenant.serials + weight_in weight tenan
 
 -- the nodes that a tenant has opened, at this price, and what its frames weigh are within a bound that its reservation
 -- sets
-abbrev pub IsPaid : ℕ → Weight → (Quota → ℕ) → Tenant → Type 0
+abbrev pub IsPaid : ℕ → Weight → (ReserveOf → ℕ) → Tenant → Type 0
 IsPaid price weight bound tenant = taken_with price weight tenant ≤ bound tenant.reserve
 
 -- if the tenant is still there: its opened nodes, at this price, and what its frames weigh are within a bound that its
 -- reservation sets
-abbrev pub IsStillPaid : ℕ → Weight → (Quota → ℕ) → Option Tenant → Type 0
+abbrev pub IsStillPaid : ℕ → Weight → (ReserveOf → ℕ) → Option Tenant → Type 0
 IsStillPaid price weight bound None = Unit {0}
 IsStillPaid price weight bound (Some tenant) = IsPaid price weight bound tenant
 
 -- where a step submits a job: with the root's node, and what the root weighs, it is within the bound too
-abbrev pub IsPaidToo : {A : Type 0} → ℕ → Weight → (Quota → ℕ) → Tenant → StepOf A → Type 0
+abbrev pub IsPaidToo : {A : Type 0} → ℕ → Weight → (ReserveOf → ℕ) → Tenant → StepOf A → Type 0
 IsPaidToo price weight bound tenant (Submit number words size) =
     taken_with price weight tenant + (price + weight (padded words size) None) ≤ bound tenant.reserve
 IsPaidToo price weight bound tenant _ = Unit {0}

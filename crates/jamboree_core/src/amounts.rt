@@ -2,7 +2,7 @@
 //! one is never spent.
 ghost use Rattle.std.specs.Prelude.{◌≡◌, ◌≤◌, ◌-◌, ◌^◌, ◌↔◌, IsSome, IfSome, min};
 ghost use Rattle.othello_board.specs.Words.{cells};
-ghost use Rattle.tenant_quota.specs.Quota.{IsWithinLimits};
+ghost use Rattle.tenant_quota.specs.Reserves.{IsWithinLimits};
 ghost use Rattle.jamboree_core.specs.Enough.{search_nodes, search_segments, board_nodes, board_segments};
 
 use othello_board::Board;

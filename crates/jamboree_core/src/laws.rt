@@ -1,6 +1,6 @@
 //! What every list of searches on a core comes to, and what cores and tenants of searches keep and hold.
 ghost use Rattle.std.specs.Prelude.{◌≡◌, ◌≢◌, ℕ, ◌<◌, List, [], ◌∷◌, ◌++◌, Some, Result, Ok, Err};
-ghost use Rattle.tenant_quota.specs.Quota.{Quota};
+ghost use Rattle.tenant_quota.specs.Reserves.{ReserveOf};
 ghost use Rattle.sched_rules.specs.declared.refusal.Refusal.{Refusal};
 ghost use Rattle.sched_rules.specs.declared.step.StepOf.{StepOf};
 ghost use Rattle.sched_rules.specs.declared.step.StepOf.TheVariants.{Admit};
@@ -28,7 +28,7 @@ ghost use Rattle.jamboree_rules.specs.Fits.{AreFitting, IsRoot};
 /// search: each job of a tenant that is done holds the minimax value, the best choice and a table of the board to
 /// the depth that its Submit carried. The k-th job is that of the tenant's k-th taken Submit.
 pub fn every_completed_reply_is_the_minimax_value()
-    ensures { (grain : ℕ) (totals : Quota) (steps : List (StepOf LeafAnswer)) (answers : List (Result (DidOf Leaf) Refusal)) (number : ℕ) (tenant : Tenant) →
+    ensures { (grain : ℕ) (totals : ReserveOf) (steps : List (StepOf LeafAnswer)) (answers : List (Result (DidOf Leaf) Refusal)) (number : ℕ) (tenant : Tenant) →
         AreAnswersTo (jamboree grain) (shared_by_nobody totals) steps answers → AreSearches (taken_steps steps answers) →
         tenant_in (after_answers (jamboree grain) (shared_by_nobody totals) steps answers).tenants number ≡ Some tenant →
         AreReplies (origins_of (only number (taken_steps steps answers))) tenant.jobs }
@@ -37,7 +37,7 @@ pub fn every_completed_reply_is_the_minimax_value()
 /// After any list of steps on a new core, by any workers for any tenants, where each taken Submit asks for a
 /// search: every frame of every tenant is sound (`IsSound`).
 pub fn every_frame_is_sound()
-    ensures { (grain : ℕ) (totals : Quota) (steps : List (StepOf LeafAnswer)) (answers : List (Result (DidOf Leaf) Refusal)) (number : ℕ) (tenant : Tenant) →
+    ensures { (grain : ℕ) (totals : ReserveOf) (steps : List (StepOf LeafAnswer)) (answers : List (Result (DidOf Leaf) Refusal)) (number : ℕ) (tenant : Tenant) →
         AreAnswersTo (jamboree grain) (shared_by_nobody totals) steps answers → AreSearches (taken_steps steps answers) →
         tenant_in (after_answers (jamboree grain) (shared_by_nobody totals) steps answers).tenants number ≡ Some tenant →
         AreAllSound tenant.frames tenant.frames }
@@ -52,7 +52,7 @@ pub fn bad_acts_come_of_submits_alone()
 
 /// A new core counts as one whose jobs are searches, as it has none.
 pub fn a_new_core_has_no_searches()
-    ensures { (totals : Quota) → CoreSearches (λ number. []) (shared_by_nobody totals) }
+    ensures { (totals : ReserveOf) → CoreSearches (λ number. []) (shared_by_nobody totals) }
 {}
 
 /// Where a tenant's jobs are searches, each that is done holds the minimax value and the best choice
@@ -98,7 +98,7 @@ pub fn a_table_is_of_its_tenants_own_steps()
 /// which its tenant is still there is added to its tenant's (`goes_on`); and no step, taken or refused, changes
 /// another tenant (`others`).
 pub fn how_journals_grow()
-    ensures begins { (grain : ℕ) (before : CoreState) (number : ℕ) (quota : Quota) (did : DidOf Leaf) (after : CoreState) →
+    ensures begins { (grain : ℕ) (before : CoreState) (number : ℕ) (quota : ReserveOf) (did : DidOf Leaf) (after : CoreState) →
         AreNumbersGiven before → IsOneStep {A = LeafAnswer} (jamboree grain) before (Admit number quota) (Ok did) after →
         (tenant_in after.tenants number ≡ Some (admitted_with quota)) × IsJournalOf {A = LeafAnswer} (jamboree grain) (Admit number quota ∷ []) (admitted_with quota) }
     ensures goes_on { (grain : ℕ) (before : CoreState) (step : StepOf LeafAnswer) (did : DidOf Leaf) (after : CoreState) (journal : List (StepOf LeafAnswer)) (tenant next : Tenant) →

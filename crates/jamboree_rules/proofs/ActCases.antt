@@ -86,7 +86,7 @@ module _ (grain : ℕ) (origin own : List ℕ) (older younger children : Lists) 
       (phases _ _ _ _ refl refl refl refl)
     where
       phases : (p0 p1 p2 p3 : Bool) → p0 ≡ ((frame_of own).phase == 0) → p1 ≡ ((frame_of own).phase == 1) → p2 ≡ ((frame_of own).phase == 2) → p3 ≡ ((frame_of own).phase == 3) →
-          P (act_by p0 p1 p2 p3 grain (frame_of own) (parent_in above))
+          P (act_by p0 p1 p2 p3 (grain, parent_in above) (frame_of own))
       phases true p1 p2 p3 e0 e1 e2 e3 = opens-case above parent each (eqb-true _ _ (sym e0))
       phases false true p2 p3 e0 e1 e2 e3 = absurd (fits.frame.marked (eqb-true (frame_of own).phase 1 (sym e1)))
       phases false false true p3 e0 e1 e2 e3 =

@@ -43,7 +43,7 @@ pub use Rattle.othello_moves.specs.declared.choices.Choice.{Choice}
 pub use Rattle.othello_moves.specs.declared.choices.Choice.TheVariants.{Pass, Square}
 pub use Rattle.sched_rules.proofs.StoreLemmas.{length-stored}
 pub use Rattle.sched_rules.specs.Functions.{Functions}
-pub use Rattle.sched_rules.specs.Laws.{AcceptKeeps, ActFits, Computes, HasReturned, InletKeeps, Mark, Neither, NewChildFits, NextKeeps, ParentFits}
+pub use Rattle.sched_rules.specs.Laws.{AcceptKeeps, Computes, HasReturned, InletKeeps, Mark, Neither, NewChildFits, NextKeeps, ParentFits}
 pub use Rattle.sched_rules.specs.Laws.{children_after, children_left, grown, has_one, mark_after}
 pub use Rattle.sched_rules.specs.Lone.{is_bad_act, is_bad_then}
 pub use Rattle.sched_rules.specs.Trees.{is_outside, kept_words, stored}
@@ -56,7 +56,7 @@ pub use Rattle.jamboree_rules.specs.Acts.{act_by, act_of, changes_by, changes_of
 pub use Rattle.jamboree_rules.specs.Acts.{kind_by, kind_of, next_act, opening, opening_on, opening_under, parent_in, returns, seen, spawns, tests}
 pub use Rattle.jamboree_rules.specs.Entries.{IsOfKind, IsTrueRest, bound_in, bounds_in, bounds_of, kind_numbered}
 pub use Rattle.jamboree_rules.specs.Fits.{Again, AreChildren, AreFitting, First, Fits, IsAgain, IsChildOf, IsDoneFrame, IsFirst, IsFound, IsInRole, IsRoot}
-pub use Rattle.jamboree_rules.specs.Fits.{IsSearching, IsSearchingFrame, IsTabled, IsTest, Test, how_many}
+pub use Rattle.jamboree_rules.specs.Fits.{IsSearchingFrame, IsTabled, IsTest, Test, how_many}
 pub use Rattle.jamboree_rules.specs.Frames.{Frame, board, choice_at, code_at, code_of, coded, counts_choices, floor, greatest, is_frame, is_in_phase, is_leaf}
 pub use Rattle.jamboree_rules.specs.Frames.{is_score, is_searching, least, may_be_child, opp_word, own_word, rest_at, unscored, value, value_at}
 pub use Rattle.jamboree_rules.specs.Leaves.{IsLeaf, accepts, changes_of_answer, leaf-told, leaf_by, leaf_from, leaf_in, leaf_of_answer, leaf_with, same_leaf}

@@ -1,7 +1,7 @@
 -- What an inlet (the taking in of a returned child) leaves of a right frame of the search, and what a leaf's answer
 -- leaves.
-use Rattle.jamboree_rules.proofs.Common.{◌||◌, ◌≡◌, ◌≢◌, ℕ, ◌<◌, ◌≤◌, ◌⊎◌, ◌==◌, Bool, true, false, ℤ, neg_ℤ, ◌<ℤ◌, ◌≤ℤ◌, int_le, int_lt, List, [], ◌∷◌, ◌++◌, refl, zero, suc, ◌&&◌, nat_lt, nat_le, bit_and, length, slice_index, if◌then◌else◌, sym, subst, arith, ⊎_elim, ints, clamps, stored, is_outside, Neither, HasReturned, ParentFits, NextKeeps, InletKeeps, grown, has_one, children_left, Frame, code_at, value_at, value, floor, least, greatest, board, choice_at, own_word, opp_word, may_be_child, frame_of, Change, is_formed, is_placed, seen, found_rest, changes_by, changes_of, returns, is_computed, opening_on, opening_under, first_open, act_by, act_of, parent_in, next_act, inlet_of, inlet_act, Exact, IsBound, IsOfKind, IsTrueRest, IsFirst, IsTest, IsAgain, IsInRole, IsChildOf, IsSearchingFrame, Fits, AreFitting, IsRoot, and_from, eq-eqb, nat_tests, Cell, cells_of, choices, after, entered, Act, InletAct, is_bad_act, length-after, eqb-true, map-append, ActFits, Functions, ap, ◌∙◌, length-cells_of}
-use Rattle.jamboree_rules.proofs.Searching.{IsSearching-low, IsSearching-higher, le-told, not-le-told, found-true, found-exact, found-passes, entered-none}
+use Rattle.jamboree_rules.proofs.Common.{◌||◌, ◌≡◌, ◌≢◌, ℕ, ◌<◌, ◌≤◌, ◌⊎◌, ◌==◌, Bool, true, false, ℤ, neg_ℤ, ◌<ℤ◌, ◌≤ℤ◌, int_le, int_lt, List, [], ◌∷◌, ◌++◌, refl, zero, suc, ◌&&◌, nat_lt, nat_le, bit_and, length, slice_index, if◌then◌else◌, sym, subst, arith, ⊎_elim, ints, clamps, stored, is_outside, Neither, HasReturned, ParentFits, NextKeeps, InletKeeps, grown, has_one, children_left, Frame, code_at, value_at, value, floor, least, greatest, board, choice_at, own_word, opp_word, may_be_child, frame_of, Change, is_formed, is_placed, seen, found_rest, changes_by, changes_of, returns, is_computed, opening_on, opening_under, first_open, act_by, act_of, parent_in, next_act, inlet_of, inlet_act, Exact, IsBound, IsOfKind, IsTrueRest, IsFirst, IsTest, IsAgain, IsInRole, IsChildOf, IsSearchingFrame, Fits, AreFitting, IsRoot, and_from, eq-eqb, nat_tests, Cell, cells_of, choices, after, entered, Act, InletAct, is_bad_act, length-after, eqb-true, map-append, Functions, ap, ◌∙◌, length-cells_of}
+use Rattle.jamboree_rules.proofs.Searching.{search-of, IsSearching-low, IsSearching-higher, le-told, not-le-told, found-true, found-exact, found-passes, entered-none}
 use Rattle.jamboree_rules.proofs.Kinship.{taken_in, child-of, in-search, unsettled, scored, inlet-failed, inlet-low, inlet-higher, inlet-first, inlet-cut, first-low, first-exact, again-low, again-exact, test-low, over-beta, parent-kept, HasSameGoal, best_with, has-begun}
 use Rattle.jamboree_rules.proofs.Forms.{code-small, IsFrame, IsFormed, formed-told, formed-passes, child-passes, IsInSearch, written}
 use Rattle.jamboree_rules.proofs.Steps.{IsAtTests, searching-late, status-count, IsGoodAct, first-good, tests-good, done-good, opening-good, AreTaken, IsGoodHere, IsGoodStore, Lists, frames, good-store, taken}
@@ -126,7 +126,7 @@ module _ (f c : Frame) (before behind : List Frame) (fits : Fits f (before ++ c 
       higher ≡ int_lt (floor f) (seen c) → Fits (frame_by cuts test low higher f c) (frames_left cuts (before ++ behind)) Neither
   fits-by true test low higher ec et el eh =
       let over : f.beta ≤ℤ seen c = le-told f.beta (seen c) ec in
-      inlet-cut f c before behind fits holds over (over-beta f c worth.0 worth.1 fits.window searching.search.below own-child.in_role over)
+      inlet-cut f c before behind fits holds over (over-beta f c worth.0 worth.1 fits.window searching.below own-child.in_role over)
   fits-by false true true higher ec et el eh =
       let r : IsTest f c = test-told f c et own-child.in_role in
       let under : seen c ≤ℤ neg_ℤ c.beta = le-told (seen c) (neg_ℤ c.beta) el in
@@ -140,7 +140,7 @@ module _ (f c : Frame) (before behind : List Frame) (fits : Fits f (before ++ c 
       ⊎_elim
       (λ (r : IsFirst f c). inlet-first f c before behind fits holds (code_at f c.number) r
       (IsSearching-higher (found_rest c) own-child.inside fits.table.places (first-kind f c r under over) over under
-      (first-exact f c worth.0 worth.1 r under over) (λ k below. absurd (omega (arith, r.number, below))) searching.search))
+      (first-exact f c worth.0 worth.1 r under over) (λ k below. absurd (omega (arith, r.number, below))) (search-of f searching)))
       (λ (r : IsAgain f c). inlet-higher f c before behind fits holds r over under (again-exact f c worth.0 worth.1 r under over) (again-kind f c r under over))
       (other-told f c et own-child.in_role)
   fits-by false false low false ec et el eh =
@@ -149,7 +149,7 @@ module _ (f c : Frame) (before behind : List Frame) (fits : Fits f (before ++ c 
       let open_ : slice_index f.statuses c.number ≢ 2 = unsettled f c own-child.in_role in
       ⊎_elim
       (λ (r : IsFirst f c). inlet-first f c before behind fits holds f.choice r
-      (IsSearching-low (found_rest c) own-child.inside fits.window open_ small (first-low f c worth.0 worth.1 r under) searching.search))
+      (IsSearching-low (found_rest c) own-child.inside fits.window open_ small (first-low f c worth.0 worth.1 r under) (search-of f searching)))
       (λ (r : IsAgain f c). inlet-low f c before behind fits holds small (again-low f c worth.0 worth.1 r small) r.phase)
       (other-told f c et own-child.in_role)
 
@@ -180,7 +180,7 @@ module _ (parent own : List ℕ) (older younger : Lists) (fits : AreFitting pare
 
 -- what stands above a frame fits; above a root stands nothing, and it belongs to the words that it was submitted with
 abbrev pub StandsUnder : List ℕ → (above older younger : Lists) → List ℕ → Type 0
-StandsUnder origin above older younger own = ParentFits AreFitting IsRoot origin above older own younger
+StandsUnder origin above older younger own = ParentFits AreFitting IsRoot origin above (older, younger) own
 
 -- the board of a frame of these words, as those above it say: a root keeps its own, a child has the one after its choice
 abbrev pub IsBoardOf : Lists → Frame → ℕ → ℕ → Type 0
@@ -294,7 +294,7 @@ module _ (grain : ℕ) (origin own : List ℕ) (above older younger children : L
   goes-here act known good = (this.own, this.opp, good, known-board origin own above older younger parent (isn't-told this.phase 0 known))
 
   act-goes : (p0 p1 p2 p3 : Bool) → p0 ≡ (this.phase == 0) → p1 ≡ (this.phase == 1) → p2 ≡ (this.phase == 2) → p3 ≡ (this.phase == 3) →
-      Goes own above children (act_by p0 p1 p2 p3 grain this (parent_in above))
+      Goes own above children (act_by p0 p1 p2 p3 (grain, parent_in above) this)
   act-goes true p1 p2 p3 e0 e1 e2 e3 = opens own children (eqb-true _ _ (sym e0)) form fits.frame grain origin above older younger parent
   act-goes false true p2 p3 e0 e1 e2 e3 = absurd (fits.frame.marked (eqb-true this.phase 1 (sym e1)))
   act-goes false false true p3 e0 e1 e2 e3 = goes-here _ e0 (first-good own children form fits.frame (this.spawned == 0) refl (eqb-true this.phase 2 (sym e2)))
@@ -324,13 +324,12 @@ next-keeps functions grain is origin own above older younger children fits paren
     let after : List ℕ = grown act.after (stored act.stores own) in
     let board : IsBoardOf above (frame_of own) goes.0 (frame_of after).opp =
     subst (λ (p : ℕ). IsBoardOf above (frame_of own) goes.0 p) (sym goes.2.opp_is) goes.3 in
-    let whole : ActFits AreFitting IsRoot origin own above older younger children act = (
+    rw is (
       record { formed = formed-passes after goes.2.formed; frame = goes.2.fits },
       above-kept origin own after above older younger parent goes.2.goal
           (subst (λ (o : ℕ). IsBoardOf above (frame_of own) o (frame_of after).opp) (sym goes.2.own_is) board),
       goes.2.child,
-    ) in
-    subst (λ (next : Lists → Act). ActFits AreFitting IsRoot origin own above older younger children (next (own ∷ above))) (sym is) whole
+    )
 
 -- ---- the inlet
 

@@ -1,6 +1,6 @@
 -- Taking in a returned child keeps the search's frame right towards its parent and its children.
-use Rattle.jamboree_rules.proofs.Common.{◌≡◌, ◌≢◌, ℕ, ◌+◌, ◌<◌, ◌≤◌, ◌⊎◌, ℤ, neg_ℤ, ◌<ℤ◌, ◌≤ℤ◌, List, [], ◌∷◌, ◌++◌, length, refl, slice_index, slice_set, int_max, sym, ◌∙◌, arith, inr, ⊎_elim, common_steps, ints, clamps, after, IsBound, Neither, HasReturned, best_choice, Exact, entered, IsSearching, IsTabled, IsOfKind, IsTrueRest, found_rest, Frame, coded, board, choice_at, code_at, rest_at, value_at, value, floor, IsFirst, IsTest, IsAgain, IsInRole, First, Test, Again, IsChildOf, AreChildren, how_many, IsSearchingFrame, Fits, Status, changed, seen, ap, by_lt_z}
-use Rattle.jamboree_rules.proofs.Searching.{IsSearching-mark, IsSearching-low, IsSearching-higher, set-there, set-beside, set-length, worth-of, role-kept-mark, found-said, tabled-set, AreAllSettled, all-bound, greatest-of, named-best}
+use Rattle.jamboree_rules.proofs.Common.{◌≡◌, ◌≢◌, ℕ, ◌+◌, ◌<◌, ◌≤◌, ◌⊎◌, ℤ, neg_ℤ, ◌<ℤ◌, ◌≤ℤ◌, List, [], ◌∷◌, ◌++◌, length, refl, slice_index, slice_set, int_max, sym, ◌∙◌, arith, inr, ⊎_elim, common_steps, ints, clamps, after, IsBound, Neither, HasReturned, best_choice, Exact, entered, IsTabled, IsOfKind, IsTrueRest, found_rest, Frame, coded, board, choice_at, code_at, rest_at, value_at, value, floor, IsFirst, IsTest, IsAgain, IsInRole, First, Test, Again, IsChildOf, AreChildren, how_many, IsSearchingFrame, Fits, Status, changed, seen, ap, by_lt_z}
+use Rattle.jamboree_rules.proofs.Searching.{IsSearching, search-of, IsSearching-mark, IsSearching-low, IsSearching-higher, set-there, set-beside, set-length, worth-of, role-kept-mark, found-said, tabled-set, AreAllSettled, all-bound, greatest-of, named-best}
 use Rattle.jamboree_rules.proofs.Forms.{IsInSearch}
 
 -- a frame of the same depth, window, role and number
@@ -144,7 +144,9 @@ module _ (f c : Frame) (before behind : List Frame) (fits : Fits f (before ++ c 
           deep = state.deep;
           spawned_in = rw len state.spawned_in;
           unspawned = unspawned-set f.statuses c.number status f.spawned (begun f c own-kin.in_role) state.unspawned;
-          search = searching;
+          below = searching.below;
+          settled = searching.settled;
+          found = searching.found;
         };
         done = λ (e : phase ≡ 4). absurd (omega arith);
         table = table-set status;
@@ -158,20 +160,20 @@ module _ (f c : Frame) (before behind : List Frame) (fits : Fits f (before ++ c 
   pub inlet-failed : IsTest f c → Fits (taken_in f c f.phase f.best f.choice 3) (before ++ behind) Neither
   inlet-failed test =
       let open_ : slice_index f.statuses c.number ≢ 2 = unsettled f c own-kin.in_role in
-      Fits-searched f.phase f.best f.choice 3 test.phase (IsSearching-mark (found_rest c) own-kin.inside open_ (λ e. absurd (omega (arith, e))) state.search)
+      Fits-searched f.phase f.best f.choice 3 test.phase (IsSearching-mark (found_rest c) own-kin.inside open_ (λ e. absurd (omega (arith, e))) (search-of f state))
       (λ d other. role-kept-mark f d c.number 3 (found_rest c) f.spawned other open_)
 
   -- inlet cases 2 and 3 with a score that is at most the greater of alpha and best, and an upper bound of the choice's value
   pub inlet-low : seen c ≤ℤ floor f → value_at f c.number ≤ℤ seen c → f.phase ≡ 3 → Fits (taken_in f c 3 (best_with f c) f.choice 2) (before ++ behind) Neither
   inlet-low low worth phase =
-      Fits-searched 3 _ _ 2 refl (IsSearching-low (found_rest c) own-kin.inside fits.window (unsettled f c own-kin.in_role) low worth state.search)
+      Fits-searched 3 _ _ 2 refl (IsSearching-low (found_rest c) own-kin.inside fits.window (unsettled f c own-kin.in_role) low worth (search-of f state))
       (λ d other. role-kept-settle f d _ _ _ _ own-kin.inside other phase (omega (arith, ints, clamps)) (λ _. omega (arith, ints, clamps)))
 
   -- inlet case 2 of a search again, with a better score
   pub inlet-higher : IsAgain f c → floor f <ℤ seen c → seen c <ℤ f.beta → value_at f c.number ≡ seen c → IsOfKind (found_rest c) Exact →
       Fits (taken_in f c 3 (best_with f c) (code_at f c.number) 2) (before ++ behind) Neither
   inlet-higher again high under worth exact =
-      Fits-searched 3 _ _ 2 refl (IsSearching-higher (found_rest c) own-kin.inside fits.table.places exact high under worth again.earlier state.search)
+      Fits-searched 3 _ _ 2 refl (IsSearching-higher (found_rest c) own-kin.inside fits.table.places exact high under worth again.earlier (search-of f state))
       (λ d other. role-kept-settle f d _ _ _ _ own-kin.inside other again.phase (omega (arith, ints, clamps)) (λ r. absurd (one-again f c d again r other)))
 
   -- inlet case 1: the frame is done, and has no child
@@ -259,6 +261,7 @@ spawned-child f c children i x spawned fits phase inside free opened more few be
     let x2 : x ≢ 2 = grind arith in
     let none : how_many i children ≡ 0 = none-for f i (grind arith) (grind arith) children fits.kin in
     let len = set-length f.statuses i x in
+    let still = IsSearching-mark (rest_at f i) inside not2 x2 (search-of f s) in
     record {
       window = fits.window;
       marked = fits.marked;
@@ -269,7 +272,9 @@ spawned-child f c children i x spawned fits phase inside free opened more few be
         deep = s.deep;
         spawned_in = rw len (omega arith);
         unspawned = λ k low high. set-beside f.statuses i x k (λ (e : k ≡ i). omega arith) ∙ s.unspawned k (omega arith) (omega (arith, len));
-        search = IsSearching-mark (rest_at f i) inside not2 x2 s.search;
+        below = still.below;
+        settled = still.settled;
+        found = still.found;
       };
       done = λ (e : f.phase ≡ 4). ⊎_elim (λ (p : f.phase ≡ 2). absurd (omega arith)) (λ (p : f.phase ≡ 3). absurd (omega arith)) phase;
       table = tabled-set i x (rest_at f i) inside fits.table (fits.table.holds i) (λ two. absurd (x2 two));
@@ -331,7 +336,7 @@ next-settled f children fits phase all =
     let s : IsSearchingFrame f = fits.searching (inr phase) in
     let bound : IsBound f.alpha f.beta f.best (value f) = all-bound f s all in
     let named : f.alpha <ℤ f.best → f.best <ℤ f.beta → f.choice ≡ coded (best_choice f.depth (board f)) =
-    λ higher below. named-best f s.deep s.places (s.search.found higher) (bound.exact higher below) in
+    λ higher below. named-best f s.deep s.places (s.found higher) (bound.exact higher below) in
     grind (arith, childless, bound, named)
 
 -- next, phase 4

@@ -304,10 +304,10 @@ pub fits_sound : (words : List ℕ) (children : Lists) (mark : Mark) → AreFitt
 fits_sound words children mark fitting =
     let fits = fitting.frame in
     record {
-      below = λ phase. (fits.searching phase).search.below;
-      settled = λ phase i h. (fits.searching phase).search.settled i (settled-inside (frame_of words) i h) h;
+      below = λ phase. (fits.searching phase).below;
+      settled = λ phase i h. (fits.searching phase).settled i (settled-inside (frame_of words) i h) h;
       chosen = λ phase higher.
-          let found = (fits.searching phase).search.found higher in
+          let found = (fits.searching phase).found higher in
           record { place = found.place; stored = found.named; settled = found.settled; worth = found.worth; earlier = found.earlier };
       bound = λ phase. (fits.done phase).bound;
       named = λ phase. (fits.done phase).named;

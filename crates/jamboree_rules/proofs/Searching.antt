@@ -1,6 +1,6 @@
 -- One frame's search in the abstract: over the values v of its choices, the codes of its choices, their statuses and
 -- what is found of them.
-use Rattle.jamboree_rules.proofs.Common.{◌≡◌, ◌≢◌, ℕ, ◌<◌, ℤ, neg_ℤ, ◌<ℤ◌, ◌≤ℤ◌, List, length, refl, slice_index, slice_set, suc, Bool, true, false, [], ◌∷◌, Some, map, find, slice_index_or, ◌⊎◌, int_le, replicate, int_max, sym, ◌∙◌, ap, subst, arith, inl, inr, common_steps, ints, clamps, by_lt_z, IsBound, kind_in, kind_number, score_in, is_rest, IsOfKind, IsTrueRest, IsFound, IsSearching, IsInRole, IsChildOf, IsTabled, Choice, Pass, choices, final_value, best_choice, choice_value, greatest_or, minimax-deeper, best_choice-deeper, int_equal-same, int_equal-below, Frame, board, choice_at, code_at, coded, value_at, value, least, greatest, Cell, cases_eq, get_or_past, BoundKind, Exact, Says, entered, seen, kind_by, kind_of, found_rest, IsSearchingFrame, Status, changed}
+use Rattle.jamboree_rules.proofs.Common.{◌≡◌, ◌≢◌, ℕ, ◌<◌, ℤ, neg_ℤ, ◌<ℤ◌, ◌≤ℤ◌, List, length, refl, slice_index, slice_set, suc, Bool, true, false, [], ◌∷◌, Some, map, find, slice_index_or, ◌⊎◌, int_le, replicate, int_max, sym, ◌∙◌, ap, subst, arith, inl, inr, common_steps, ints, clamps, by_lt_z, IsBound, kind_in, kind_number, score_in, is_rest, IsOfKind, IsTrueRest, IsFound, IsInRole, IsChildOf, IsTabled, Choice, Pass, choices, final_value, best_choice, choice_value, greatest_or, minimax-deeper, best_choice-deeper, int_equal-same, int_equal-below, Frame, board, choice_at, code_at, coded, value_at, value, least, greatest, Cell, cases_eq, get_or_past, BoundKind, Exact, Says, entered, seen, kind_by, kind_of, found_rest, IsSearchingFrame, Status, changed}
 use Rattle.jamboree_rules.proofs.Forms.{kind-some, kind-read, score-read, same-kind, rest-passes}
 
 -- a status that is set
@@ -16,6 +16,15 @@ set-length st i x = grind (arith, common_steps)
 -- no settled choice is worth more than the best score
 abbrev pub AreAtMost : (v : ℕ → ℤ) (best : ℤ) → List ℕ → Type 0
 AreAtMost v best st = (k : ℕ) → k < length st → slice_index st k ≡ 2 → v k ≤ℤ best
+
+-- what `IsSearchingFrame` says of the scores, over the values and codes of the choices
+pub record IsSearching (v : ℕ → ℤ) (code : ℕ → ℕ) (st rests : List ℕ) (alpha beta best : ℤ) (choice : ℕ) : Type 0 where
+  pub below : best <ℤ beta
+  pub settled : AreAtMost v best st
+  pub found : alpha <ℤ best → IsFound v code st rests best choice
+
+pub search-of : (f : Frame) → IsSearchingFrame f → IsSearching (value_at f) (code_at f) f.statuses f.rests f.alpha f.beta f.best f.choice
+search-of f s = record { below = s.below; settled = s.settled; found = s.found }
 
 -- a settled choice after a status was set
 settled-set : (v : ℕ → ℤ) (st : List ℕ) (best : ℤ) (i x : ℕ) → i < length st → (x ≡ 2 → v i ≤ℤ best) → AreAtMost v best st → AreAtMost v best (slice_set st i x)
@@ -139,14 +148,14 @@ AreAllSettled f = (k : ℕ) → k < length f.statuses → slice_index f.statuses
 pub all-bound : (f : Frame) → IsSearchingFrame f → AreAllSettled f → IsBound f.alpha f.beta f.best (value f)
 all-bound f s all =
     let g : IsGreatest (value_at f) (length f.statuses) (value f) = greatest-of f s in
-    let most : value_at f g.place ≤ℤ f.best = s.search.settled g.place g.inside (all g.place g.inside) in
-    let b : f.best <ℤ f.beta = s.search.below in
+    let most : value_at f g.place ≤ℤ f.best = s.settled g.place g.inside (all g.place g.inside) in
+    let b : f.best <ℤ f.beta = s.below in
     let is : value_at f g.place ≡ value f = g.attained in
     record {
       upper = λ _. omega (arith, ints);
       lower = λ (high : f.beta ≤ℤ f.best). absurd (omega (arith, ints));
       exact = λ higher _.
-          let found = s.search.found higher in
+          let found = s.found higher in
           let least : value_at f found.place ≤ℤ value f = g.above found.place found.inside in
           let worth : value_at f found.place ≡ f.best = found.worth in
           omega (arith, ints);

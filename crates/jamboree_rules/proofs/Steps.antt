@@ -64,7 +64,7 @@ module _ (f : Frame) (children : List Frame) (fits : Fits f children Neither) wh
   next-again j phase inside failed earlier =
       let s : IsSearchingFrame f = fits.searching (inr phase) in
       let window : f.alpha <ℤ f.beta = fits.window in
-      let below : f.best <ℤ f.beta = s.search.below in
+      let below : f.best <ℤ f.beta = s.below in
       let begun : j < f.spawned = grind (arith, s.unspawned j, failed, inside) in
       spawns-child 3 j 4 f.spawned _ _ (inr phase) inside (omega arith) (inr failed) (inr refl) s.spawned_in begun (omega (arith, ints, clamps))
       (grind (arith, set-there, set-beside))
@@ -97,11 +97,9 @@ module _ (f : Frame) (children : List Frame) (fits : Fits f children Neither) wh
             deep = deep;
             spawned_in = omega arith;
             unspawned = λ k _ _. zeros k;
-            search = record {
-              below = omega (arith, ints);
-              settled = λ k _ is. absurd (omega (arith, zeros k, is));
-              found = λ (higher : f.alpha <ℤ negsuc 199999). absurd (omega (arith, ints));
-            };
+            below = omega (arith, ints);
+            settled = λ k _ is. absurd (omega (arith, zeros k, is));
+            found = λ (higher : f.alpha <ℤ negsuc 199999). absurd (omega (arith, ints));
           };
           done = λ (e : 2 ≡ 4). absurd (omega arith);
           table = tabled-zeros (value_at (record f { own = own; opp = opp })) n;
@@ -351,7 +349,7 @@ module _ (own : List ℕ) (children : Lists) (form : IsFormed own) where
     tests-good true more all j at ef em ea phase =
         let told = failed-told j (length this.statuses) (slice_index this.statuses j) ef in
         let window : this.alpha <ℤ this.beta = fits.window in
-        let below : this.best <ℤ this.beta = (fits.searching (inr phase)).search.below in
+        let below : this.best <ℤ this.beta = (fits.searching (inr phase)).below in
         let inside : j < this.count = omega (arith, status-count own form, told.0) in
         spawn-good (Status j 4 (rest_at this j) ∷ []) 3 j 4 this.spawned _ _ (inr phase) ((omega arith, rest-there own j form), tt) (inside, tt) refl
         form.frame.spawned (omega arith) (omega (arith, ints)) (omega (arith, ints, clamps))
@@ -359,7 +357,7 @@ module _ (own : List ℕ) (children : Lists) (form : IsFormed own) where
     tests-good false true all j at ef em ea phase =
         let told : this.spawned < length this.statuses = ltb-true this.spawned (length this.statuses) (sym em) in
         let window : this.alpha <ℤ this.beta = fits.window in
-        let below : this.best <ℤ this.beta = (fits.searching (inr phase)).search.below in
+        let below : this.best <ℤ this.beta = (fits.searching (inr phase)).below in
         let inside : this.spawned < this.count = omega (arith, status-count own form, told) in
         spawn-good (Spawned (this.spawned + 1) ∷ Status this.spawned 1 (rest_at this this.spawned) ∷ []) 2 this.spawned 1 (this.spawned + 1) _ _ (inr phase)
         (tt, ((omega arith, rest-there own this.spawned form), tt)) (tt, (inside, tt)) refl (omega arith) (omega arith) (omega (arith, ints, clamps))

@@ -78,18 +78,18 @@ tests false false false f j = record { stores = []; after = Wait }
 abbrev pub tests_from : Frame → ℕ → Act
 tests_from f j = tests (nat_lt j (length f.statuses) && (slice_index f.statuses j == status_failed)) (nat_lt f.spawned (length f.statuses)) (nat_le (length f.statuses) j) f j
 
--- the next act of a frame, by its phase: the flags say whether it is new, computing, at its first choice or at
--- its tests; in any other phase it returns
-abbrev pub act_by : (opens computes first searches : Bool) → ℕ → Frame → Option Frame → Act
-act_by true computes first searches grain f parent = opening_under grain f parent
-act_by false true first searches grain f parent = record { stores = []; after = Compute }
-act_by false false true searches grain f parent = first_search (f.spawned == 0) f
-act_by false false false true grain f parent = tests_from f (first_open f.statuses)
-act_by false false false false grain f parent = returns
+-- the next act of a frame, by its phase, where `under` is the grain and its parent: the flags say whether it is new,
+-- computing, at its first choice or at its tests; in any other phase it returns
+abbrev pub act_by : (opens computes first searches : Bool) → (under : ℕ × Option Frame) → Frame → Act
+act_by true computes first searches under f = opening_under under.0 f under.1
+act_by false true first searches under f = record { stores = []; after = Compute }
+act_by false false true searches under f = first_search (f.spawned == 0) f
+act_by false false false true under f = tests_from f (first_open f.statuses)
+act_by false false false false under f = returns
 
 -- the next act of a frame under this parent, or of a root (None)
 abbrev pub act_of : ℕ → Frame → Option Frame → Act
-act_of grain f parent = act_by (f.phase == phase_new) (f.phase == phase_computing) (f.phase == phase_first) (f.phase == phase_tests) grain f parent
+act_of grain f parent = act_by (f.phase == phase_new) (f.phase == phase_computing) (f.phase == phase_first) (f.phase == phase_tests) (grain, parent) f
 
 -- the frame of the parent, which is the first of the levels above; None for a root
 abbrev pub parent_in : List (List ℕ) → Option Frame

@@ -80,23 +80,19 @@ pub record IsFound (v : ℕ → ℤ) (code : ℕ → ℕ) (statuses rests : List
   pub worth : v place ≡ best
   pub earlier : (k : ℕ) → k < place → v k <ℤ best
 
--- while choices are searched, where v k and code k are the value and the code of choice k: the best score is
--- below beta, no settled choice is worth more than it, and where it is above alpha, the stored choice is the
--- first that is worth it
-pub record IsSearching (v : ℕ → ℤ) (code : ℕ → ℕ) (statuses rests : List ℕ) (alpha beta best : ℤ) (choice : ℕ) : Type 0 where
-  pub below : best <ℤ beta
-  pub settled : (k : ℕ) → k < length statuses → slice_index statuses k ≡ status_settled → v k ≤ℤ best
-  pub found : alpha <ℤ best → IsFound v code statuses rests best choice
-
 -- of a frame that searches its choices: it has a depth of at least 1, at least one choice, and a status for each
--- choice of its board; the choices from number `spawned` on have the status of those that aren't spawned
+-- choice of its board; the choices from number `spawned` on have the status of those that aren't spawned. The best
+-- score is below beta, no settled choice is worth more than it, and where it is above alpha, the stored choice is
+-- the first that is worth it
 pub record IsSearchingFrame (f : Frame) : Type 0 where
   pub places : length f.statuses ≡ length (choices (board f))
   pub some : 0 < length f.statuses
   pub deep : 0 < f.depth
   pub spawned_in : f.spawned ≤ length f.statuses
   pub unspawned : (k : ℕ) → f.spawned ≤ k → k < length f.statuses → slice_index f.statuses k ≡ status_not_spawned
-  pub search : IsSearching (value_at f) (code_at f) f.statuses f.rests f.alpha f.beta f.best f.choice
+  pub below : f.best <ℤ f.beta
+  pub settled : (k : ℕ) → k < length f.statuses → slice_index f.statuses k ≡ status_settled → value_at f k ≤ℤ f.best
+  pub found : f.alpha <ℤ f.best → IsFound (value_at f) (code_at f) f.statuses f.rests f.best f.choice
 
 -- of a frame that is done: its best score is a bound of the minimax value. Where that is below beta, each choice
 -- with a place is settled; where it is inside the window, the stored choice is the best choice, and if the

@@ -39,10 +39,10 @@ tests_with spawned c4 = 34628173824 ∷ 68853694464 ∷ 1 ∷ 800000 ∷ 1200000
 abbrev pub returned : ℕ → ℕ → ℕ → ℕ → ℕ → List ℕ
 returned alpha beta role number best = 68719476736 ∷ 34762915840 ∷ 0 ∷ alpha ∷ beta ∷ role ∷ number ∷ 4 ∷ best ∷ 65 ∷ 0 ∷ 0 ∷ []
 
--- the root with this window, phase, best score and code of a choice, and with these statuses and rests of its
--- entries; each of its choices (d3, c4, f5, e6) is worth -3
-abbrev pub root_with : ℤ → ℤ → ℕ → ℤ → ℕ → List ℕ → List ℕ → Frame
-root_with alpha beta phase best choice statuses rests = record { own = 34628173824; opp = 68853694464; depth = 1; alpha = alpha; beta = beta; role = role_root; number = 0; phase = phase; best = best; choice = choice; count = 4; spawned = 4; statuses = statuses; rests = rests }
+-- the root with this window (alpha and beta), phase, best score and code of a choice, and with these statuses and
+-- rests of its entries; each of its choices (d3, c4, f5, e6) is worth -3
+abbrev pub root_with : ℤ × ℤ → ℕ → ℤ → ℕ → List ℕ → List ℕ → Frame
+root_with window phase best choice statuses rests = record { own = 34628173824; opp = 68853694464; depth = 1; alpha = window.0; beta = window.1; role = role_root; number = 0; phase = phase; best = best; choice = choice; count = 4; spawned = 4; statuses = statuses; rests = rests }
 
 -- the statuses of the opening's four choices where none is settled
 abbrev pub none_settled : List ℕ
@@ -66,13 +66,13 @@ found_of_c4 kind score = 0 ∷ rest_with kind score ∷ 0 ∷ 0 ∷ []
 
 -- the root with the full window, where nothing is known of any choice
 abbrev pub full_root : ℕ → ℤ → ℕ → List ℕ → Frame
-full_root phase best choice statuses = root_with least greatest phase best choice statuses nothing_found
+full_root phase best choice statuses = root_with (least, greatest) phase best choice statuses nothing_found
 
--- a child of the root, with the words of a board, a depth, a window, its role, the number of its choice and its
--- phase
-abbrev pub child_of_root : ℕ → ℕ → ℕ → ℤ → ℤ → ℕ → ℕ → ℕ → Frame
-child_of_root own opp depth alpha beta role number phase = record { own = own; opp = opp; depth = depth; alpha = alpha; beta = beta; role = role; number = number; phase = phase; best = pos 0; choice = 65; count = 0; spawned = 0; statuses = []; rests = [] }
+-- a child of the root, with the two words of a board, a depth, a window (alpha and beta), its role, the number of
+-- its choice and its phase
+abbrev pub child_of_root : ℕ × ℕ → ℕ → ℤ × ℤ → ℕ → ℕ → ℕ → Frame
+child_of_root words depth window role number phase = record { own = words.0; opp = words.1; depth = depth; alpha = window.0; beta = window.1; role = role; number = number; phase = phase; best = pos 0; choice = 65; count = 0; spawned = 0; statuses = []; rests = [] }
 
 -- the child of the root that searches d3, and is computed on the board after it
-abbrev pub after_d3 : ℕ → ℤ → ℤ → ℕ → Frame
-after_d3 depth alpha beta role = child_of_root 68719476736 34762915840 depth alpha beta role 0 1
+abbrev pub after_d3 : ℕ → ℤ × ℤ → ℕ → Frame
+after_d3 depth window role = child_of_root (68719476736, 34762915840) depth window role 0 1

@@ -23,7 +23,7 @@ ghost use Rattle.jamboree_rules.specs.Procedure.{jamboree};
 pub fn next_keeps()
     ensures keeps { (grain : ℕ) → NextKeeps (jamboree grain) AreFitting IsRoot }
     ensures possible { (grain : ℕ) (origin own : List ℕ) (above older younger children : List (List ℕ)) →
-        AreFitting own children Neither → ParentFits AreFitting IsRoot origin above older own younger →
+        AreFitting own children Neither → ParentFits AreFitting IsRoot origin above (older, younger) own →
         is_bad_act own (has_one children) (next_act grain (own ∷ above)) ≡ false }
 {}
 

@@ -99,10 +99,10 @@ pub fn other_words()
 /// While a frame searches, its best score is below beta (`below`), and no settled choice is worth more (`settled`):
 /// so a choice whose test has failed isn't settled.
 pub fn scores_that_are_not_sound()
-    ensures below { IsSound (root_with least (negsuc 2) phase_tests (negsuc 2) 19 d3_settled nothing_found) [] → ⊥ }
-    ensures below_first { IsSound (root_with least (negsuc 2) phase_first (negsuc 2) 19 d3_settled nothing_found) [] → ⊥ }
-    ensures settled { IsSound (root_with (pos 0) greatest phase_tests (negsuc 3) 65 d3_settled nothing_found) [] → ⊥ }
-    ensures settled_first { IsSound (root_with (pos 0) greatest phase_first (negsuc 3) 65 d3_settled nothing_found) [] → ⊥ }
+    ensures below { IsSound (root_with (least, negsuc 2) phase_tests (negsuc 2) 19 d3_settled nothing_found) [] → ⊥ }
+    ensures below_first { IsSound (root_with (least, negsuc 2) phase_first (negsuc 2) 19 d3_settled nothing_found) [] → ⊥ }
+    ensures settled { IsSound (root_with (pos 0, greatest) phase_tests (negsuc 3) 65 d3_settled nothing_found) [] → ⊥ }
+    ensures settled_first { IsSound (root_with (pos 0, greatest) phase_first (negsuc 3) 65 d3_settled nothing_found) [] → ⊥ }
 {}
 
 /// A best score above alpha is that of the first choice that is worth it: that choice is worth just this (`worth`),
@@ -120,8 +120,8 @@ pub fn choices_that_are_not_sound()
 /// one, not a later one of the same value (`later`), nor none (`nothing`).
 pub fn ends_that_are_not_sound()
     ensures greater { IsSound (full_root phase_done (negsuc 1) 19 d3_settled) [] → ⊥ }
-    ensures above { IsSound (root_with least (negsuc 9) phase_done (negsuc 1) 19 d3_settled nothing_found) [] → ⊥ }
-    ensures below { IsSound (root_with (pos 0) greatest phase_done (negsuc 3) 65 d3_settled nothing_found) [] → ⊥ }
+    ensures above { IsSound (root_with (least, negsuc 9) phase_done (negsuc 1) 19 d3_settled nothing_found) [] → ⊥ }
+    ensures below { IsSound (root_with (pos 0, greatest) phase_done (negsuc 3) 65 d3_settled nothing_found) [] → ⊥ }
     ensures later { IsSound (full_root phase_done (negsuc 2) 26 two_settled) [] → ⊥ }
     ensures nothing { IsSound (full_root phase_done (negsuc 2) 65 d3_settled) [] → ⊥ }
 {}
@@ -136,37 +136,37 @@ pub fn bounds_that_are_none()
 
 /// An entry with a kind is true in every phase: c4 is worth -3, so not at most -4, not at least -2, and not -4.
 pub fn entries_that_are_not_true()
-    ensures low { IsSound (root_with least greatest phase_new (negsuc 999999) 65 none_settled (found_of_c4 Low (negsuc 3))) [] → ⊥ }
-    ensures high { IsSound (root_with least greatest phase_done (negsuc 2) 19 two_settled (found_of_c4 High (negsuc 1))) [] → ⊥ }
-    ensures exact { IsSound (root_with least greatest phase_tests (negsuc 2) 19 two_settled (found_of_c4 Exact (negsuc 3))) [] → ⊥ }
+    ensures low { IsSound (root_with (least, greatest) phase_new (negsuc 999999) 65 none_settled (found_of_c4 Low (negsuc 3))) [] → ⊥ }
+    ensures high { IsSound (root_with (least, greatest) phase_done (negsuc 2) 19 two_settled (found_of_c4 High (negsuc 1))) [] → ⊥ }
+    ensures exact { IsSound (root_with (least, greatest) phase_tests (negsuc 2) 19 two_settled (found_of_c4 Exact (negsuc 3))) [] → ⊥ }
 {}
 
 /// A child is there only while its parent searches (`later`). It is for one of its parent's choices (`fifth`), on
 /// the board after that (`board`), less deep by its plies (`depth`), with the window of its role (`window`).
 pub fn children_that_are_not_sound()
-    ensures later { IsSound (full_root phase_done (negsuc 2) 19 d3_settled) (after_d3 0 (negsuc 199999) (pos 200000) role_first_child ∷ []) → ⊥ }
-    ensures second { IsSound (full_root phase_first least 65 none_settled) (after_d3 0 (negsuc 199999) (pos 200000) role_first_child ∷ after_d3 1 (negsuc 199999) (pos 200000) role_first_child ∷ []) → ⊥ }
-    ensures fifth { HasGoal (full_root phase_first least 65 none_settled) (child_of_root 0 0 1 (negsuc 199999) (pos 200000) role_first_child 4 phase_new) → ⊥ }
-    ensures board { HasGoal (full_root phase_first least 65 none_settled) (child_of_root 34628173824 68853694464 0 (negsuc 199999) (pos 200000) role_first_child 0 phase_computing) → ⊥ }
-    ensures depth { HasGoal (full_root phase_first least 65 none_settled) (after_d3 1 (negsuc 199999) (pos 200000) role_first_child) → ⊥ }
-    ensures window { HasGoal (full_root phase_first least 65 none_settled) (after_d3 0 (pos 0) (pos 200000) role_first_child) → ⊥ }
+    ensures later { IsSound (full_root phase_done (negsuc 2) 19 d3_settled) (after_d3 0 (negsuc 199999, pos 200000) role_first_child ∷ []) → ⊥ }
+    ensures second { IsSound (full_root phase_first least 65 none_settled) (after_d3 0 (negsuc 199999, pos 200000) role_first_child ∷ after_d3 1 (negsuc 199999, pos 200000) role_first_child ∷ []) → ⊥ }
+    ensures fifth { HasGoal (full_root phase_first least 65 none_settled) (child_of_root (0, 0) 1 (negsuc 199999, pos 200000) role_first_child 4 phase_new) → ⊥ }
+    ensures board { HasGoal (full_root phase_first least 65 none_settled) (child_of_root (34628173824, 68853694464) 0 (negsuc 199999, pos 200000) role_first_child 0 phase_computing) → ⊥ }
+    ensures depth { HasGoal (full_root phase_first least 65 none_settled) (after_d3 1 (negsuc 199999, pos 200000) role_first_child) → ⊥ }
+    ensures window { HasGoal (full_root phase_first least 65 none_settled) (after_d3 0 (pos 0, pos 200000) role_first_child) → ⊥ }
 {}
 
 /// The window of a first child is its parent's; of a test, one point, from alpha on up to the best score; of a
 /// search again, what is above both, once all earlier choices are settled. No other role has a window. Here alpha
 /// is 3, the best score 7 and beta 9; at `again_below_alpha` alpha is 7, and the best score 3.
 pub fn windows_that_are_none()
-    ensures other_first { HasWindow (root_with (pos 3) (pos 9) phase_first (pos 7) 65 none_settled nothing_found) (after_d3 0 (negsuc 8) (negsuc 2) role_root) → ⊥ }
-    ensures first_alpha { HasWindow (root_with (pos 3) (pos 9) phase_first (pos 7) 65 none_settled nothing_found) (after_d3 0 (negsuc 7) (negsuc 2) role_first_child) → ⊥ }
-    ensures first_beta { HasWindow (root_with (pos 3) (pos 9) phase_first (pos 7) 65 none_settled nothing_found) (after_d3 0 (negsuc 8) (negsuc 6) role_first_child) → ⊥ }
-    ensures other_test { HasWindow (root_with (pos 3) (pos 9) phase_tests (pos 7) 19 d3_settled nothing_found) (after_d3 0 (negsuc 7) (negsuc 6) role_root) → ⊥ }
-    ensures test_below { HasWindow (root_with (pos 3) (pos 9) phase_tests (pos 7) 19 d3_settled nothing_found) (after_d3 0 (negsuc 2) (negsuc 1) role_test) → ⊥ }
-    ensures test_above { HasWindow (root_with (pos 3) (pos 9) phase_tests (pos 7) 19 d3_settled nothing_found) (after_d3 0 (negsuc 8) (negsuc 7) role_test) → ⊥ }
-    ensures test_wide { HasWindow (root_with (pos 3) (pos 9) phase_tests (pos 7) 19 d3_settled nothing_found) (after_d3 0 (negsuc 8) (negsuc 6) role_test) → ⊥ }
-    ensures test_beta { HasWindow (root_with (pos 3) (pos 9) phase_tests (pos 7) 19 d3_settled nothing_found) (after_d3 0 (negsuc 7) (negsuc 5) role_test) → ⊥ }
-    ensures other_again { HasWindow (root_with (pos 3) (pos 9) phase_tests (pos 7) 19 d3_settled nothing_found) (after_d3 0 (negsuc 8) (negsuc 6) role_root) → ⊥ }
-    ensures again_alpha { HasWindow (root_with (pos 3) (pos 9) phase_tests (pos 7) 19 d3_settled nothing_found) (after_d3 0 (negsuc 7) (negsuc 6) role_again) → ⊥ }
-    ensures again_beta { HasWindow (root_with (pos 3) (pos 9) phase_tests (pos 7) 19 d3_settled nothing_found) (after_d3 0 (negsuc 8) (negsuc 2) role_again) → ⊥ }
-    ensures again_below_alpha { HasWindow (root_with (pos 7) (pos 9) phase_tests (pos 3) 65 d3_settled nothing_found) (after_d3 0 (negsuc 8) (negsuc 2) role_again) → ⊥ }
-    ensures again_early { HasWindow (root_with (pos 3) (pos 9) phase_tests (pos 7) 19 none_settled nothing_found) (child_of_root 0 0 0 (negsuc 8) (negsuc 6) role_again 1 phase_new) → ⊥ }
+    ensures other_first { HasWindow (root_with (pos 3, pos 9) phase_first (pos 7) 65 none_settled nothing_found) (after_d3 0 (negsuc 8, negsuc 2) role_root) → ⊥ }
+    ensures first_alpha { HasWindow (root_with (pos 3, pos 9) phase_first (pos 7) 65 none_settled nothing_found) (after_d3 0 (negsuc 7, negsuc 2) role_first_child) → ⊥ }
+    ensures first_beta { HasWindow (root_with (pos 3, pos 9) phase_first (pos 7) 65 none_settled nothing_found) (after_d3 0 (negsuc 8, negsuc 6) role_first_child) → ⊥ }
+    ensures other_test { HasWindow (root_with (pos 3, pos 9) phase_tests (pos 7) 19 d3_settled nothing_found) (after_d3 0 (negsuc 7, negsuc 6) role_root) → ⊥ }
+    ensures test_below { HasWindow (root_with (pos 3, pos 9) phase_tests (pos 7) 19 d3_settled nothing_found) (after_d3 0 (negsuc 2, negsuc 1) role_test) → ⊥ }
+    ensures test_above { HasWindow (root_with (pos 3, pos 9) phase_tests (pos 7) 19 d3_settled nothing_found) (after_d3 0 (negsuc 8, negsuc 7) role_test) → ⊥ }
+    ensures test_wide { HasWindow (root_with (pos 3, pos 9) phase_tests (pos 7) 19 d3_settled nothing_found) (after_d3 0 (negsuc 8, negsuc 6) role_test) → ⊥ }
+    ensures test_beta { HasWindow (root_with (pos 3, pos 9) phase_tests (pos 7) 19 d3_settled nothing_found) (after_d3 0 (negsuc 7, negsuc 5) role_test) → ⊥ }
+    ensures other_again { HasWindow (root_with (pos 3, pos 9) phase_tests (pos 7) 19 d3_settled nothing_found) (after_d3 0 (negsuc 8, negsuc 6) role_root) → ⊥ }
+    ensures again_alpha { HasWindow (root_with (pos 3, pos 9) phase_tests (pos 7) 19 d3_settled nothing_found) (after_d3 0 (negsuc 7, negsuc 6) role_again) → ⊥ }
+    ensures again_beta { HasWindow (root_with (pos 3, pos 9) phase_tests (pos 7) 19 d3_settled nothing_found) (after_d3 0 (negsuc 8, negsuc 2) role_again) → ⊥ }
+    ensures again_below_alpha { HasWindow (root_with (pos 7, pos 9) phase_tests (pos 3) 65 d3_settled nothing_found) (after_d3 0 (negsuc 8, negsuc 2) role_again) → ⊥ }
+    ensures again_early { HasWindow (root_with (pos 3, pos 9) phase_tests (pos 7) 19 none_settled nothing_found) (child_of_root (0, 0) 0 (negsuc 8, negsuc 6) role_again 1 phase_new) → ⊥ }
 {}

@@ -4,7 +4,7 @@
 //! number: who keeps such a list has it in the invariant.
 ghost use Rattle.std.specs.Prelude.{◌≡◌, ◌<◌, [], true, length, option_copied, IfOk, IfSome, Some};
 ghost use Rattle.std.specs.Borrow.{sem};
-ghost use Rattle.numbered_list.specs.Places.{find_by_number, has_by_number, remove_by_number, inserted, AreRising};
+ghost use Rattle.numbered_list.specs.Places.{change_by_number, find_by_number, has_by_number, remove_by_number, inserted, AreRising};
 
 use crate::index::TenantIndex;
 use crate::numbered::Numbered;
@@ -87,7 +87,7 @@ impl<T: Numbered, A: Allocator> NumberedList<T, A> {
     pub fn get_mut(&mut self, number: u64) -> &mut T
         requires rising { AreRising T.number_of self.old }
         requires there { has_by_number T.number_of number self.old ≡ true }
-        ensures* writes_back { sem 𝓛 (lends_thing T.row A.row A.Allocator T.number_of self.entry number result) }
+        ensures* writes_back { sem 𝓛 (lends_thing T.row A.row A.Allocator self.entry result (λ last. change_by_number T.number_of number (λ was. last) self.old)) }
         ensures value { find_by_number T.number_of number self.old ≡ Some result.now }
     {
         let at = self.index.place_of(self.things.as_slice(), number);

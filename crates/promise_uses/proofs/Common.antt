@@ -75,6 +75,6 @@ pub use Rattle.site_book.specs.declared.held.Group.TheVariants.{All, Guests, Own
 pub use Rattle.site_book.specs.declared.who.Who.TheVariants.{Named, V4, V6}
 pub use Rattle.solve_engine.specs.Solving.{SolvedRun, answers_unless, line_question, question_answer, solve_line_unless, solve_out_unless, solved_unless}
 pub use Rattle.solve_engine.specs.Solving.{words_question}
-pub use Rattle.tenant_quota.specs.Quota.{Quota}
+pub use Rattle.tenant_quota.specs.Reserves.{ReserveOf}
 pub use Rattle.tenant_quota.specs.declared.account.Left.{Left}
 pub use mathlib.Core.List.{IsPrefix}

@@ -1,5 +1,5 @@
 -- What a connection of a site said, and how it was answered.
-use Rattle.promise_uses.proofs.Common.{◌≡◌, ◌⊎◌, ℕ, List, [], ◌∷◌, ◌++◌, false, Option, Some, None, Result, Ok, Err, refl, sym, ap, ◌∙◌, subst, inl, inr, codes, concat, HallOf, Quota, Known, seat_steps, steps_of, AreTaken, IsOneTenancy, NobodyCame, LineText, Whole, lines_of, LineFault, ReadAnswer, Ended, IsTalkEnd, bytes_due, write_result, is_bye, LineTurn, Call, Hello, Leave, OfficeReply, Gone, Welcome, Admit, LeaveStep, SearchStep, jamboree}
+use Rattle.promise_uses.proofs.Common.{◌≡◌, ◌⊎◌, ℕ, List, [], ◌∷◌, ◌++◌, false, Option, Some, None, Result, Ok, Err, refl, sym, ap, ◌∙◌, subst, inl, inr, codes, concat, HallOf, ReserveOf, Known, seat_steps, steps_of, AreTaken, IsOneTenancy, NobodyCame, LineText, Whole, lines_of, LineFault, ReadAnswer, Ended, IsTalkEnd, bytes_due, write_result, is_bye, LineTurn, Call, Hello, Leave, OfficeReply, Gone, Welcome, Admit, LeaveStep, SearchStep, jamboree}
 use Rattle.line_io.specs.Talks.{upto}
 use Rattle.line_io.specs.Writes.{IsAnswered}
 use Rattle.line_io.specs.declared.talking.TalkEnd.{TalkEnd}
@@ -50,7 +50,7 @@ module _ (begun : ℕ → HallOf) (calls : List (Call × OfficeReply)) where
   none-came knew is none = subst (λ (k : Option SiteTraceOf). IsTenantAt begun calls k) none is
 
   -- who came and left at once
-  pub left-of : (quota : Quota) (trace : SiteTraceOf) (knew : Option SiteTraceOf) → IsTenantAt begun calls knew → knew ≡ Some trace → calls ≡ (Hello quota, Welcome quota) ∷ (Leave, Gone) ∷ [] →
+  pub left-of : (quota : ReserveOf) (trace : SiteTraceOf) (knew : Option SiteTraceOf) → IsTenantAt begun calls knew → knew ≡ Some trace → calls ≡ (Hello quota, Welcome quota) ∷ (Leave, Gone) ∷ [] →
       (number : ℕ) × (before between : Entries)
       × (trace.known.seen ≡ ((before ++ (trace.known.maker, Admit number quota) ∷ []) ++ between) ++ (trace.known.maker, LeaveStep number) ∷ [])
       × (seat_steps number (steps_of between) ≡ [])

@@ -1,5 +1,5 @@
 -- What the definitions of a site's desk come to, part by part.
-use Rattle.promise_uses.proofs.Common.{refl, ◌≡◌, sym, subst, ◌++◌, ◌∷◌, [], ℕ, List, Result, Ok, Err, OnOk, ap, ◌∙◌, own, Known, HallOf, SeatOf, AdmitMore, SearchStep, Quota}
+use Rattle.promise_uses.proofs.Common.{refl, ◌≡◌, sym, subst, ◌++◌, ◌∷◌, [], ℕ, List, Result, Ok, Err, OnOk, ap, ◌∙◌, own, Known, HallOf, SeatOf, AdmitMore, SearchStep, ReserveOf}
 use Rattle.promise_uses.proofs.Parts.{taken-nine}
 use Rattle.site_book.specs.declared.refusal.BookRefusal.{BookRefusal}
 use Rattle.site_book.specs.Plans.{PlanOf}
@@ -16,11 +16,11 @@ use Rattle.site_desk.specs.declared.turned.Turned.{Turned}
 use Rattle.site_desk.specs.declared.turned.Turned.TheVariants.{ByBook, OldTenant, OutOfMemory}
 
 -- who is seated has a new seat
-pub entered : (begun : HallOf) (plan : PlanOf) (at : ℕ) (who : Who) (ask : Quota) (entry : SeatOutcome SiteSeatOf) (came : SiteSeatOf) → IsEntry begun plan at who ask entry → entry ≡ Seated came → IsNewSeat begun plan at who ask came
+pub entered : (begun : HallOf) (plan : PlanOf) (at : ℕ) (who : Who) (ask : ReserveOf) (entry : SeatOutcome SiteSeatOf) (came : SiteSeatOf) → IsEntry begun plan at who ask entry → entry ≡ Seated came → IsNewSeat begun plan at who ask came
 entered begun plan at who ask entry came is seated = subst (λ e. IsEntry begun plan at who ask e) seated is
 
 -- how a raise of what tenant 9 reserves was answered
-module _ (begun : HallOf) (before after : SeatOf) (ask : Quota) where
+module _ (begun : HallOf) (before after : SeatOf) (ask : ReserveOf) where
   pub raised-nine : (r : Result (Unit {0}) Turned) → before.tenant ≡ 9 → IsRaiseTold begun before ask r after →
       OnOk r ((between : List (ℕ × SearchStep)) × (after.known.seen ≡ (before.known.seen ++ between) ++ (before.known.maker, AdmitMore 9 ask) ∷ [])
       × (own before.known.maker (before.known.seen ++ between) ≡ before.known.mine) × (after.known.mine ≡ before.known.mine ++ AdmitMore 9 ask ∷ [])

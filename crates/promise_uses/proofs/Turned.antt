@@ -1,5 +1,5 @@
 -- For the uses of the promises: what a session's calls come to.
-use Rattle.promise_uses.proofs.Common.{◌≡◌, ◌⊎◌, ℕ, List, [], ◌∷◌, ◌++◌, length, true, false, Option, Some, None, refl, sym, ap, subst, ◌∙◌, inl, inr, append_assoc, append-nil, option_map, Quota, Left, Board, Cell, cells, Side, JobOf, SpentJob, Refusal, Full, refusal_number, Admit, AdmitMore, Submit, LeaveStep, Tenant, left_of, job_at, lone_refusal, alone, only, CoreState, shared_refusal, shared_run, tenant_in, own_word, opp_word, jamboree, root_words, frame_size, HallOf, Known, seat_steps, steps_of, AreTaken, IsTrueTo, Spent, Call, Hello, Reserve, Ask, Wait, AskQuota, Leave, OfficeReply, Welcome, Reserved, Job, Told, Rest, Gone, Refused, if_there, is_welcome, job_reply, reply_to, unless_refused, AreAnswered, IsOneTenancy, IsReplyAt, IsTenantOf, NobodyCame, seat-more, steps-more, SearchStep}
+use Rattle.promise_uses.proofs.Common.{◌≡◌, ◌⊎◌, ℕ, List, [], ◌∷◌, ◌++◌, length, true, false, Option, Some, None, refl, sym, ap, subst, ◌∙◌, inl, inr, append_assoc, append-nil, option_map, ReserveOf, Left, Board, Cell, cells, Side, JobOf, SpentJob, Refusal, Full, refusal_number, Admit, AdmitMore, Submit, LeaveStep, Tenant, left_of, job_at, lone_refusal, alone, only, CoreState, shared_refusal, shared_run, tenant_in, own_word, opp_word, jamboree, root_words, frame_size, HallOf, Known, seat_steps, steps_of, AreTaken, IsTrueTo, Spent, Call, Hello, Reserve, Ask, Wait, AskQuota, Leave, OfficeReply, Welcome, Reserved, Job, Told, Rest, Gone, Refused, if_there, is_welcome, job_reply, reply_to, unless_refused, AreAnswered, IsOneTenancy, IsReplyAt, IsTenantOf, NobodyCame, seat-more, steps-more, SearchStep}
 use Rattle.std.proofs.Common.{◌+◌}
 
 abbrev pub Entries : Type 0
@@ -11,7 +11,7 @@ Made = Call × OfficeReply
 abbrev leaving : List Made
 leaving = (Leave, Gone) ∷ []
 
-abbrev came : Quota → Made
+abbrev came : ReserveOf → Made
 came quota = (Hello quota, Welcome quota)
 
 -- ---- the calls between HELLO and the leaving
@@ -40,14 +40,14 @@ abbrev all_after : HallOf → Entries → CoreState
 all_after begun at = shared_run (jamboree begun.grain) begun.shared (steps_of at)
 
 -- a tenant that came by the first call, and left by the last
-record Held (begun : HallOf) (quota : Quota) (calls : List Made) (known : Known SearchStep) : Type 0 where
+record Held (begun : HallOf) (quota : ReserveOf) (calls : List Made) (known : Known SearchStep) : Type 0 where
   pub number : ℕ
   pub true_to : IsTrueTo begun number known
   pub before : Entries
   pub unused : only number (steps_of before) ≡ []
   pub answered : AreAnswered begun number known.maker (before ++ (known.maker, Admit number quota) ∷ []) calls known.seen
 
-between : (quota other : Quota) (calls early later : List Made) → came quota ∷ (calls ++ leaving) ≡ early ++ came other ∷ (later ++ leaving) → NobodyCame early →
+between : (quota other : ReserveOf) (calls early later : List Made) → came quota ∷ (calls ++ leaving) ≡ early ++ came other ∷ (later ++ leaving) → NobodyCame early →
     (quota ≡ other) × (later ≡ calls)
 between quota other calls [] later are nobody =
     let first : came quota ≡ came other = cc are in
@@ -62,13 +62,13 @@ rest-left : (tenant : Option Tenant) (left : Left) → Rest left ≡ if_there te
 rest-left None left is = absurd (cc is)
 rest-left (Some its) left is = let same : left ≡ left_of its = cc is in ap (λ (l : Left). Some l) same
 
-module _ (begun : HallOf) (quota : Quota) (all : List Made) (knew : Option (Known SearchStep)) (known : Known SearchStep) (is : IsTenantOf begun all knew)
+module _ (begun : HallOf) (quota : ReserveOf) (all : List Made) (knew : Option (Known SearchStep)) (known : Known SearchStep) (is : IsTenantOf begun all knew)
     (knows : knew ≡ Some known) where
   held : (calls : List Made) → all ≡ came quota ∷ (calls ++ leaving) → Held begun quota calls known
   held calls are =
       let here : IsOneTenancy begun all known = subst (λ (k : Option (Known SearchStep)). IsTenantOf begun all k) knows is in
       let two = between quota here.quota calls here.early here.later (sym are ∙ here.are) here.nobody in
-      let P : Quota × List Made → Type 0 = λ x. AreAnswered begun here.number known.maker (here.before ++ (known.maker, Admit here.number x.0) ∷ []) x.1 known.seen in
+      let P : ReserveOf × List Made → Type 0 = λ x. AreAnswered begun here.number known.maker (here.before ++ (known.maker, Admit here.number x.0) ∷ []) x.1 known.seen in
       record {
         number = here.number;
         true_to = here.true_to;
@@ -126,7 +126,7 @@ job-spent : (job : Option JobOf) → Told 1 Spent ≡ job_reply 1 job → job �
 job-spent (Some SpentJob) is = refl
 job-spent _ is = absurd (cc is)
 
-raise-refused : (refusal : Option Refusal) (more : Quota) → Refused 14 ≡ unless_refused refusal (Reserved more) →
+raise-refused : (refusal : Option Refusal) (more : ReserveOf) → Refused 14 ≡ unless_refused refusal (Reserved more) →
     (why : Refusal) × (refusal ≡ Some why) × (refusal_number why ≡ 14)
 raise-refused None more is = absurd (cc is)
 raise-refused (Some why) more is = let number : 14 ≡ refusal_number why = cc is in (why, refl, sym number)
@@ -145,13 +145,13 @@ ask-numbered grain number its board side job is =
     job-numbered (lone_refusal (jamboree grain) (Some its) step) job (length its.jobs + 1) is
 
 -- why a raise was refused by 14
-abbrev IsRaiseRefused : HallOf → ℕ → Quota → Entries → Type 0
+abbrev IsRaiseRefused : HallOf → ℕ → ReserveOf → Entries → Type 0
 IsRaiseRefused begun number more at =
     ((refusal : Refusal) × (lone_refusal (jamboree begun.grain) (own_after begun number at) (AdmitMore number more) ≡ Some refusal) × (refusal_number refusal ≡ 14))
     ⊎ (shared_refusal (jamboree begun.grain) (all_after begun at) (AdmitMore number more) ≡ Some Full)
 
 -- what is said of an ASK to depth 3, a WAIT for job 1 and a raise of a tenant
-abbrev pub IsSpentAsk : HallOf → Quota → List Cell → ℕ → Known SearchStep → Type 0
+abbrev pub IsSpentAsk : HallOf → ReserveOf → List Cell → ℕ → Known SearchStep → Type 0
 IsSpentAsk begun more board job known =
     (number : ℕ) × (first second third later : Entries) × (words : Board)
     × (board ≡ cells words)
@@ -169,14 +169,14 @@ room : (why alone : Option Refusal) → ((alone ≡ None) × (((why ≡ Some Ful
 room why alone (granted, inl full) = full.0
 room why alone (granted, inr wanting) = absurd (no-memory wanting.1)
 
-why : (begun : HallOf) (number : ℕ) (at : Entries) (more : Quota) → IsReplyAt begun number at (Reserve more) (Refused 14) → IsRaiseRefused begun number more at
+why : (begun : HallOf) (number : ℕ) (at : Entries) (more : ReserveOf) → IsReplyAt begun number at (Reserve more) (Refused 14) → IsRaiseRefused begun number more at
 why begun number at more (inl own) = inl (raise-refused (lone_refusal (jamboree begun.grain) (own_after begun number at) (AdmitMore number more)) more own)
 why begun number at more (inr full) =
     let shared = all_after begun at in
     let raise : SearchStep = AdmitMore number more in
     inr (room (shared_refusal (jamboree begun.grain) shared raise) (lone_refusal (jamboree begun.grain) (tenant_in shared.tenants number) raise) full)
 
-module _ (begun : HallOf) (more : Quota) (board : List Cell) (side : Side) (job : ℕ) (known : Known SearchStep) where
+module _ (begun : HallOf) (more : ReserveOf) (board : List Cell) (side : Side) (job : ℕ) (known : Known SearchStep) where
   spent-of : (number : ℕ) (first second third later : Entries) (words : Board) → board ≡ cells words →
       known.seen ≡ ((with_search first known.maker number words ++ second) ++ third) ++ later → seat_steps number (steps_of (second ++ third)) ≡ [] →
       IsReplyAt begun number first (Ask 3 board side) (Job job) → IsReplyAt begun number (with_search first known.maker number words ++ second) (Wait 1) (Told 1 Spent) →
@@ -201,7 +201,7 @@ module _ (begun : HallOf) (more : Quota) (board : List Cell) (side : Side) (job 
   abbrev calls : List Made
   calls = (Ask 3 board side, Job job) ∷ (Wait 1, Told 1 Spent) ∷ (Reserve more, Refused 14) ∷ []
 
-  pub spent-ask : (quota : Quota) (all : List Made) (knew : Option (Known SearchStep)) → IsTenantOf begun all knew →
+  pub spent-ask : (quota : ReserveOf) (all : List Made) (knew : Option (Known SearchStep)) → IsTenantOf begun all knew →
       all ≡ came quota ∷ (Ask 3 board side, Job job) ∷ (Wait 1, Told 1 Spent) ∷ (Reserve more, Refused 14) ∷ leaving → knew ≡ Some known → IsSpentAsk begun more board job known
   spent-ask quota all knew is are knows = spent-of h.number first second third later words a.4.2.0 whole none-between a.3 waited raised
     where

@@ -1,7 +1,7 @@
 //! Uses of a site's laws, at any customer of its file and any guest of IPv4 and of IPv6: what comes of who asks for a
 //! session, whoever is there; and of another plan once those have gone who were told to end for it.
 ghost use Rattle.std.specs.Prelude.{◌≡◌, ◌≢◌, ◌-◌, ◌≤◌, ℕ, length, List, [], ◌∷◌, Some, None, true, false, All};
-ghost use Rattle.tenant_quota.specs.Quota.{Quota};
+ghost use Rattle.tenant_quota.specs.Reserves.{ReserveOf};
 ghost use Rattle.site_book.specs.declared.coming.Coming.TheVariants.{Enters, Ends, Refused};
 ghost use Rattle.site_book.specs.declared.held.Grant.{Grant};
 ghost use Rattle.site_book.specs.declared.held.Group.TheVariants.{Own, Guests};
@@ -26,13 +26,13 @@ use site_book::laws::{
 
 /// A customer and a guest enter where the book allows it, and nowhere else. Uses `site_book::who_has_budget_enters` (`enters`, `only`).
 pub fn who_enters()
-    ensures named { (number : ℕ) (plan : PlanOf) (grants : List Grant) (roll : List Present) (ask : Quota) (now most : ℕ) →
+    ensures named { (number : ℕ) (plan : PlanOf) (grants : List Grant) (roll : List Present) (ask : ReserveOf) (now most : ℕ) →
         why_over plan (Named number) ask grants ≡ None → coming plan grants roll (comer_of (Named number) ask now most) ≡ Enters }
-    ensures guest { (network : ℕ) (plan : PlanOf) (grants : List Grant) (roll : List Present) (ask : Quota) (now most : ℕ) →
+    ensures guest { (network : ℕ) (plan : PlanOf) (grants : List Grant) (roll : List Present) (ask : ReserveOf) (now most : ℕ) →
         why_over plan (V6 network) ask grants ≡ None → coming plan grants roll (comer_of (V6 network) ask now most) ≡ Enters }
-    ensures only_named { (number : ℕ) (plan : PlanOf) (grants : List Grant) (roll : List Present) (ask : Quota) (now most : ℕ) →
+    ensures only_named { (number : ℕ) (plan : PlanOf) (grants : List Grant) (roll : List Present) (ask : ReserveOf) (now most : ℕ) →
         coming plan grants roll (comer_of (Named number) ask now most) ≡ Enters → why_over plan (Named number) ask grants ≡ None }
-    ensures only_guest { (address : ℕ) (plan : PlanOf) (grants : List Grant) (roll : List Present) (ask : Quota) (now most : ℕ) →
+    ensures only_guest { (address : ℕ) (plan : PlanOf) (grants : List Grant) (roll : List Present) (ask : ReserveOf) (now most : ℕ) →
         coming plan grants roll (comer_of (V4 address) ask now most) ≡ Enters → why_over plan (V4 address) ask grants ≡ None }
 {
     who_has_budget_enters()
@@ -41,15 +41,15 @@ pub fn who_enters()
 /// Nobody is to end for another where nobody is a guest; nor where each waits for a job, was told before, or said something not too long
 /// ago; and of one that is there it is that one's session. Uses `site_book::only_idle_guests_go_for_another`.
 pub fn who_goes_for_another()
-    ensures named { (plan : PlanOf) (grants : List Grant) (roll : List Present) (who : Who) (ask : Quota) (now most session : ℕ) (refusal : BookRefusal) →
+    ensures named { (plan : PlanOf) (grants : List Grant) (roll : List Present) (who : Who) (ask : ReserveOf) (now most session : ℕ) (refusal : BookRefusal) →
         coming plan grants roll (comer_of who ask now most) ≡ Ends session refusal → All (λ present. is_guest present.who ≡ false) roll → ⊥ }
-    ensures waiting { (plan : PlanOf) (grants : List Grant) (roll : List Present) (who : Who) (ask : Quota) (now most session : ℕ) (refusal : BookRefusal) →
+    ensures waiting { (plan : PlanOf) (grants : List Grant) (roll : List Present) (who : Who) (ask : ReserveOf) (now most session : ℕ) (refusal : BookRefusal) →
         coming plan grants roll (comer_of who ask now most) ≡ Ends session refusal → All (λ present. present.waits ≡ true) roll → ⊥ }
-    ensures told { (plan : PlanOf) (grants : List Grant) (roll : List Present) (who : Who) (ask : Quota) (now most session : ℕ) (refusal : BookRefusal) →
+    ensures told { (plan : PlanOf) (grants : List Grant) (roll : List Present) (who : Who) (ask : ReserveOf) (now most session : ℕ) (refusal : BookRefusal) →
         coming plan grants roll (comer_of who ask now most) ≡ Ends session refusal → All (λ present. present.told ≢ None) roll → ⊥ }
-    ensures busy { (plan : PlanOf) (grants : List Grant) (roll : List Present) (who : Who) (ask : Quota) (now most session : ℕ) (refusal : BookRefusal) →
+    ensures busy { (plan : PlanOf) (grants : List Grant) (roll : List Present) (who : Who) (ask : ReserveOf) (now most session : ℕ) (refusal : BookRefusal) →
         coming plan grants roll (comer_of who ask now most) ≡ Ends session refusal → All (λ present. now - present.last ≤ most) roll → ⊥ }
-    ensures another { (plan : PlanOf) (grants : List Grant) (roll : List Present) (who : Who) (ask : Quota) (now most session : ℕ) (refusal : BookRefusal) →
+    ensures another { (plan : PlanOf) (grants : List Grant) (roll : List Present) (who : Who) (ask : ReserveOf) (now most session : ℕ) (refusal : BookRefusal) →
         coming plan grants roll (comer_of who ask now most) ≡ Ends session refusal → All (λ present. present.session ≢ session) roll → ⊥ }
 {
     only_idle_guests_go_for_another()
@@ -59,19 +59,19 @@ pub fn who_goes_for_another()
 /// in an empty hall, where that was all who were there. A guest for whom guests have too much has none without the idle ones either.
 /// Uses `site_book::who_is_refused_has_no_room` (`now`, `then`, `idle`).
 pub fn who_has_no_room()
-    ensures now { (number : ℕ) (plan : PlanOf) (grants : List Grant) (roll : List Present) (ask : Quota) (now most : ℕ) (refusal : BookRefusal) →
+    ensures now { (number : ℕ) (plan : PlanOf) (grants : List Grant) (roll : List Present) (ask : ReserveOf) (now most : ℕ) (refusal : BookRefusal) →
         coming plan grants roll (comer_of (Named number) ask now most) ≡ Refused refusal → why_over plan (Named number) ask grants ≡ Some refusal }
-    ensures guest_now { (network : ℕ) (plan : PlanOf) (grants : List Grant) (roll : List Present) (ask : Quota) (now most : ℕ) (refusal : BookRefusal) →
+    ensures guest_now { (network : ℕ) (plan : PlanOf) (grants : List Grant) (roll : List Present) (ask : ReserveOf) (now most : ℕ) (refusal : BookRefusal) →
         coming plan grants roll (comer_of (V6 network) ask now most) ≡ Refused refusal → why_over plan (V6 network) ask grants ≡ Some refusal }
-    ensures then { (number : ℕ) (plan : PlanOf) (grants : List Grant) (roll : List Present) (ask : Quota) (now most : ℕ) (refusal : BookRefusal) →
+    ensures then { (number : ℕ) (plan : PlanOf) (grants : List Grant) (roll : List Present) (ask : ReserveOf) (now most : ℕ) (refusal : BookRefusal) →
         coming plan grants roll (comer_of (Named number) ask now most) ≡ Refused refusal → why_over plan (Named number) ask (remaining those_told grants roll) ≡ None → ⊥ }
-    ensures guest_then { (address : ℕ) (plan : PlanOf) (grants : List Grant) (roll : List Present) (ask : Quota) (now most : ℕ) (refusal : BookRefusal) →
+    ensures guest_then { (address : ℕ) (plan : PlanOf) (grants : List Grant) (roll : List Present) (ask : ReserveOf) (now most : ℕ) (refusal : BookRefusal) →
         coming plan grants roll (comer_of (V4 address) ask now most) ≡ Refused refusal → why_over plan (V4 address) ask (remaining those_told grants roll) ≡ None → ⊥ }
-    ensures empty { (number : ℕ) (plan : PlanOf) (held : Grant) (present : Present) (ask : Quota) (now most : ℕ) (refusal : BookRefusal) →
+    ensures empty { (number : ℕ) (plan : PlanOf) (held : Grant) (present : Present) (ask : ReserveOf) (now most : ℕ) (refusal : BookRefusal) →
         coming plan (held ∷ []) (present ∷ []) (comer_of (Named number) ask now most) ≡ Refused refusal → present.told ≡ Some ByPlan → why_over plan (Named number) ask [] ≡ None → ⊥ }
-    ensures idle { (network : ℕ) (plan : PlanOf) (grants : List Grant) (roll : List Present) (ask : Quota) (now most : ℕ) →
+    ensures idle { (network : ℕ) (plan : PlanOf) (grants : List Grant) (roll : List Present) (ask : ReserveOf) (now most : ℕ) →
         coming plan grants roll (comer_of (V6 network) ask now most) ≡ Refused OverGuests → why_over plan (V6 network) ask (remaining (those_idle now most) grants roll) ≡ None → ⊥ }
-    ensures idle_address { (address : ℕ) (plan : PlanOf) (grants : List Grant) (roll : List Present) (ask : Quota) (now most : ℕ) →
+    ensures idle_address { (address : ℕ) (plan : PlanOf) (grants : List Grant) (roll : List Present) (ask : ReserveOf) (now most : ℕ) →
         coming plan grants roll (comer_of (V4 address) ask now most) ≡ Refused OverGuests → why_over plan (V4 address) ask (remaining (those_idle now most) grants roll) ≡ None → ⊥ }
 {
     who_is_refused_has_no_room()

@@ -8,7 +8,7 @@ ghost use Rattle.line_io.specs.Streams.{ReadAnswer, Gave, Ended};
 ghost use Rattle.line_io.specs.Talks.{upto};
 ghost use Rattle.line_io.specs.Writes.{writes_of, written_texts};
 ghost use Rattle.line_io.specs.declared.talking.TalkEnd.TheVariants.{Input};
-ghost use Rattle.tenant_quota.specs.Quota.{Quota};
+ghost use Rattle.tenant_quota.specs.Reserves.{ReserveOf};
 ghost use Rattle.sched_rules.specs.declared.step.StepOf.TheVariants.{Admit, Leave as LeaveStep};
 ghost use Rattle.desk.specs.Histories.{seat_steps, steps_of, AreTaken};
 ghost use Rattle.jamboree_rules.specs.Procedure.{jamboree};
@@ -57,7 +57,7 @@ where
         (answer : List ℕ) × (texts ≡ codes "PONG" ∷ answer ∷ []) × ((own ≡ []) ⊎ (own ≡ Whole (codes "HELLO 4 8") ∷ [])))
         × EachDoneIsTrue [] own (turns false own replies)
         × Leads (Called KeepsAsks) [] (calls_for own replies) asks
-        × ((quota : Quota) (trace : SiteTraceOf) → calls_for own replies ≡ (Hello quota, Welcome quota) ∷ (Leave, Gone) ∷ [] → result.1 ≡ Some trace →
+        × ((quota : ReserveOf) (trace : SiteTraceOf) → calls_for own replies ≡ (Hello quota, Welcome quota) ∷ (Leave, Gone) ∷ [] → result.1 ≡ Some trace →
         (number : ℕ) × (before between : List (ℕ × SearchStep))
         × (trace.known.seen ≡ ((before ++ (trace.known.maker, Admit number quota) ∷ []) ++ between) ++ (trace.known.maker, LeaveStep number) ∷ [])
         × (seat_steps number (steps_of between) ≡ [])

@@ -1,7 +1,7 @@
 //! Uses of the laws on the book of a site's customers: what it gives to any customer of the file, and to any guest of
 //! IPv4 and of IPv6. (At one customer alone a use would let a law through that is narrowed to that one.)
 ghost use Rattle.std.specs.Prelude.{◌≡◌, ◌+◌, ◌≤◌, ℕ, length, List, [], ◌∷◌, Option, Some, None, true, IsTrue};
-ghost use Rattle.tenant_quota.specs.Quota.{Quota};
+ghost use Rattle.tenant_quota.specs.Reserves.{ReserveOf};
 ghost use Rattle.site_book.specs.declared.held.Grant.{Grant};
 ghost use Rattle.site_book.specs.declared.held.Group.TheVariants.{Own, Network, Guests, All};
 ghost use Rattle.site_book.specs.declared.refusal.BookRefusal.{BookRefusal};
@@ -22,18 +22,18 @@ use site_book::laws::{
 /// A customer asks for a session, and one of its sessions for more, of each kind the last that its own budget has, and one more:
 /// whatever others have. Uses `site_book::a_refusal_is_ones_own` (`opens`, `raises`).
 pub fn a_customer_at_its_limits()
-    ensures granted { (number : ℕ) (plan : PlanOf) (ask : Quota) (grants : List Grant) → why_over plan (Named number) ask grants ≡ None →
+    ensures granted { (number : ℕ) (plan : PlanOf) (ask : ReserveOf) (grants : List Grant) → why_over plan (Named number) ask grants ≡ None →
         1 + (used (Own (Named number)) grants).sessions ≤ (budget_of plan (Named number)).sessions }
-    ensures segments { (number : ℕ) (plan : PlanOf) (ask : Quota) (grants : List Grant) → why_over plan (Named number) ask grants ≡ None →
+    ensures segments { (number : ℕ) (plan : PlanOf) (ask : ReserveOf) (grants : List Grant) → why_over plan (Named number) ask grants ≡ None →
         ask.segments + (used (Own (Named number)) grants).segments ≤ (budget_of plan (Named number)).segments }
-    ensures nodes { (number : ℕ) (plan : PlanOf) (ask : Quota) (grants : List Grant) → why_over plan (Named number) ask grants ≡ None →
+    ensures nodes { (number : ℕ) (plan : PlanOf) (ask : ReserveOf) (grants : List Grant) → why_over plan (Named number) ask grants ≡ None →
         ask.nodes + (used (Own (Named number)) grants).nodes ≤ (budget_of plan (Named number)).nodes }
-    ensures allowed { (number : ℕ) (plan : PlanOf) (ask : Quota) (grants : List Grant) →
+    ensures allowed { (number : ℕ) (plan : PlanOf) (ask : ReserveOf) (grants : List Grant) →
         1 + (used (Own (Named number)) grants).sessions ≤ (budget_of plan (Named number)).sessions →
         ask.segments + (used (Own (Named number)) grants).segments ≤ (budget_of plan (Named number)).segments →
         ask.nodes + (used (Own (Named number)) grants).nodes ≤ (budget_of plan (Named number)).nodes →
         why_over plan (Named number) ask grants ≡ None }
-    ensures raised { (number session : ℕ) (plan : PlanOf) (ask : Quota) (grants : List Grant) (held : Grant) → grant_of (Named number) session grants ≡ Some held →
+    ensures raised { (number session : ℕ) (plan : PlanOf) (ask : ReserveOf) (grants : List Grant) (held : Grant) → grant_of (Named number) session grants ≡ Some held →
         why_no_raise plan (Named number) session ask grants (grant_of (Named number) session grants) ≡ None →
         ask.nodes + (used (Own (Named number)) (grants_without (Named number) session grants)).nodes ≤ (budget_of plan (Named number)).nodes }
 {
@@ -43,13 +43,13 @@ pub fn a_customer_at_its_limits()
 /// A guest asks, and one of its sessions for more: its own budget, that of its wider network and that of all guests must have what it
 /// asks for. Uses `site_book::a_refusal_is_ones_own` (`opens`, `raises`).
 pub fn a_guest_at_its_limits()
-    ensures own { (network : ℕ) (plan : PlanOf) (ask : Quota) (grants : List Grant) → why_over plan (V6 network) ask grants ≡ None →
+    ensures own { (network : ℕ) (plan : PlanOf) (ask : ReserveOf) (grants : List Grant) → why_over plan (V6 network) ask grants ≡ None →
         ask.segments + (used (Own (V6 network)) grants).segments ≤ plan.guest.segments }
-    ensures network { (network : ℕ) (plan : PlanOf) (ask : Quota) (grants : List Grant) → why_over plan (V6 network) ask grants ≡ None →
+    ensures network { (network : ℕ) (plan : PlanOf) (ask : ReserveOf) (grants : List Grant) → why_over plan (V6 network) ask grants ≡ None →
         1 + (used (Network (network_of (V6 network))) grants).sessions ≤ plan.network.sessions }
-    ensures together { (address : ℕ) (plan : PlanOf) (ask : Quota) (grants : List Grant) → why_over plan (V4 address) ask grants ≡ None →
+    ensures together { (address : ℕ) (plan : PlanOf) (ask : ReserveOf) (grants : List Grant) → why_over plan (V4 address) ask grants ≡ None →
         ask.nodes + (used Guests grants).nodes ≤ plan.guests.nodes }
-    ensures raised { (address session : ℕ) (plan : PlanOf) (ask : Quota) (grants : List Grant) (held : Grant) → grant_of (V4 address) session grants ≡ Some held →
+    ensures raised { (address session : ℕ) (plan : PlanOf) (ask : ReserveOf) (grants : List Grant) (held : Grant) → grant_of (V4 address) session grants ≡ Some held →
         why_no_raise plan (V4 address) session ask grants (grant_of (V4 address) session grants) ≡ None →
         ask.segments + (used Guests (grants_without (V4 address) session grants)).segments ≤ plan.guests.segments }
 {
@@ -76,13 +76,13 @@ pub fn within_all_budgets()
 /// After any events, a session that isn't refused to a customer, and one of a guest's that asks for more, have room in the hall. Uses
 /// `site_book::the_hall_has_room` (`opens`, `raises`).
 pub fn room_for_all()
-    ensures opens { (number : ℕ) (plan : PlanOf) (events : List BookEvent) (ask : Quota) → sums_fit plan ≡ true →
+    ensures opens { (number : ℕ) (plan : PlanOf) (events : List BookEvent) (ask : ReserveOf) → sums_fit plan ≡ true →
         why_over (book_after_events (new_book plan) events).plan (Named number) ask (book_after_events (new_book plan) events).grants ≡ None →
         ask.segments + (used All (book_after_events (new_book plan) events).grants).segments ≤ plan.totals.segments }
-    ensures guest { (address : ℕ) (plan : PlanOf) (events : List BookEvent) (ask : Quota) → sums_fit plan ≡ true →
+    ensures guest { (address : ℕ) (plan : PlanOf) (events : List BookEvent) (ask : ReserveOf) → sums_fit plan ≡ true →
         why_over (book_after_events (new_book plan) events).plan (V4 address) ask (book_after_events (new_book plan) events).grants ≡ None →
         1 + (used All (book_after_events (new_book plan) events).grants).sessions ≤ plan.totals.sessions }
-    ensures raises { (number session : ℕ) (plan : PlanOf) (events : List BookEvent) (ask : Quota) → sums_fit plan ≡ true →
+    ensures raises { (number session : ℕ) (plan : PlanOf) (events : List BookEvent) (ask : ReserveOf) → sums_fit plan ≡ true →
         why_no_raise (book_after_events (new_book plan) events).plan (Named number) session ask (book_after_events (new_book plan) events).grants (grant_of (Named number) session (book_after_events (new_book plan) events).grants) ≡ None →
         ask.nodes + (used All (grants_without (Named number) session (book_after_events (new_book plan) events).grants)).nodes ≤ plan.totals.nodes }
 {

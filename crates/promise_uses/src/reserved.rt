@@ -1,7 +1,7 @@
 //! Uses of the law on what suffices: of tenant 9's search of any position to depth 8 at grain 6, and of tenant 7's
 //! second search, to depth 6 at grain 4, neither of which is ever spent.
 ghost use Rattle.std.specs.Prelude.{◌≡◌, ◌≤◌, ℕ, bit_and, List, [], ◌∷◌, ◌++◌, None, Some};
-ghost use Rattle.tenant_quota.specs.Quota.{Quota};
+ghost use Rattle.tenant_quota.specs.Reserves.{ReserveOf};
 ghost use Rattle.frame_table.specs.Frames.{Frame, frame_at};
 ghost use Rattle.sched_rules.specs.declared.refusal.Refusal.TheVariants.{NotSpent};
 ghost use Rattle.sched_rules.specs.declared.step.StepOf.{StepOf};
@@ -34,7 +34,7 @@ pub fn nine_asks_to_depth_eight()
 /// and 12,545 nodes left. There it asks for another. After any further steps that ask for nothing `Spend` of any of its frames is refused.
 /// Uses `jamboree_core::who_asks_with_enough_is_never_spent` (`never`, `any`, `two_plies`).
 pub fn seven_asks_again()
-    ensures { (quota : Quota) (own opp own_then opp_then serial : ℕ) (first later : List (StepOf LeafAnswer)) (between tenant : Tenant) (frame : Frame (List ℕ)) →
+    ensures { (quota : ReserveOf) (own opp own_then opp_then serial : ℕ) (first later : List (StepOf LeafAnswer)) (between tenant : Tenant) (frame : Frame (List ℕ)) →
         3478 ≤ quota.segments → 12545 ≤ quota.nodes → bit_and own opp ≡ 0 → bit_and own_then opp_then ≡ 0 → origins_of first ≡ [] → origins_of later ≡ [] →
         alone (jamboree 4) (Admit 7 quota ∷ Submit 7 (root_words own opp 6) frame_size ∷ first) ≡ Some between →
         between.frames ≡ [] → 3478 ≤ (left between).segments → 12545 ≤ (left between).nodes →

@@ -5,7 +5,7 @@ ghost use Rattle.line_io.specs.Leads.{Leads};
 ghost use Rattle.line_io.specs.Lines.{LineText};
 ghost use Rattle.line_io.specs.Runs.{write_result};
 ghost use Rattle.line_io.specs.Writes.{writes_of};
-ghost use Rattle.tenant_quota.specs.Quota.{Quota};
+ghost use Rattle.tenant_quota.specs.Reserves.{ReserveOf};
 ghost use Rattle.tenant_quota.specs.declared.account.Left.{Left as LeftOf};
 ghost use Rattle.othello_board.specs.declared.boards.Board.{Board};
 ghost use Rattle.othello_board.specs.declared.cells.Cell.{Cell};
@@ -61,7 +61,7 @@ where
         × Leads K.takes sink.old (writes_of pieces (write_result (talk_result result.0))) sink.new
         × IsWrittenOf (write_result (talk_result result.0)) (concat pieces) (texts_for lines replies)
         × EachDoneIsTrue [] lines (turns false lines replies)
-        × ((quota : Quota) (left : LeftOf) (known : Known SearchStep) → calls_for lines replies ≡ (Hello quota, Welcome quota) ∷ (AskQuota, Rest left) ∷ (Leave, Gone) ∷ [] → result.1 ≡ Some known →
+        × ((quota : ReserveOf) (left : LeftOf) (known : Known SearchStep) → calls_for lines replies ≡ (Hello quota, Welcome quota) ∷ (AskQuota, Rest left) ∷ (Leave, Gone) ∷ [] → result.1 ≡ Some known →
         (number : ℕ) × (before between later : List (ℕ × SearchStep))
         × (known.seen ≡ ((before ++ (known.maker, Admit number quota) ∷ []) ++ between) ++ later)
         × (only number (steps_of before) ≡ []) × (seat_steps number (steps_of between) ≡ [])
@@ -87,7 +87,7 @@ where
     R: Wait,
     A: Allocator + Clone,
     requires { L.all ≡ L.parts }
-    ensures { (lines : List LineText) × (replies : List OfficeReply) × ((quota : Quota) (known : Known SearchStep) →
+    ensures { (lines : List LineText) × (replies : List OfficeReply) × ((quota : ReserveOf) (known : Known SearchStep) →
         calls_for lines replies ≡ (Hello quota, Welcome quota) ∷ (Leave, Gone) ∷ [] → result.1 ≡ Some known →
         (number : ℕ) × (before between : List (ℕ × SearchStep))
         × (known.seen ≡ ((before ++ (known.maker, Admit number quota) ∷ []) ++ between) ++ (known.maker, LeaveStep number) ∷ [])
@@ -113,7 +113,7 @@ where
     R: Wait,
     A: Allocator + Clone,
     requires { L.all ≡ L.parts }
-    ensures { (knew : Option (Known SearchStep)) × (lines : List LineText) × (replies : List OfficeReply) × ((quota : Quota) (known : Known SearchStep) →
+    ensures { (knew : Option (Known SearchStep)) × (lines : List LineText) × (replies : List OfficeReply) × ((quota : ReserveOf) (known : Known SearchStep) →
         calls_for lines replies ≡ (Hello quota, Welcome quota) ∷ (Leave, Gone) ∷ [] → knew ≡ Some known →
         (number : ℕ) × (before between : List (ℕ × SearchStep))
         × (known.seen ≡ ((before ++ (known.maker, Admit number quota) ∷ []) ++ between) ++ (known.maker, LeaveStep number) ∷ [])
@@ -141,7 +141,7 @@ where
     R: Wait,
     A: Allocator + Clone,
     requires { L.all ≡ L.parts }
-    ensures { (lines : List LineText) × (replies : List OfficeReply) × ((quota more : Quota) (board : List Cell) (side : Side) (job : ℕ) (known : Known SearchStep) →
+    ensures { (lines : List LineText) × (replies : List OfficeReply) × ((quota more : ReserveOf) (board : List Cell) (side : Side) (job : ℕ) (known : Known SearchStep) →
         calls_for lines replies ≡ (Hello quota, Welcome quota) ∷ (Ask 3 board side, Job job) ∷ (WaitFor 1, Told 1 Spent) ∷ (Reserve more, Refused 14) ∷ (Leave, Gone) ∷ [] → result.1 ≡ Some known →
         (number : ℕ) × (first second third later : List (ℕ × SearchStep)) × (words : Board)
         × (board ≡ cells words)

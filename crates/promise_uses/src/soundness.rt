@@ -1,7 +1,7 @@
 //! A use of the law that every frame is sound: what holds of the third frame of tenant 9, its fifth choice and its
 //! second child, after any list of steps.
 ghost use Rattle.std.specs.Prelude.{◌≡◌, ℕ, List, ◌∷◌, Some, Result, map, ◌≤ℤ◌, ◌<ℤ◌};
-ghost use Rattle.tenant_quota.specs.Quota.{Quota};
+ghost use Rattle.tenant_quota.specs.Reserves.{ReserveOf};
 ghost use Rattle.frame_table.specs.Frames.{Frame, children_of, values_of};
 ghost use Rattle.othello_eval.specs.Minimax.{best_choice};
 ghost use Rattle.othello_eval.specs.declared.bound.BoundKind.TheVariants.{Low};
@@ -28,7 +28,7 @@ use jamboree_core::laws::every_frame_is_sound;
 /// the best one. An entry of its fifth choice that says low is true. Its second child has the window of its role.
 /// Uses `jamboree_core::every_frame_is_sound`.
 pub fn third_frame_of_nine()
-    ensures { (grain : ℕ) (totals : Quota) (steps : List (StepOf LeafAnswer)) (answers : List (Result (DidOf Leaf) Refusal)) (tenant : Tenant)
+    ensures { (grain : ℕ) (totals : ReserveOf) (steps : List (StepOf LeafAnswer)) (answers : List (Result (DidOf Leaf) Refusal)) (tenant : Tenant)
         (first second third : Frame (List ℕ)) (later : List (Frame (List ℕ))) (one two : SearchFrame) (more : List SearchFrame) →
         AreAnswersTo (jamboree grain) (shared_by_nobody totals) steps answers → AreSearches (taken_steps steps answers) →
         tenant_in (after_answers (jamboree grain) (shared_by_nobody totals) steps answers).tenants 9 ≡ Some tenant →

@@ -40,5 +40,5 @@ pub use Rattle.sched_rules.specs.declared.refusal.Refusal.TheVariants.{Busy}
 pub use Rattle.sched_rules.specs.declared.step.DidOf.{DidOf}
 pub use Rattle.sched_rules.specs.declared.step.StepOf.{StepOf}
 pub use Rattle.sched_rules.specs.declared.step.StepOf.TheVariants.{Finish, Inlet, Steal, Take}
-pub use Rattle.tenant_quota.specs.Quota.{Quota}
+pub use Rattle.tenant_quota.specs.Reserves.{ReserveOf}
 pub use mir.Val.{SFits}

@@ -1,6 +1,6 @@
 -- For the promise that no tenant disturbs another: two runs in which a tenant's own taken steps are the same, and a
 -- list with all other tenants' steps removed.
-use Rattle.promises.proofs.Common.{◌≡◌, ℕ, true, false, ◌==◌, List, [], ◌∷◌, Option, Some, None, Result, Ok, Err, refl, sym, ap, ◌∙◌, subst, arith, is_ok, nat_tests, Quota, Refusal, StepOf, Take, Steal, Inlet, Finish, Functions, Tenant, Outcome, lone, refusal_in, tenant_of, only, alone_from, state_after, answer_of, answers_from, CoreState, shared_by_nobody, tenant_in, with_tenant, without_tenant, with_outcome, is_busy_elsewhere, meets_busy, IsHeadline, IsAnswerTo, AreAnswersTo, AreNumbersGiven, after_answer, is_admission, taken_steps, own_answers, step-taken, shared-after-taken, tenant_in-with_outcome, own_steps, AreAdmissionsTaken}
+use Rattle.promises.proofs.Common.{◌≡◌, ℕ, true, false, ◌==◌, List, [], ◌∷◌, Option, Some, None, Result, Ok, Err, refl, sym, ap, ◌∙◌, subst, arith, is_ok, nat_tests, ReserveOf, Refusal, StepOf, Take, Steal, Inlet, Finish, Functions, Tenant, Outcome, lone, refusal_in, tenant_of, only, alone_from, state_after, answer_of, answers_from, CoreState, shared_by_nobody, tenant_in, with_tenant, without_tenant, with_outcome, is_busy_elsewhere, meets_busy, IsHeadline, IsAnswerTo, AreAnswersTo, AreNumbersGiven, after_answer, is_admission, taken_steps, own_answers, step-taken, shared-after-taken, tenant_in-with_outcome, own_steps, AreAdmissionsTaken}
 use Rattle.promises.proofs.Answered.{Answer}
 
 abbrev Entries : Type 0
@@ -103,7 +103,7 @@ module _ {I A : Type 0} (f : Functions I A) where
       (ap (λ (l : List (StepOf A)). step ∷ l) rest.0, rw whose (ap (λ (l : List (Answer I)). Ok did ∷ l) rest.1))
   all-taken number before own steps answers known sole is mine ok right admitted = absurd right
 
-module _ {I A : Type 0} (f : Functions I A) {totals other_totals : Quota} {steps other_steps : List (StepOf A)} {answers other_answers : List (Answer I)}
+module _ {I A : Type 0} (f : Functions I A) {totals other_totals : ReserveOf} {steps other_steps : List (StepOf A)} {answers other_answers : List (Answer I)}
     {after other_after : CoreState} (number : ℕ) (one : IsHeadline f (shared_by_nobody totals) steps answers after)
     (other : IsHeadline f (shared_by_nobody other_totals) other_steps other_answers other_after) where
   pub undisturbed : own_steps number steps answers ≡ own_steps number other_steps other_answers →

@@ -1,5 +1,5 @@
 -- For the promises: what a step that is no admission is refused for.
-use Rattle.promises.proofs.Common.{◌≡◌, ◌≢◌, ℕ, ◌⊎◌, inl, inr, Bool, true, false, ◌==◌, List, [], ◌∷◌, ◌++◌, length, Option, Some, None, Result, Ok, Err, refl, sym, ap, ◌∙◌, subst, arith, not, ◌&&◌, ◌||◌, nat_tests, Quota, Refusal, Busy, StepOf, Take, Steal, Inlet, Finish, Functions, Tenant, is_busy_in, Outcome, lone, lone_refusal, refusal_in, tenant_of, answer_of, CoreState, shared_by_nobody, tenant_in, with_tenant, without_tenant, with_outcome, is_busy_elsewhere, meets_busy, step_result, shared_after, IsAnswerTo, IsAnswerToStep, AreAnswersTo, after_answer, after_answers, IsHeadline, headline, tenant_in-other-with_tenant, tenant_in-other-without_tenant, stands, free_worker, IsForOwnState, IsForBusyWorker, AreRefusedForThese}
+use Rattle.promises.proofs.Common.{◌≡◌, ◌≢◌, ℕ, ◌⊎◌, inl, inr, Bool, true, false, ◌==◌, List, [], ◌∷◌, ◌++◌, length, Option, Some, None, Result, Ok, Err, refl, sym, ap, ◌∙◌, subst, arith, not, ◌&&◌, ◌||◌, nat_tests, ReserveOf, Refusal, Busy, StepOf, Take, Steal, Inlet, Finish, Functions, Tenant, is_busy_in, Outcome, lone, lone_refusal, refusal_in, tenant_of, answer_of, CoreState, shared_by_nobody, tenant_in, with_tenant, without_tenant, with_outcome, is_busy_elsewhere, meets_busy, step_result, shared_after, IsAnswerTo, IsAnswerToStep, AreAnswersTo, after_answer, after_answers, IsHeadline, headline, tenant_in-other-with_tenant, tenant_in-other-without_tenant, stands, free_worker, IsForOwnState, IsForBusyWorker, AreRefusedForThese}
 use Rattle.promises.proofs.Answered.{Answer}
 
 abbrev Entries : Type 0
@@ -124,7 +124,7 @@ module _ {I A : Type 0} (f : Functions I A) where
             })
       ]
 
-  pub refused-for-these : (totals : Quota) (steps : List (StepOf A)) (answers : List (Answer I)) (after : CoreState) → IsHeadline f (shared_by_nobody totals) steps answers after →
+  pub refused-for-these : (totals : ReserveOf) (steps : List (StepOf A)) (answers : List (Answer I)) (after : CoreState) → IsHeadline f (shared_by_nobody totals) steps answers after →
       AreRefusedForThese f steps answers
   refused-for-these totals steps answers after whole before later said more step refusal steps_are answers_are len no_admission =
       let new = shared_by_nobody totals in

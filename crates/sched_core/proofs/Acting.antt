@@ -45,39 +45,39 @@ held-at serial words tenant {frame} found = grind (arith, frame_at-with_frame_wo
 -- what comes after the stores of an act, case by case
 module _ {I A : Type 0} (functions : Functions I A) (shared : CoreState) (worker : ℕ) (name : FrameId) {tenant : Tenant} (frame : F)
     {act : Continuation} (owner : tenant_in shared.tenants name.tenant ≡ Some tenant) where
-  pub go-came : act ≡ Go → IsCome name.tenant (then_done functions tenant worker name frame.path frame.value act) shared Went shared
+  pub go-came : act ≡ Go → IsCome name.tenant (then_done functions tenant worker name frame act) shared Went shared
   go-came is = grind (arith, begins)
 
   pub grow-came : {now : CoreState} {more : ℕ} → act ≡ Grow more → frame_at tenant.frames name.serial ≡ Some frame →
       now ≡ on_tenant name.tenant (holding name.serial (words_under shared name ++ replicate more 0)) shared →
-      IsCome name.tenant (then_done functions tenant worker name frame.path frame.value act) shared Grew now
+      IsCome name.tenant (then_done functions tenant worker name frame act) shared Grew now
   grow-came {now} {more} is found grows = let w = then-changed (holding name.serial (frame.value ++ replicate more 0)) (begins name.tenant shared owner) (rw (named-words shared name owner found) at grows) in grind arith
 
   pub spawn-came : {now : CoreState} {child : FrameId} {given : List ℕ} {size : ℕ} → act ≡ Spawn given size →
       now ≡ on_tenant name.tenant (opened (Some name.serial) given size worker) shared →
       child ≡ record { tenant = name.tenant; serial = serials_in shared name.tenant + 1 } →
-      IsCome name.tenant (then_done functions tenant worker name frame.path frame.value act) shared (Spawned child) now
+      IsCome name.tenant (then_done functions tenant worker name frame act) shared (Spawned child) now
   spawn-came {child} {given} {size} is opens named = let w = then-changed (opened (Some name.serial) given size worker) (begins name.tenant shared owner) opens in grind arith
 
   pub compute-came : {now : CoreState} {input : I} → act ≡ Compute → frame_at tenant.frames name.serial ≡ Some frame →
       now ≡ on_tenant name.tenant (in_state name.serial (Computing worker)) shared → input ≡ functions.input (words_under shared name) →
-      IsCome name.tenant (then_done functions tenant worker name frame.path frame.value act) shared (IsComputing input) now
+      IsCome name.tenant (then_done functions tenant worker name frame act) shared (IsComputing input) now
   compute-came {input} is found changes same = let w = then-changed (in_state name.serial (Computing worker)) (begins name.tenant shared owner) changes in grind (arith, named-words)
 
   -- Wait and Return, of a frame with a child
   pub waits-came : {now : CoreState} → (act ≡ Wait) ⊎ (act ≡ Return) → has_child (frames_in_core shared name.tenant) name.serial ≡ true →
       now ≡ on_tenant name.tenant (in_state name.serial Waiting) shared →
-      IsCome name.tenant (then_done functions tenant worker name frame.path frame.value act) shared Waited now
+      IsCome name.tenant (then_done functions tenant worker name frame act) shared Waited now
   waits-came which child changes = let w = then-changed (in_state name.serial Waiting) (begins name.tenant shared owner) changes in grind arith
 
   -- and of one without
   pub wait-came : act ≡ Wait → has_child (frames_in_core shared name.tenant) name.serial ≡ false →
-      IsCome name.tenant (then_done functions tenant worker name frame.path frame.value act) shared Went shared
+      IsCome name.tenant (then_done functions tenant worker name frame act) shared Went shared
   wait-came is leaf = grind (arith, begins)
 
   pub return-came : {now : CoreState} {top : Bool} → act ≡ Return → frame_at tenant.frames name.serial ≡ Some frame →
       has_child (frames_in_core shared name.tenant) name.serial ≡ false → now ≡ on_tenant name.tenant (in_state name.serial Returned) shared →
-      top ≡ is_root frame.path → IsCome name.tenant (then_done functions tenant worker name frame.path frame.value act) shared (HasReturned top) now
+      top ≡ is_root frame.path → IsCome name.tenant (then_done functions tenant worker name frame act) shared (HasReturned top) now
   return-came {top} is found leaf changes same = let w = then-changed (in_state name.serial Returned) (begins name.tenant shared owner) changes in grind arith
 
 -- an answer that the frame's tenant allows, once the procedure's stores of it are made

@@ -60,7 +60,7 @@ module _ {I A : Type 0} {functions : Functions I A} {shared : CoreState} {worker
       -- where what comes after the stores had its outcome (IsCome), the Advance is answered as step_result says
       pub step_result-advance : {root : Bool} {did : DidOf I} {after : CoreState} → root ≡ is_root frame.path →
           ((before : Tenant) (going : F) → GoesOn next name worker act.after before going → root ≡ is_root going.path →
-          IsCome name.tenant (then_done functions before worker name going.path going.value act.after) next did after) →
+          IsCome name.tenant (then_done functions before worker name going act.after) next did after) →
           FollowsResult functions shared (Advance worker name) (Ok did) after
       step_result-advance root came =
           let come = came _ _ goes-on root in

@@ -1,5 +1,5 @@
 -- The core does a Submit, an Admit or an AdmitMore: a job of a tenant begins, a tenant comes, or one reserves more.
-use Rattle.sched_core.proofs.Common.{[], ◌≡◌, ℕ, ◌+◌, ◌<◌, true, false, List, ◌∷◌, Some, None, Ok, refl, arith, nat_tests, has_frame, below-found, found-there, Quota, Job, Live, Admit, Submit, Admitted, Functions, Tenant, Tree, number_from, job_under, submitted, submit_tests, opened, on_tenant, AreNumbersGiven, CoreState, tenant_in, step_result, shared_refusal, tenant_in-new, above, IsShaped, AreLiveRootsThere, with_admitted, FollowsResult, AllPass, AdmitMore, AdmittedMore, raised, with_reserve, reservations_in, reserved_by, is_beyond, IsAboveOwn}
+use Rattle.sched_core.proofs.Common.{[], ◌≡◌, ℕ, ◌+◌, ◌<◌, true, false, List, ◌∷◌, Some, None, Ok, refl, arith, nat_tests, has_frame, below-found, found-there, ReserveOf, Job, Live, Admit, Submit, Admitted, Functions, Tenant, Tree, number_from, job_under, submitted, submit_tests, opened, on_tenant, AreNumbersGiven, CoreState, tenant_in, step_result, shared_refusal, tenant_in-new, above, IsShaped, AreLiveRootsThere, with_admitted, FollowsResult, AllPass, AdmitMore, AdmittedMore, raised, with_reserve, reservations_in, reserved_by, is_beyond, IsAboveOwn}
 use Rattle.sched_core.proofs.TakenStep.{step_result-taken, IsWith, begins, then-changed, with_tenant-new}
 use Rattle.sched_core.proofs.Deciding.{not-elsewhere}
 use Rattle.sched_laws.proofs.FitSteps.{root-found}
@@ -33,20 +33,20 @@ pub fresh-root : (tenant : Tenant) → IsShaped tenant → job_under (tenant.ser
 fresh-root tenant shape = grind (arith, not-live, below-found)
 
 -- Admit, taken
-pub admit-taken : {I A : Type 0} {functions : Functions I A} {shared after : CoreState} {number : ℕ} {quota : Quota} → AreNumbersGiven shared →
+pub admit-taken : {I A : Type 0} {functions : Functions I A} {shared after : CoreState} {number : ℕ} {quota : ReserveOf} → AreNumbersGiven shared →
     None ≡ shared_refusal functions shared (Admit number quota) → after ≡ with_admitted number quota shared →
     FollowsResult functions shared (Admit number quota) (Ok Admitted) after
 admit-taken {I = I} {shared} {number} {quota} known none is = grind (arith, not-elsewhere, tenant_in-new, above, step_result-taken, with_tenant-new)
 
 -- AdmitMore: what is taken
-pub record IsRaising {I A : Type 0} (functions : Functions I A) (shared : CoreState) (number : ℕ) (quota : Quota) : Type 0 where
+pub record IsRaising {I A : Type 0} (functions : Functions I A) (shared : CoreState) (number : ℕ) (quota : ReserveOf) : Type 0 where
   pub tenant : Tenant
   pub owner : tenant_in shared.tenants number ≡ Some tenant
   pub above : IsAboveOwn (tenant_in shared.tenants number) quota
   pub room : is_beyond (reservations_in shared) (reserved_by (tenant_in shared.tenants number)) quota ≡ false
   pub among : step_result functions shared (AdmitMore number quota) ≡ Ok (raised tenant quota)
 
-module _ {I A : Type 0} (functions : Functions I A) (shared : CoreState) (number : ℕ) (quota : Quota) where
+module _ {I A : Type 0} (functions : Functions I A) (shared : CoreState) (number : ℕ) (quota : ReserveOf) where
   pub raise-going : None ≡ shared_refusal functions shared (AdmitMore number quota) → IsRaising functions shared number quota
   raise-going none = grind arith
 

@@ -16,7 +16,7 @@ pub use Rattle.sched_laws.proofs.Common.{[], Act, Admit, AdmitMore, Admitted, Ad
 pub use Rattle.sched_laws.proofs.Common.{BadAct, Bool, Busy, Cancel, Cancelled, Compute, Computing, Continuation, CoreFits, CoreState, DidOf, Done, Each, Err}
 pub use Rattle.sched_laws.proofs.Common.{EveryFrameFits, Finish, Fitting, FrameId, Functions, Go, Grow, Inlet, InletAct, IsAnswerTo, IsShaped, IsTop}
 pub use Rattle.sched_laws.proofs.Common.{IsTree, IsUnder, Job, List, Live, NoSteps, None, NotReturned, NotRunning, NotSpent, Ok, Option}
-pub use Rattle.sched_laws.proofs.Common.{Outcome, Quota, Ready, Refusal, Result, Return, Returned, RootFits, Rooting, RootsFit, Running, Some, Spawn, Spend}
+pub use Rattle.sched_laws.proofs.Common.{Outcome, Ready, Refusal, ReserveOf, Result, Return, Returned, RootFits, Rooting, RootsFit, Running, Some, Spawn, Spend}
 pub use Rattle.sched_laws.proofs.Common.{Spent, State, Steal, StepOf, Submit, Take, Tenant, Tree, Wait, aborted, aborted-itself, aborted-leaf, above}
 pub use Rattle.sched_laws.proofs.Common.{act_tests, advance_tests, advanced, after_answer, after_answers}
 pub use Rattle.sched_laws.proofs.Common.{answer_tests, answered, append-nil, append_assoc, arith, below-found, charged_for}

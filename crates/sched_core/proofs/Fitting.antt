@@ -1,5 +1,5 @@
 -- What is seen of a core whose frames all fit their procedure.
-use Rattle.sched_core.proofs.Common.{[], ◌≡◌, ℕ, Bool, true, ◌∷◌, Some, Result, refl, arith, is_ok, Quota, FrameId, frame_at, IsTree, IsUnder, IsTop, tree-induction, Refusal, StepOf, DidOf, Functions, Tree, Tenant, sight, Fitting, Rooting, mark_of_state, AllFit, EveryFrameFits, CoreState, shared_by_nobody, IsOneStep, RootFits, origins_after, F, kids, fits-holds, IsLawful, sight-top, sight-under, FitsSomehow, sight_of, words_under, Seen, IsKeptFitting, IsFitting, IsSeen, IsReturnedUnder}
+use Rattle.sched_core.proofs.Common.{[], ◌≡◌, ℕ, Bool, true, ◌∷◌, Some, Result, refl, arith, is_ok, ReserveOf, FrameId, frame_at, IsTree, IsUnder, IsTop, tree-induction, Refusal, StepOf, DidOf, Functions, Tree, Tenant, sight, Fitting, Rooting, mark_of_state, AllFit, EveryFrameFits, CoreState, shared_by_nobody, IsOneStep, RootFits, origins_after, F, kids, fits-holds, IsLawful, sight-top, sight-under, FitsSomehow, sight_of, words_under, Seen, IsKeptFitting, IsFitting, IsSeen, IsReturnedUnder}
 use Rattle.sched_core.proofs.Parents.{parent-of}
 use Rattle.sched_core.proofs.Stepping.{kept-still, fits-still}
 
@@ -42,7 +42,7 @@ module _ (fits : Fitting) (rooted : Rooting) where
       (rw (p.is, is.seen_so.owner, p.found) (found-fits fits tenant.frames (tenant-fits fits rooted core is.seen_so) p.serial p.parent p.found), own-fits fits rooted core is.seen_so)
 
   -- a core with no tenant
-  pub nobody-kept : (totals : Quota) → IsKeptFitting fits rooted true (shared_by_nobody totals)
+  pub nobody-kept : (totals : ReserveOf) → IsKeptFitting fits rooted true (shared_by_nobody totals)
   nobody-kept totals =
       record {
         kept = grind arith;

@@ -70,7 +70,7 @@ impl<P: Procedure, A: Allocator> Engine<P, A> {
     ) -> Did<P>
         requires { (tenant : Tenant) × (frame : Frame (List ℕ)) × GoesOn self.old.store name worker after.now tenant frame }
         ensures came { (tenant : Tenant) (frame : Frame (List ℕ)) → GoesOn self.old.store name worker after.now tenant frame → is_root ≡ is_root_path frame.path
-            → IsCome name.tenant (then_done (P.functions self.old.procedure) tenant worker name frame.path frame.value after.now) self.old.store result self.new.store }
+            → IsCome name.tenant (then_done (P.functions self.old.procedure) tenant worker name frame after.now) self.old.store result self.new.store }
         ensures procedure { self.new.procedure ≡ self.old.procedure }
     {
         match after {

@@ -39,7 +39,7 @@ pub use Rattle.sched_rules.specs.declared.step.DidOf.TheVariants.{Admitted, Subm
 pub use Rattle.sched_rules.specs.declared.step.StepOf.{StepOf}
 pub use Rattle.sched_rules.specs.declared.step.StepOf.TheVariants.{Admit, AdmitMore, Advance, Answer, Cancel, Finish, Inlet, Leave, Spend, Steal, Submit, Take}
 pub use Rattle.tenant_quota.specs.Accounts.{IsWithinReserve}
-pub use Rattle.tenant_quota.specs.Quota.{IsWithinLimits, Quota}
+pub use Rattle.tenant_quota.specs.Reserves.{IsWithinLimits, ReserveOf}
 pub use Rattle.tenant_quota.specs.declared.account.Account.{Account}
 pub use Rattle.sched_laws.specs.Ended.{HasEnded, KeepsEnded}
 pub use Rattle.sched_laws.specs.Fitted.{CoreFits, JobFits, JobsFit, RootFits, RootsFit, StaysFitting, TenantFits, origins_after, origins_of, submits}

@@ -1,6 +1,6 @@
 -- What the shape of a tenant (its tree, jobs and reservation, as every step keeps them) gives: a live job's root is
 -- there, each frame is under one, nothing is used beyond the reservation; and that jobs which have ended stay so.
-use Rattle.sched_laws.proofs.Common.{◌≡◌, ℕ, ◌+◌, ◌-◌, ◌≤◌, true, List, [], ◌∷◌, Some, length, arith, Bool, false, Option, None, Result, Ok, ◌++◌, cases_Bool, IsWithinLimits, Quota, IsWithinReserve, Computing, Returned, frame_at, path_in, root_of, children_of, root-there, Job, Live, Cancelled as CancelledJob, Tree, Tenant, account_in, charged_for, is_root, job_at, is_live_at, number_from, job_under, with_ended, IsShaped, live_count, AreLiveRootsThere, HaveWords, AreShaped, Refusal, DidOf, StepOf, Admit, AdmitMore, admit_tests, admitted_with, refl, Functions, Outcome, lone, lone_step, tenant_of, CoreState, tenant_in, with_tenant, without_tenant, with_outcome, unless_busy, unless_beyond, is_beyond, reservations_in, step_result, shared_after, after_answer, after_answers, HasEnded, KeepsEnded}
+use Rattle.sched_laws.proofs.Common.{◌≡◌, ℕ, ◌+◌, ◌-◌, ◌≤◌, true, List, [], ◌∷◌, Some, length, arith, Bool, false, Option, None, Result, Ok, ◌++◌, cases_Bool, IsWithinLimits, ReserveOf, IsWithinReserve, Computing, Returned, frame_at, path_in, root_of, children_of, root-there, Job, Live, Cancelled as CancelledJob, Tree, Tenant, account_in, charged_for, is_root, job_at, is_live_at, number_from, job_under, with_ended, IsShaped, live_count, AreLiveRootsThere, HaveWords, AreShaped, Refusal, DidOf, StepOf, Admit, AdmitMore, admit_tests, admitted_with, refl, Functions, Outcome, lone, lone_step, tenant_of, CoreState, tenant_in, with_tenant, without_tenant, with_outcome, unless_busy, unless_beyond, is_beyond, reservations_in, step_result, shared_after, after_answer, after_answers, HasEnded, KeepsEnded}
 use Rattle.sched_laws.proofs.Parts.{shape-at}
 use Rattle.sched_laws.proofs.Shaped.{AllPass, returned-childless, LeftShaped, unless-passed, step-shaped, admitted-shaped, came, by-kinds}
 use Rattle.sched_laws.proofs.Holds.{F, charged-cons}
@@ -96,11 +96,11 @@ module _ {I : Type 0} (alone : Result (Outcome I) Refusal) (outcome : Outcome I)
 
 -- where an admission of more is taken, the totals allow it
 abbrev IsAllowed : {A : Type 0} → CoreState → StepOf A → Tenant → Type 0
-IsAllowed before step tenant = (number : ℕ) (quota : Quota) → step ≡ AdmitMore number quota → is_beyond (reservations_in before) tenant.reserve quota ≡ false
+IsAllowed before step tenant = (number : ℕ) (quota : ReserveOf) → step ≡ AdmitMore number quota → is_beyond (reservations_in before) tenant.reserve quota ≡ false
 
 -- P holds of what a step among several tenants leaves: of a new tenant, and of what one that is there comes to alone
 pub record HoldsOfTaken {I A : Type 0} (functions : Functions I A) (before : CoreState) (step : StepOf A) (P : Option Tenant → Type 0) : Type 0 where
-  pub at_admit : (number : ℕ) (quota : Quota) → step ≡ Admit number quota → AllPass (admit_tests before number quota) → P (Some (admitted_with quota))
+  pub at_admit : (number : ℕ) (quota : ReserveOf) → step ≡ Admit number quota → AllPass (admit_tests before number quota) → P (Some (admitted_with quota))
   pub at_step : (tenant : Tenant) (outcome : Outcome I) → tenant_in before.tenants (tenant_of step) ≡ Some tenant →
       lone_step functions tenant step ≡ Ok outcome → IsAllowed before step tenant → P outcome.0
 

@@ -1,6 +1,6 @@
 -- Every right answer of a core leaves all frames fitting their procedure, and so does every list of them; lists of
 -- steps in parts, and how many jobs there are.
-use Rattle.sched_laws.proofs.Common.{◌≡◌, ℕ, ◌≤◌, true, List, [], ◌∷◌, ◌++◌, Option, Some, Result, Ok, Err, refl, arith, append_assoc, append-nil, ◌+◌, length, is_ok, ◌==◌, cases_Bool, cases_eq, Quota, Refusal, StepOf, Submit, DidOf, Submitted, Functions, Tenant, Tree, Fitting, Rooting, Outcome, lone, lone_step, tenant_of, only, state_after, alone_from, answers_from, CoreState, shared_by_nobody, tenant_in, step_result, newest_after, shared_with, IsAnswerTo, AreAnswersTo, after_answer, after_answers, taken_steps, AreNumbersGiven, tenant_in-with_outcome, tenant_in-other-with_outcome, known-number, step-taken, above, shared-after-taken, found, IsShaped, AreShaped, TenantFits, CoreFits, submits, origins_of, RootFits, RootsFit, origins_after, StaysFitting, JobsFit, filter-append, Job, Continuation, ParentFits, NewChildFits, inl, inr, ap, sym, ◌∙◌, eq-eqb, ne_eqb}
+use Rattle.sched_laws.proofs.Common.{◌≡◌, ℕ, ◌≤◌, true, List, [], ◌∷◌, ◌++◌, Option, Some, Result, Ok, Err, refl, arith, append_assoc, append-nil, ◌+◌, length, is_ok, ◌==◌, cases_Bool, cases_eq, ReserveOf, Refusal, StepOf, Submit, DidOf, Submitted, Functions, Tenant, Tree, Fitting, Rooting, Outcome, lone, lone_step, tenant_of, only, state_after, alone_from, answers_from, CoreState, shared_by_nobody, tenant_in, step_result, newest_after, shared_with, IsAnswerTo, AreAnswersTo, after_answer, after_answers, taken_steps, AreNumbersGiven, tenant_in-with_outcome, tenant_in-other-with_outcome, known-number, step-taken, above, shared-after-taken, found, IsShaped, AreShaped, TenantFits, CoreFits, submits, origins_of, RootFits, RootsFit, origins_after, StaysFitting, JobsFit, filter-append, Job, Continuation, ParentFits, NewChildFits, inl, inr, ap, sym, ◌∙◌, eq-eqb, ne_eqb}
 use Rattle.sched_laws.proofs.Shaped.{unless-passed, came}
 use Rattle.sched_laws.proofs.Consequences.{shaped-in, by-taken, shaped_answer}
 use Rattle.sched_laws.proofs.Holds.{Lists}
@@ -21,7 +21,7 @@ same-core fits rooted a b shared same core = record {
 }
 
 -- from nobody
-pub nobody-fits : (fits : Fitting) (rooted : Rooting) (totals : Quota) → CoreFits fits rooted (λ number. []) (shared_by_nobody totals)
+pub nobody-fits : (fits : Fitting) (rooted : Rooting) (totals : ReserveOf) → CoreFits fits rooted (λ number. []) (shared_by_nobody totals)
 nobody-fits fits rooted totals = record { tenants = λ number tenant at. absurd cc; unused = λ number low. refl }
 
 -- every procedure keeps that every frame fits, where that says nothing
@@ -31,7 +31,7 @@ AlwaysFits own children mark = Unit {0}
 abbrev AlwaysRooted : Rooting
 AlwaysRooted origin own = Unit {0}
 
-parent-always : (origin : List ℕ) (above older : Lists) (own : List ℕ) (younger : Lists) → ParentFits AlwaysFits AlwaysRooted origin above older own younger
+parent-always : (origin : List ℕ) (above older : Lists) (own : List ℕ) (younger : Lists) → ParentFits AlwaysFits AlwaysRooted origin above (older, younger) own
 parent-always origin above older own younger = grind arith
 
 child-always : (after : Continuation) → NewChildFits AlwaysFits after
@@ -103,7 +103,7 @@ module _ {I A : Type 0} (functions : Functions I A) where
 
     pub stays-fitting : IsLawful functions fits rooted → (origins : ℕ → Lists) (before : CoreState) (steps : List (StepOf A)) (answers : List (Result (DidOf I) Refusal)) →
         AreNumbersGiven before → AreShaped before.tenants → CoreFits fits rooted origins before →
-        AreAnswersTo functions before steps answers → StaysFitting functions fits rooted origins before steps answers
+        AreAnswersTo functions before steps answers → StaysFitting functions fits rooted (origins, before) steps answers
     stays-fitting lawful origins before (step ∷ steps) (answer ∷ answers) known shaped core right = (
       core,
       λ root. let next = answer-keeps origins before step answer lawful known shaped core root right.0 in
@@ -141,7 +141,7 @@ module _ {I A : Type 0} (functions : Functions I A) where
 
   -- from nobody on, a tenant has as many jobs as it submitted
   module _ (number : ℕ) (tenant : Tenant) where
-    pub jobs_counted : (totals : Quota) (steps : List (StepOf A)) (answers : List (Result (DidOf I) Refusal)) →
+    pub jobs_counted : (totals : ReserveOf) (steps : List (StepOf A)) (answers : List (Result (DidOf I) Refusal)) →
         AreAnswersTo functions (shared_by_nobody totals) steps answers →
         tenant_in (after_answers functions (shared_by_nobody totals) steps answers).tenants number ≡ Some tenant →
         length tenant.jobs ≡ length (origins_of (only number (taken_steps steps answers)))

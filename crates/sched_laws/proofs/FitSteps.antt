@@ -125,11 +125,11 @@ module _ {fits : Fitting} {rooted : Rooting} {origins : Lists} {tenant : Tenant}
         (tree-push tree new t next) (holds-push (FitsAt fits) tree new t next newborn) (λ root is. ap frame_words (frame_at-left tree (new ∷ []) root (path-there tree root (path_in-alike tenant.frames tree root alike ∙ is))))
 
   -- what comes after the stores of an act
-  then-fits : {I A : Type 0} (functions : Functions I A) (f : F) → frame_at tenant.frames f.serial ≡ Some f → (worker : ℕ) (name : FrameId) (path words : List ℕ)
+  then-fits : {I A : Type 0} (functions : Functions I A) (f : F) → frame_at tenant.frames f.serial ≡ Some f → (worker : ℕ) (name : FrameId) (words : List ℕ)
       (after : Continuation) → name.serial ≡ f.serial → mark_of_state f.state ≡ Neither →
       OwnFits fits words (kids tenant.frames f.serial) after → IsKeptAbove fits rooted tenant.frames f (grown after words) →
-      LeftFits fits rooted origins (then_done functions (counted (holding f.serial words tenant)) worker name path words after).0
-  then-fits functions f at worker name path words after own free fit kept =
+      LeftFits fits rooted origins (then_done functions (counted (holding f.serial words tenant)) worker name (record f { value = words }) after).0
+  then-fits functions f at worker name words after own free fit kept =
       grind (arith, words-fits, with_frame_words-twice, fits-spawned, state-fits, kids, has-one, has_child-with_frame_words)
 
   -- a job that ends with all its frames, and one that is submitted
@@ -208,9 +208,9 @@ module _ {fits : Fitting} {rooted : Rooting} {origins : Lists} {tenant : Tenant}
       (let a = among-kids tenant.frames p n f shape.tree at_n child-of in (law origin above older younger parent a.older a.younger a.all).1),
     ))
       where
-        law : (origin : List ℕ) (above older younger : Lists) → ParentFits fits rooted origin above older g.value younger → (before behind : Lists) →
+        law : (origin : List ℕ) (above older younger : Lists) → ParentFits fits rooted origin above (older, younger) g.value → (before behind : Lists) →
             kids tenant.frames p ≡ before ++ f.value ∷ behind → fits (stored act.stores g.value) (children_left act.abort (before ++ behind)) Neither
-            × ParentFits fits rooted origin above older (stored act.stores g.value) younger
+            × ParentFits fits rooted origin above (older, younger) (stored act.stores g.value)
         law origin above older younger parent before behind split =
             let fit = rw split at (fits-marked shape fitting p g at_p free) in
             let whole : fits f.value [] HasReturned = rw leaf at (fits-marked shape fitting n f at_n returned) in
@@ -236,7 +236,7 @@ module _ {fits : Fitting} {rooted : Rooting} {origins : Lists} {tenant : Tenant}
         let all = all-fit fits tenant.frames n shape.tree fitting.frames in
         let got = lawful.next origin f.value above older younger _ fit parent all (rw (has-one tenant.frames n, ← e) passed.1.1.0) in
         rw e ((got.0, got.2), got.1)) in
-        then-fits functions f at_own worker name f.path words act.after (sym (found-serial tenant.frames name.serial f at)) free both.0 both.1
+        then-fits functions f at_own worker name words act.after (sym (found-serial tenant.frames name.serial f at)) free both.0 both.1
 
     -- Inlet
     inlet-fits : (worker : ℕ) (name : FrameId) (f : F) (parent : ℕ) → frame_at tenant.frames name.serial ≡ Some f → parent_of f.path ≡ Some parent →

@@ -54,8 +54,8 @@ HasOrigin rooted f = parent_of f.path ≡ None → (origin : List ℕ) × rooted
 -- a law that a procedure keeps for whatever stands above
 abbrev pub KeepsAbove : Type 0 → Fitting → Rooting → Tree → F → List ℕ → Type 0
 KeepsAbove C fits rooted tree f words =
-    (origin : List ℕ) (above older younger : Lists) → sight tree f.path ≡ f.value ∷ above → ParentFits fits rooted origin above older f.value younger →
-    C × ParentFits fits rooted origin above older words younger
+    (origin : List ℕ) (above older younger : Lists) → sight tree f.path ≡ f.value ∷ above → ParentFits fits rooted origin above (older, younger) f.value →
+    C × ParentFits fits rooted origin above (older, younger) words
 
 -- where every frame fits, a procedure that keeps such a law keeps what stands above the frame
 module _ (C : Type 0) (fits : Fitting) (rooted : Rooting) (tree : Tree) (s : ℕ) (f : F) (words : List ℕ) (t : IsTree tree) where

@@ -1,5 +1,5 @@
 -- Every step of the core keeps the shape of its tenant, and so every right answer that of all tenants.
-use Rattle.sched_laws.proofs.Common.{◌≡◌, ◌≢◌, if◌then◌else◌, ℕ, ◌+◌, ◌-◌, ◌*◌, ◌<◌, ◌≤◌, inl, Bool, true, false, not, ◌||◌, ◌&&◌, eqb, ltb, List, [], ◌∷◌, ◌++◌, Option, Some, None, Result, Ok, length, replicate, refl, ap, ◌∙◌, subst, arith, length-append, length-replicate, false≢true, eqb-false, ltb-false, leb-true, leb-false, not-false, or_parts, and_parts, Quota, State, Ready, Running, FrameId, frame_at, parent_of, root_of, children_of, is_ready, there-found, found-serial, tree-rising, under-there, under-below, aborted-itself, frame_at-other-without, Act, InletAct, Continuation, StepOf, Grow, Wait, Return, Live, Done, Spent as SpentJob, Cancelled as CancelledJob, Refusal, AdmitMore, Submit, Inlet, Leave, Functions, Tree, Tenant, admitted_with, frame_words, words_in, charged_for, left, stored, is_outside, has_child, job_at, kept_words, Neither, mark_of_state, Outcome, unless, lone_step, is_lower, raised, counted, holding, ended, is_frame_size, submit_tests, submitted, taken_by, is_run_by, is_returned, act_by_sight, is_bad_then, is_spawn, segments_for, advance_tests, then_done, advanced, answer_tests, answered, inlet_tests, does_wait, staying, taken_in, finish_tests, finished, spent, at_frame, IsShaped, sym, charge, growth_charge, Spawn, NotSpent, Lower, Take, Steal, Finish, Spend, take_tests, steal_tests, is_spendable, inr, Computing, Go, Compute}
+use Rattle.sched_laws.proofs.Common.{◌≡◌, ◌≢◌, if◌then◌else◌, ℕ, ◌+◌, ◌-◌, ◌*◌, ◌<◌, ◌≤◌, inl, Bool, true, false, not, ◌||◌, ◌&&◌, eqb, ltb, List, [], ◌∷◌, ◌++◌, Option, Some, None, Result, Ok, length, replicate, refl, ap, ◌∙◌, subst, arith, length-append, length-replicate, false≢true, eqb-false, ltb-false, leb-true, leb-false, not-false, or_parts, and_parts, ReserveOf, State, Ready, Running, FrameId, frame_at, parent_of, root_of, children_of, is_ready, there-found, found-serial, tree-rising, under-there, under-below, aborted-itself, frame_at-other-without, Act, InletAct, Continuation, StepOf, Grow, Wait, Return, Live, Done, Spent as SpentJob, Cancelled as CancelledJob, Refusal, AdmitMore, Submit, Inlet, Leave, Functions, Tree, Tenant, admitted_with, frame_words, words_in, charged_for, left, stored, is_outside, has_child, job_at, kept_words, Neither, mark_of_state, Outcome, unless, lone_step, is_lower, raised, counted, holding, ended, is_frame_size, submit_tests, submitted, taken_by, is_run_by, is_returned, act_by_sight, is_bad_then, is_spawn, segments_for, advance_tests, then_done, advanced, answer_tests, answered, inlet_tests, does_wait, staying, taken_in, finish_tests, finished, spent, at_frame, IsShaped, sym, charge, growth_charge, Spawn, NotSpent, Lower, Take, Steal, Finish, Spend, take_tests, steal_tests, is_spendable, inr, Computing, Go, Compute}
 use Rattle.sched_laws.proofs.Holds.{frame_at-with_frame_words, charged-with_frame_words, F, found-own}
 use Rattle.sched_laws.proofs.Parts.{shape-at, no-child, has_child-with_frame_words, shaped-counted, shaped-in_state, shaped-holding, shaped-aborted, shaped-without, shaped-ended, shaped-child, shaped-root}
 use Rattle.sched_rules.proofs.StoreLemmas.{length-stored}
@@ -42,7 +42,7 @@ module _ {I : Type 0} (P : Option Tenant → Type 0) where
 
 -- P holds of what each effect of a step leaves, where its tests passed
 pub record HoldsOfEach {I A : Type 0} (functions : Functions I A) (tenant : Tenant) (step : StepOf A) (P : Option Tenant → Type 0) : Type 0 where
-  pub at_raise : (number : ℕ) (quota : Quota) → step ≡ AdmitMore number quota → is_lower tenant.reserve quota ≡ false → P (raised {I = I} tenant quota).0
+  pub at_raise : (number : ℕ) (quota : ReserveOf) → step ≡ AdmitMore number quota → is_lower tenant.reserve quota ≡ false → P (raised {I = I} tenant quota).0
   pub at_submit : (number : ℕ) (words : List ℕ) (size : ℕ) → step ≡ Submit number words size → AllPass (submit_tests tenant words size) →
       P (submitted {I = I} tenant number words size).0
   pub at_take : (worker s : ℕ) (f : F) → frame_at tenant.frames s ≡ Some f → not (is_ready f.state) ≡ false → eqb (left tenant).steps 0 ≡ false →
@@ -83,7 +83,7 @@ module _ {I A : Type 0} (functions : Functions I A) (tenant : Tenant) where
 
 -- P holds of what each kind of step leaves. Those of workers but Finish count one more step, and change only frames and serials
 pub record HoldsOfKinds {A : Type 0} (tenant : Tenant) (step : StepOf A) (P : Option Tenant → Type 0) : Type 0 where
-  pub at_raise : (number : ℕ) (quota : Quota) → step ≡ AdmitMore number quota → P (Some (record tenant { reserve = quota }))
+  pub at_raise : (number : ℕ) (quota : ReserveOf) → step ≡ AdmitMore number quota → P (Some (record tenant { reserve = quota }))
   pub at_submit : (serials root : ℕ) (frames : Tree) → P (Some (record tenant { serials = serials; jobs = tenant.jobs ++ Live root ∷ []; frames = frames }))
   pub at_work : (serials : ℕ) (frames : Tree) → P (Some (record (counted tenant) { serials = serials; frames = frames }))
   pub at_finish : (root : ℕ) (words : List ℕ) → P (Some (counted (ended root (Done words) tenant)))
@@ -98,11 +98,11 @@ either P false x y p q = q
 
 -- what an act leaves
 module _ {I A : Type 0} (functions : Functions I A) where
-  then-works : (t : Tenant) (worker : ℕ) (name : FrameId) (path words : List ℕ) (after : Continuation) (P : Option Tenant → Type 0) →
-      ((serials : ℕ) (frames : Tree) → P (Some (record t { serials = serials; frames = frames }))) → P (then_done functions t worker name path words after).0
-  then-works t worker name path words Wait P each = either P (has_child t.frames name.serial) _ _ (each _ _) (each _ _)
-  then-works t worker name path words Return P each = either P (has_child t.frames name.serial) _ _ (each _ _) (each _ _)
-  then-works t worker name path words _ P each = each _ _
+  then-works : (t : Tenant) (worker : ℕ) (name : FrameId) (g : F) (after : Continuation) (P : Option Tenant → Type 0) →
+      ((serials : ℕ) (frames : Tree) → P (Some (record t { serials = serials; frames = frames }))) → P (then_done functions t worker name g after).0
+  then-works t worker name g Wait P each = either P (has_child t.frames name.serial) _ _ (each _ _) (each _ _)
+  then-works t worker name g Return P each = either P (has_child t.frames name.serial) _ _ (each _ _) (each _ _)
+  then-works t worker name g _ P each = each _ _
 
   -- so it holds of what a step leaves
   pub by-kinds : (tenant : Tenant) (step : StepOf A) (outcome : Outcome I) (P : Option Tenant → Type 0) → lone_step functions tenant step ≡ Ok outcome →
@@ -112,7 +112,7 @@ module _ {I A : Type 0} (functions : Functions I A) where
     at_submit = λ number words size submits passed. each.at_submit _ _ _;
     at_take = λ worker s f at ready some. each.at_work _ _;
     at_advance = λ worker name f at passed.
-        then-works (counted (holding f.serial _ tenant)) worker name f.path _ (act_by_sight functions tenant f).after P each.at_work;
+        then-works (counted (holding f.serial _ tenant)) worker name (record f { value = _ }) (act_by_sight functions tenant f).after P each.at_work;
     at_answer = λ worker s f answer at passed. each.at_work _ _;
     at_inlet = λ worker name f parent at named passed.
         let act = functions.inlet (words_in tenant.frames parent) f.value in
@@ -166,11 +166,11 @@ grow-fits words more is = ltb-false 128 (words + more) (or_parts (eqb more 0) (l
 
 -- what comes after the stores leaves a tenant shaped, and so do Advance and Answer
 module _ {I A : Type 0} (functions : Functions I A) where
-  then-shaped : (t : Tenant) (worker : ℕ) (name : FrameId) (path words : List ℕ) (after : Continuation) (g : F) →
+  then-shaped : (t : Tenant) (worker : ℕ) (name : FrameId) (words : List ℕ) (after : Continuation) (g : F) →
       frame_at t.frames name.serial ≡ Some g → g.value ≡ words → mark_of_state g.state ≡ Neither →
       is_bad_then (length words) (has_child t.frames name.serial) after ≡ false → (is_spawn after ≡ true → t.serials < t.reserve.nodes) →
-      charged_for t.frames + segments_for g after ≤ t.reserve.segments → IsShaped t → LeftShaped (then_done functions t worker name path words after).0
-  then-shaped t worker name path words (Grow more) g at is free good node room s =
+      charged_for t.frames + segments_for g after ≤ t.reserve.segments → IsShaped t → LeftShaped (then_done functions t worker name (record g { value = words }) after).0
+  then-shaped t worker name words (Grow more) g at is free good node room s =
       let whole = length-append words (replicate more 0) in let zeros = length-replicate {A = ℕ} more 0 in
       let fits = (shape-at s name.serial g at).words in
       let long : length (words ++ replicate more 0) ≡ length words + more = omega arith in
@@ -181,11 +181,11 @@ module _ {I A : Type 0} (functions : Functions I A) where
     where
       grown : (c n o r w m : ℕ) → n ≡ w + m → o ≡ w → c + growth_charge o m ≤ r → c + charge n ≤ r + charge o
       grown c n o r w m long own le = grow-room c (charge n) (charge o) r (rw (long, ← own) le)
-  then-shaped t worker name path words (Spawn given size) g at is free good node room s =
+  then-shaped t worker name words (Spawn given size) g at is free good node room s =
       shaped-child worker given size t name.serial g at free (record { fits = size-parts given size good; node = node refl; segments = room }) s
-  then-shaped t worker name path words Go g at is free good node room s = s
-  then-shaped t worker name path words Compute g at is free good node room s = shaped-in_state s name.serial (Computing worker) (inr good)
-  then-shaped t worker name path words after g at is free good node room s = grind (arith, shaped-in_state)
+  then-shaped t worker name words Go g at is free good node room s = s
+  then-shaped t worker name words Compute g at is free good node room s = shaped-in_state s name.serial (Computing worker) (inr good)
+  then-shaped t worker name words after g at is free good node room s = grind (arith, shaped-in_state)
 
   -- Advance
   advance-shaped : (tenant : Tenant) (worker : ℕ) (name : FrameId) (f : F) (act : Act) → frame_at tenant.frames name.serial ≡ Some f →
@@ -205,7 +205,7 @@ module _ {I A : Type 0} (functions : Functions I A) where
       let e = ap charge long in
       let charged : charged_for t.frames ≡ charged_for tenant.frames = omega arith in
       let segments = segments-left tenant (segments_for f act.after) s.charged passed.1.1.1.1.0 in
-      then-shaped (counted t) worker name f.path words act.after g at_g refl (run-free worker f.state (not-false (is_run_by worker f.state) passed.0))
+      then-shaped (counted t) worker name words act.after g at_g refl (run-free worker f.state (not-false (is_run_by worker f.state) passed.0))
       (rw (long, child) good) (λ spawn. node-left tenant (rw spawn at passed.1.1.1.0)) (room act.after g _ (rw (← charged) at segments) long)
       (shaped-counted (shaped-stored n words tenant f at_own long s) (step-left tenant passed.1.0))
     where
@@ -269,5 +269,5 @@ module _ {I A : Type 0} (functions : Functions I A) (tenant : Tenant) where
   })
 
 -- from nothing: an admission
-pub admitted-shaped : (quota : Quota) → IsShaped (admitted_with quota)
+pub admitted-shaped : (quota : ReserveOf) → IsShaped (admitted_with quota)
 admitted-shaped quota = grind arith

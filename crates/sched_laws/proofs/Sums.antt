@@ -1,5 +1,5 @@
 -- What all tenants of a core have reserved and are charged, under each answer.
-use Rattle.sched_laws.proofs.Common.{◌≡◌, ◌↔◌, ℕ, Bool, true, ◌+◌, ◌*◌, ◌≤◌, false, List, [], ◌∷◌, Some, Result, Ok, Err, refl, arith, sum_by-cons, ltb-false, le-ltb, or_parts, Quota, Account, Refusal, StepOf, DidOf, Functions, Tenant, admitted_with, account_in, charged_for, left, Outcome, tenant_of, free_in, CoreState, tenant_in, with_tenant, without_tenant, with_outcome, accounts_in, reservations_in, is_full, is_beyond, step_result, shared_after, shared_with, charged_in, after_answer, after_answers, IsShaped, AreShaped, IsReservedWithin, IsCovered}
+use Rattle.sched_laws.proofs.Common.{◌≡◌, ◌↔◌, ℕ, Bool, true, ◌+◌, ◌*◌, ◌≤◌, false, List, [], ◌∷◌, Some, Result, Ok, Err, refl, arith, sum_by-cons, ltb-false, le-ltb, or_parts, ReserveOf, Account, Refusal, StepOf, DidOf, Functions, Tenant, admitted_with, account_in, charged_for, left, Outcome, tenant_of, free_in, CoreState, tenant_in, with_tenant, without_tenant, with_outcome, accounts_in, reservations_in, is_full, is_beyond, step_result, shared_after, shared_with, charged_in, after_answer, after_answers, IsShaped, AreShaped, IsReservedWithin, IsCovered}
 use Rattle.sched_laws.proofs.Shaped.{by-kinds}
 use Rattle.sched_laws.proofs.Consequences.{by-taken}
 use Rattle.std.specs.Prelude.{sum_by}
@@ -13,7 +13,7 @@ total m [] = 0
 total m (e ∷ es) = m e.1 + total m es
 
 -- segments and nodes, each as a number of a reservation
-abbrev part : Bool → Quota → ℕ
+abbrev part : Bool → ReserveOf → ℕ
 part true quota = quota.segments
 part false quota = quota.nodes
 
@@ -22,7 +22,7 @@ abbrev reserved : Bool → Entries → ℕ
 reserved b es = total (λ t. part b t.reserve) es
 
 -- what all reserve is within the totals
-abbrev Within : Quota → Entries → Type 0
+abbrev Within : ReserveOf → Entries → Type 0
 Within totals es = (b : Bool) → reserved b es ≤ part b totals
 
 reserved-total : (b : Bool) (es : Entries) → sum_by (λ (a : ℕ × Account). part b a.1.reserve) (accounts_in es) ≡ reserved b es
@@ -55,22 +55,22 @@ module _ (m : Tenant → ℕ) (n : ℕ) where
   total-less (e ∷ es) = grind (arith, total-less es)
 
 -- what the tests of the totals mean
-module _ (before : CoreState) (quota : Quota) where
+module _ (before : CoreState) (quota : ReserveOf) where
   has-room : is_full (reservations_in before) quota ≡ false → (b : Bool) → reserved b before.tenants + part b quota ≤ part b before.totals
   has-room none b = let c = reserved-total true before.tenants in let d = reserved-total false before.tenants in grind (arith, or_parts, ltb-false)
 
-  no-beyond : (own : Quota) → is_beyond (reservations_in before) own quota ≡ false →
+  no-beyond : (own : ReserveOf) → is_beyond (reservations_in before) own quota ≡ false →
       (b : Bool) → reserved b before.tenants + part b quota ≤ part b before.totals + part b own
   no-beyond own enough b = let c = reserved-total true before.tenants in let d = reserved-total false before.tenants in grind (arith, or_parts, ltb-false)
 
-  within-beyond : (own : Quota) → ((b : Bool) → reserved b before.tenants + part b quota ≤ part b before.totals + part b own) →
+  within-beyond : (own : ReserveOf) → ((b : Bool) → reserved b before.tenants + part b quota ≤ part b before.totals + part b own) →
       is_beyond (reservations_in before) own quota ≡ false
   within-beyond own both =
       let c = reserved-total true before.tenants in let d = reserved-total false before.tenants in
       let p = both true in let q = both false in grind (arith, le-ltb)
 
 -- a raised reservation that isn't beyond the totals stays within them
-module _ (before : CoreState) (number : ℕ) (old : Tenant) (quota : Quota) (at : tenant_in before.tenants number ≡ Some old) where
+module _ (before : CoreState) (number : ℕ) (old : Tenant) (quota : ReserveOf) (at : tenant_in before.tenants number ≡ Some old) where
   -- with a further reservation in the place of the tenant's own
   abbrev further : CoreState
   further = record before { tenants = with_tenant number (record old { reserve = quota }) before.tenants }

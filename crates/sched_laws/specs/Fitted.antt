@@ -64,10 +64,11 @@ RootsFit fits rooted (step ∷ steps) = RootFits fits rooted step × RootsFit fi
 abbrev pub origins_after : {I A : Type 0} → (ℕ → List (List ℕ)) → StepOf A → Result (DidOf I) Refusal → ℕ → List (List ℕ)
 origins_after origins step answer number = if is_ok answer && (tenant_of step == number) then origins number ++ submits step else origins number
 
--- the core fits before and after each step of a list, up to the first taken one whose new root doesn't
-abbrev pub StaysFitting : {I A : Type 0} → Functions I A → Fitting → Rooting → (ℕ → List (List ℕ)) → CoreState → List (StepOf A) → List (Result (DidOf I) Refusal) → Type 0
-StaysFitting functions fits rooted origins before [] answers = CoreFits fits rooted origins before
-StaysFitting functions fits rooted origins before (step ∷ steps) [] = CoreFits fits rooted origins before
-StaysFitting functions fits rooted origins before (step ∷ steps) (answer ∷ answers) =
-    CoreFits fits rooted origins before
-    × ((is_ok answer ≡ true → RootFits fits rooted step) → StaysFitting functions fits rooted (origins_after origins step answer) (after_answer functions before step answer) steps answers)
+-- the core, which begins with these origins and in this state, fits before and after each step of a list, up to the first taken one
+-- whose new root doesn't
+abbrev pub StaysFitting : {I A : Type 0} → Functions I A → Fitting → Rooting → (ℕ → List (List ℕ)) × CoreState → List (StepOf A) → List (Result (DidOf I) Refusal) → Type 0
+StaysFitting functions fits rooted begun [] answers = CoreFits fits rooted begun.0 begun.1
+StaysFitting functions fits rooted begun (step ∷ steps) [] = CoreFits fits rooted begun.0 begun.1
+StaysFitting functions fits rooted begun (step ∷ steps) (answer ∷ answers) =
+    CoreFits fits rooted begun.0 begun.1
+    × ((is_ok answer ≡ true → RootFits fits rooted step) → StaysFitting functions fits rooted (origins_after begun.0 step answer, after_answer functions begun.1 step answer) steps answers)

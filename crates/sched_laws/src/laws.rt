@@ -1,6 +1,6 @@
 //! What every step of a core keeps, for every procedure: laws.
 ghost use Rattle.std.specs.Prelude.{◌≡◌, ℕ, ◌≤◌, List, [], ◌∷◌, ◌++◌, Some, Result, length, true};
-ghost use Rattle.tenant_quota.specs.Quota.{Quota, IsWithinLimits};
+ghost use Rattle.tenant_quota.specs.Reserves.{ReserveOf, IsWithinLimits};
 ghost use Rattle.tenant_quota.specs.Accounts.{IsWithinReserve};
 ghost use Rattle.frame_table.specs.declared.names.State.TheVariants.{Computing, Returned};
 ghost use Rattle.frame_table.specs.Frames.{Frame, frame_at, path_in, root_of, children_of};
@@ -54,12 +54,12 @@ pub fn every_number_stays_taken<P: Procedure>()
 pub fn every_frame_fits<P: Procedure>()
     ensures each_step { (procedure : P) (origins : ℕ → List (List ℕ)) (before : CoreState) (steps : List (StepOf P.Answer)) (answers : List (Result (DidOf P.Input) Refusal)) →
         AreNumbersGiven before → AreShaped before.tenants → CoreFits (P.fits procedure) (P.rooted procedure) origins before → AreAnswersTo (P.functions procedure) before steps answers →
-        StaysFitting (P.functions procedure) (P.fits procedure) (P.rooted procedure) origins before steps answers }
+        StaysFitting (P.functions procedure) (P.fits procedure) (P.rooted procedure) (origins, before) steps answers }
     ensures at_end { (procedure : P) (origins : ℕ → List (List ℕ)) (before : CoreState) (steps : List (StepOf P.Answer)) (answers : List (Result (DidOf P.Input) Refusal)) →
         AreNumbersGiven before → AreShaped before.tenants → CoreFits (P.fits procedure) (P.rooted procedure) origins before → AreAnswersTo (P.functions procedure) before steps answers →
         RootsFit (P.fits procedure) (P.rooted procedure) (taken_steps steps answers) →
         CoreFits (P.fits procedure) (P.rooted procedure) (λ number. origins number ++ origins_of (only number (taken_steps steps answers))) (after_answers (P.functions procedure) before steps answers) }
-    ensures nobody { (procedure : P) (totals : Quota) → CoreFits (P.fits procedure) (P.rooted procedure) (λ number. []) (shared_by_nobody totals) }
+    ensures nobody { (procedure : P) (totals : ReserveOf) → CoreFits (P.fits procedure) (P.rooted procedure) (λ number. []) (shared_by_nobody totals) }
 {}
 
 /// After any list of steps on a new core whose taken Submits have roots that fit: every frame of a tenant fits,
@@ -67,7 +67,7 @@ pub fn every_frame_fits<P: Procedure>()
 /// words of its Submit, and a job that is done kept the first words of a root that had returned, had no child,
 /// fitted, and belonged to them.
 pub fn each_job_holds_what_it_was_asked<P: Procedure>()
-    ensures { (procedure : P) (totals : Quota) (steps : List (StepOf P.Answer)) (answers : List (Result (DidOf P.Input) Refusal)) (number : ℕ) (tenant : Tenant) →
+    ensures { (procedure : P) (totals : ReserveOf) (steps : List (StepOf P.Answer)) (answers : List (Result (DidOf P.Input) Refusal)) (number : ℕ) (tenant : Tenant) →
         AreAnswersTo (P.functions procedure) (shared_by_nobody totals) steps answers →
         RootsFit (P.fits procedure) (P.rooted procedure) (taken_steps steps answers) →
         tenant_in (after_answers (P.functions procedure) (shared_by_nobody totals) steps answers).tenants number ≡ Some tenant →

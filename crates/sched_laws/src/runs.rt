@@ -1,6 +1,6 @@
 //! Laws on a core's lists of steps in parts, the numbers of jobs, and the newest ready frame.
 ghost use Rattle.std.specs.Prelude.{◌≡◌, ℕ, ◌+◌, List, ◌++◌, Option, Some, None, Result, Ok, length, false};
-ghost use Rattle.tenant_quota.specs.Quota.{Quota};
+ghost use Rattle.tenant_quota.specs.Reserves.{ReserveOf};
 ghost use Rattle.frame_table.specs.declared.names.FrameId.{FrameId};
 ghost use Rattle.frame_table.specs.Frames.{Frame, frame_at, is_ready, newest_ready_of};
 ghost use Rattle.sched_rules.specs.declared.refusal.Refusal.{Refusal};
@@ -36,7 +36,7 @@ pub fn steps_in_parts<P: Procedure>()
 /// Submit is answered with the next number, one more than the tenant had jobs.
 #[tactic(auto, using(crate::proofs::FitAnswers::jobs_counted, crate::proofs::FitAnswers::submit_numbered))]
 pub fn jobs_are_numbered_by_their_submits<P: Procedure>()
-    ensures count { (procedure : P) (totals : Quota) (steps : List (StepOf P.Answer)) (answers : List (Result (DidOf P.Input) Refusal)) (number : ℕ) (tenant : Tenant) →
+    ensures count { (procedure : P) (totals : ReserveOf) (steps : List (StepOf P.Answer)) (answers : List (Result (DidOf P.Input) Refusal)) (number : ℕ) (tenant : Tenant) →
         AreAnswersTo (P.functions procedure) (shared_by_nobody totals) steps answers →
         tenant_in (after_answers (P.functions procedure) (shared_by_nobody totals) steps answers).tenants number ≡ Some tenant →
         length tenant.jobs ≡ length (origins_of (only number (taken_steps steps answers))) }

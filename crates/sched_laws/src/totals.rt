@@ -1,6 +1,6 @@
 //! Of a core's totals: nothing is cut off where what is left is worked out by subtraction.
 ghost use Rattle.std.specs.Prelude.{◌≡◌, ◌↔◌, ℕ, ◌+◌, ◌*◌, false, List, Some, Result};
-ghost use Rattle.tenant_quota.specs.Quota.{Quota};
+ghost use Rattle.tenant_quota.specs.Reserves.{ReserveOf};
 ghost use Rattle.sched_rules.specs.declared.refusal.Refusal.{Refusal};
 ghost use Rattle.sched_rules.specs.declared.step.StepOf.{StepOf};
 ghost use Rattle.sched_rules.specs.declared.step.DidOf.{DidOf};
@@ -19,13 +19,13 @@ pub fn reservations_stay_within_the_totals<P: Procedure>()
         IsReservedWithin before → IsReservedWithin (after_answer (P.functions procedure) before step answer) }
     ensures run { (procedure : P) (before : CoreState) (steps : List (StepOf P.Answer)) (answers : List (Result (DidOf P.Input) Refusal)) →
         IsReservedWithin before → IsReservedWithin (after_answers (P.functions procedure) before steps answers) }
-    ensures nobody { (totals : Quota) → IsReservedWithin (shared_by_nobody totals) }
+    ensures nobody { (totals : ReserveOf) → IsReservedWithin (shared_by_nobody totals) }
 {}
 
 /// A raised reservation is beyond the totals (`is_beyond`) exactly where all reservations together, this one in
 /// the place of the tenant's own, would pass one of them.
 pub fn more_is_beyond_exactly_where_a_total_is_passed()
-    ensures { (before : CoreState) (number : ℕ) (tenant : Tenant) (quota : Quota) → tenant_in before.tenants number ≡ Some tenant →
+    ensures { (before : CoreState) (number : ℕ) (tenant : Tenant) (quota : ReserveOf) → tenant_in before.tenants number ≡ Some tenant →
         (is_beyond (reservations_in before) tenant.reserve quota ≡ false ↔ IsReservedWithin (record before { tenants = with_tenant number (record tenant { reserve = quota }) before.tenants })) }
 {}
 

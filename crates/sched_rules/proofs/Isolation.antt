@@ -16,7 +16,7 @@ use Rattle.sched_rules.specs.Functions.{Functions}
 use Rattle.sched_rules.specs.Trees.{Tenant, admitted_with}
 use Rattle.sched_rules.specs.Lone.{Outcome, lone, lone_refusal, refusal_in, unless, is_lower, is_spendable, IsSpendable}
 use Rattle.sched_rules.specs.Runs.{tenant_of, only, state_after, answer_of, alone_from, answers_from}
-use Rattle.tenant_quota.specs.Quota.{Quota, IsNotAbove}
+use Rattle.tenant_quota.specs.Reserves.{ReserveOf, IsNotAbove}
 use Rattle.tenant_quota.specs.Reservations.{Reservations, IsFull, IsBeyond}
 use Rattle.sched_rules.specs.Cores.{CoreState, tenant_in, meets_busy, unless_busy, step_result, step_among, newest_after, shared_with, is_full, is_beyond, unless_beyond, reserved_by, reservations_in}
 use Rattle.sched_rules.specs.Headline.{IsAnswerTo, IsAnswerToAdmit, IsAnswerToStep, after_answer, after_answers, AreAnswersTo, taken_steps, own_answers, IsUndisturbed, IsHeadline, AreNumbersGiven, is_admission}
@@ -115,11 +115,11 @@ more-found {I = I} true (Ok outcome) did refused else_taken = let e : ◌≡◌ 
 more-found false (Ok outcome) did refused else_taken = (outcome, refl, refl, admitted-did did (Ok outcome) outcome refl (else_taken refl))
 
 -- it is of a tenant that is there
-pub more-there : {I A : Type 0} (functions : Functions I A) (own : Option Tenant) (number : ℕ) (quota : Quota) (outcome : Outcome I) → lone {A = A} functions own (AdmitMore number quota) ≡ Ok outcome → own ≢ None
+pub more-there : {I A : Type 0} (functions : Functions I A) (own : Option Tenant) (number : ℕ) (quota : ReserveOf) (outcome : Outcome I) → lone {A = A} functions own (AdmitMore number quota) ≡ Ok outcome → own ≢ None
 more-there functions None number quota outcome taken = absurd cc
 more-there functions (Some tenant) number quota outcome taken = λ e. cc
 
-admitted-more : {I A : Type 0} (functions : Functions I A) (before : CoreState) (number : ℕ) (quota : Quota) (did : DidOf I) → AreNumbersGiven before →
+admitted-more : {I A : Type 0} (functions : Functions I A) (before : CoreState) (number : ℕ) (quota : ReserveOf) (did : DidOf I) → AreNumbersGiven before →
     IsAnswerToAdmit functions before (AdmitMore number quota) (Ok did) → IsTaken functions before (AdmitMore number quota) did
 admitted-more {A = A} functions before number quota did known right =
     let own = tenant_in before.tenants number in
@@ -133,7 +133,7 @@ admitted-more {A = A} functions before number quota did known right =
     }
 
 -- an admission that was taken
-admitted : {I A : Type 0} (functions : Functions I A) (before : CoreState) (number : ℕ) (quota : Quota) (did : DidOf I) → AreNumbersGiven before →
+admitted : {I A : Type 0} (functions : Functions I A) (before : CoreState) (number : ℕ) (quota : ReserveOf) (did : DidOf I) → AreNumbersGiven before →
     IsAnswerToAdmit functions before (Admit number quota) (Ok did) → IsTaken functions before (Admit number quota) did
 admitted {I = I} functions before number quota did known right =
     let old = (number == 0) || nat_le number before.newest || nat_lt (2 ^ 62) number in
@@ -262,7 +262,7 @@ full-back : (tenants segments wanted nodes asked : ℕ) → (64 ≤ tenants) ⊎
     IsTrue (nat_le 64 tenants || nat_lt segments wanted || nat_lt nodes asked)
 full-back tenants segments wanted nodes asked is = grind (arith, nat_tests)
 
-pub is-full : (book : Reservations) (quota : Quota) → IsTrue (is_full book quota) ↔ IsFull book quota
+pub is-full : (book : Reservations) (quota : ReserveOf) → IsTrue (is_full book quota) ↔ IsFull book quota
 is-full book quota = (full-forth _ _ _ _ _, full-back _ _ _ _ _)
 
 -- the tests of an admission of more are the book's
@@ -274,7 +274,7 @@ lower-back : (segments nodes now_segments now_nodes : ℕ) → (segments < now_s
     IsTrue (nat_lt segments now_segments || nat_lt nodes now_nodes || ((segments == now_segments) && (nodes == now_nodes)))
 lower-back segments nodes now_segments now_nodes is = grind (arith, nat_tests)
 
-pub is-lower : (now quota : Quota) → IsTrue (is_lower now quota) ↔ IsNotAbove now quota
+pub is-lower : (now quota : ReserveOf) → IsTrue (is_lower now quota) ↔ IsNotAbove now quota
 is-lower now quota = (lower-forth _ _ _ _, lower-back _ _ _ _)
 
 beyond-forth : (segments wanted nodes asked : ℕ) → IsTrue (nat_lt segments wanted || nat_lt nodes asked) → (segments < wanted) ⊎ (nodes < asked)
@@ -283,7 +283,7 @@ beyond-forth segments wanted nodes asked is = grind (arith, nat_tests)
 beyond-back : (segments wanted nodes asked : ℕ) → (segments < wanted) ⊎ (nodes < asked) → IsTrue (nat_lt segments wanted || nat_lt nodes asked)
 beyond-back segments wanted nodes asked is = grind (arith, nat_tests)
 
-pub is-beyond : (book : Reservations) (now quota : Quota) → IsTrue (is_beyond book now quota) ↔ IsBeyond book now quota
+pub is-beyond : (book : Reservations) (now quota : ReserveOf) → IsTrue (is_beyond book now quota) ↔ IsBeyond book now quota
 is-beyond book now quota = (beyond-forth _ _ _ _, beyond-back _ _ _ _)
 
 -- the one test of a Spend

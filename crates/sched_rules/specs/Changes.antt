@@ -1,6 +1,6 @@
 -- Representation: one tenant of a core changed, and all others as they were.
 use Rattle.std.specs.Prelude.{ℕ, ◌==◌, List, [], ◌∷◌, ◌++◌, if◌then◌else◌}
-use Rattle.tenant_quota.specs.Quota.{Quota}
+use Rattle.tenant_quota.specs.Reserves.{ReserveOf}
 use Rattle.frame_table.specs.Frames.{aborted, frames_without}
 use Rattle.sched_rules.specs.declared.job.Job.{Job}
 use Rattle.sched_rules.specs.Trees.{Tenant, with_ended}
@@ -16,7 +16,7 @@ abbrev pub on_tenant : ℕ → (Tenant → Tenant) → CoreState → CoreState
 on_tenant number change shared = record shared { tenants = with_change number change shared.tenants }
 
 -- the tenant with this as its reservation
-abbrev pub with_reserve : Quota → Tenant → Tenant
+abbrev pub with_reserve : ReserveOf → Tenant → Tenant
 with_reserve quota tenant = record tenant { reserve = quota }
 
 -- the tenant without the frame of this serial

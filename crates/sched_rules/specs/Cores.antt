@@ -1,6 +1,6 @@
 -- Meaning: a core of several tenants: an admission among them, a worker that is busy elsewhere, and what each step is answered.
 use Rattle.std.specs.Prelude.{ℕ, ◌+◌, ◌^◌, Bool, false, not, ◌||◌, ◌&&◌, ◌==◌, nat_lt, nat_le, List, [], ◌∷◌, Option, Some, None, Result, Ok, Err, if◌then◌else◌, length}
-use Rattle.tenant_quota.specs.Quota.{Quota}
+use Rattle.tenant_quota.specs.Reserves.{ReserveOf}
 use Rattle.tenant_quota.specs.Accounts.{reserved_segments, reserved_nodes}
 use Rattle.tenant_quota.specs.Reservations.{Reservations}
 use Rattle.tenant_quota.specs.declared.account.Account.{Account}
@@ -16,7 +16,7 @@ use Rattle.sched_rules.specs.Runs.{tenant_of}
 
 -- a core: its totals, the greatest number of a tenant so far, and the tenants that are there, each with its number
 pub record CoreState : Type 0 where
-  pub totals : Quota
+  pub totals : ReserveOf
   pub newest : ℕ
   pub tenants : List (ℕ × Tenant)
 
@@ -26,7 +26,7 @@ pub record CoreOf (P : Type 0) : Type 0 where
   pub shared : CoreState
 
 -- a core with these totals of segments and nodes, and no tenant
-abbrev pub shared_by_nobody : Quota → CoreState
+abbrev pub shared_by_nobody : ReserveOf → CoreState
 shared_by_nobody totals = record { totals = totals; newest = 0; tenants = [] }
 
 -- the tenant with this number, if it is there
@@ -73,26 +73,26 @@ abbrev pub reservations_in : CoreState → Reservations
 reservations_in shared = record { segments = shared.totals.segments; nodes = shared.totals.nodes; accounts = accounts_in shared.tenants }
 
 -- whether there is no room for a new tenant's reservation: 64 tenants are there, or a total would be passed
-abbrev pub is_full : Reservations → Quota → Bool
+abbrev pub is_full : Reservations → ReserveOf → Bool
 is_full book quota =
     nat_le 64 (length book.accounts)
     || nat_lt book.segments (reserved_segments book.accounts + quota.segments)
     || nat_lt book.nodes (reserved_nodes book.accounts + quota.nodes)
 
 -- the tests of Admit: the number is 0, not above every number so far, or over 2^62; no room for the reservation
-abbrev pub admit_tests : CoreState → ℕ → Quota → List (Bool × Refusal)
+abbrev pub admit_tests : CoreState → ℕ → ReserveOf → List (Bool × Refusal)
 admit_tests shared number quota =
     ((number == 0) || nat_le number shared.newest || nat_lt (2 ^ 62) number, OldTenant)
     ∷ (is_full (reservations_in shared) quota, Full)
     ∷ []
 
 -- what a tenant reserves; nothing where it isn't there
-abbrev pub reserved_by : Option Tenant → Quota
+abbrev pub reserved_by : Option Tenant → ReserveOf
 reserved_by None = record { segments = 0; nodes = 0 }
 reserved_by (Some tenant) = tenant.reserve
 
 -- AdmitMore: whether a total would be passed if this reservation took the place of the tenant's own
-abbrev pub is_beyond : Reservations → Quota → Quota → Bool
+abbrev pub is_beyond : Reservations → ReserveOf → ReserveOf → Bool
 is_beyond book own quota =
     nat_lt (book.segments + own.segments) (reserved_segments book.accounts + quota.segments)
     || nat_lt (book.nodes + own.nodes) (reserved_nodes book.accounts + quota.nodes)

@@ -37,11 +37,11 @@ AllFit fits [] = Unit {0}
 AllFit fits (child ∷ children) = ((below : List (List ℕ)) × (mark : Mark) × fits child below mark) × AllFit fits children
 
 -- what stands above a frame fits. The levels above it are its parent's words, its parent's parent's and so on, and its words stand
--- among those of its parent's children, between those of older and of younger ones; with no level above it is the root of a job
--- that was submitted with the words origin
-abbrev pub ParentFits : Fitting → Rooting → List ℕ → List (List ℕ) → List (List ℕ) → List ℕ → List (List ℕ) → Type 0
-ParentFits fits rooted origin [] older own younger = rooted origin own
-ParentFits fits rooted origin (parent ∷ above) older own younger = fits parent (older ++ own ∷ younger) Neither
+-- among those of its parent's children, between those of its older and of its younger siblings; with no level above it is the root
+-- of a job that was submitted with the words origin
+abbrev pub ParentFits : Fitting → Rooting → List ℕ → List (List ℕ) → List (List ℕ) × List (List ℕ) → List ℕ → Type 0
+ParentFits fits rooted origin [] siblings own = rooted origin own
+ParentFits fits rooted origin (parent ∷ above) siblings own = fits parent (siblings.0 ++ own ∷ siblings.1) Neither
 
 -- whether there is a child, by the list of the children's words
 abbrev pub has_one : List (List ℕ) → Bool
@@ -83,23 +83,20 @@ NewChildFits fits Wait = Unit {0}
 NewChildFits fits Compute = Unit {0}
 NewChildFits fits Return = Unit {0}
 
--- what holds after an act: the frame fits, what stands above it fits, and a new child fits
-abbrev pub ActFits : Fitting → Rooting → List ℕ → List ℕ → List (List ℕ) → List (List ℕ) → List (List ℕ) → List (List ℕ) → Act → Type 0
-ActFits fits rooted origin own above older younger children act =
-    fits (grown act.after (stored act.stores own)) (children_after act.after children) (mark_after act.after children)
-    × ParentFits fits rooted origin above older (grown act.after (stored act.stores own)) younger
-    × NewChildFits fits act.after
-
 -- Advance needs this: where a running frame, its parent and its children fit, and the next act can be done, the frame and its
 -- parent fit after it, and so does a new child
 abbrev pub NextKeeps : {I A : Type 0} → Functions I A → Fitting → Rooting → Type 0
 NextKeeps functions fits rooted =
     (origin own : List ℕ) (above older younger children : List (List ℕ)) →
     fits own children Neither →
-    ParentFits fits rooted origin above older own younger →
+    ParentFits fits rooted origin above (older, younger) own →
     AllFit fits children →
     is_bad_act own (has_one children) (functions.next (own ∷ above)) ≡ false →
-    ActFits fits rooted origin own above older younger children (functions.next (own ∷ above))
+    let act : Act = functions.next (own ∷ above) in
+    let words : List ℕ = grown act.after (stored act.stores own) in
+    fits words (children_after act.after children) (mark_after act.after children)
+    × ParentFits fits rooted origin above (older, younger) words
+    × NewChildFits fits act.after
 
 -- the words of the children that stay after an inlet, from those of all but the one taken in: none at an abort
 abbrev pub children_left : Bool → List (List ℕ) → List (List ℕ)
@@ -111,13 +108,13 @@ abbrev pub InletKeeps : {I A : Type 0} → Functions I A → Fitting → Rooting
 InletKeeps functions fits rooted =
     (origin own child : List ℕ) (above older younger before behind : List (List ℕ)) →
     fits own (before ++ child ∷ behind) Neither →
-    ParentFits fits rooted origin above older own younger →
+    ParentFits fits rooted origin above (older, younger) own →
     AllFit fits before →
     fits child [] HasReturned →
     AllFit fits behind →
     is_outside (functions.inlet own child).stores own ≡ false →
     fits (stored (functions.inlet own child).stores own) (children_left (functions.inlet own child).abort (before ++ behind)) Neither
-    × ParentFits fits rooted origin above older (stored (functions.inlet own child).stores own) younger
+    × ParentFits fits rooted origin above (older, younger) (stored (functions.inlet own child).stores own)
 
 -- Answer needs this: if a computing frame (which has no child) and its parent fit, the answer was computed from the frame's input,
 -- and accept stores only to words that the frame has, then frame and parent still fit after the stores
@@ -125,11 +122,11 @@ abbrev pub AcceptKeeps : {I A : Type 0} → Functions I A → Fitting → Rootin
 AcceptKeeps {A = A} functions fits rooted =
     (origin own : List ℕ) (above older younger : List (List ℕ)) (answer : A) →
     fits own [] Computes →
-    ParentFits fits rooted origin above older own younger →
+    ParentFits fits rooted origin above (older, younger) own →
     functions.same (functions.asked answer) (functions.input own) ≡ true →
     is_outside (functions.accept own answer) own ≡ false →
     fits (stored (functions.accept own answer) own) [] Neither
-    × ParentFits fits rooted origin above older (stored (functions.accept own answer) own) younger
+    × ParentFits fits rooted origin above (older, younger) (stored (functions.accept own answer) own)
 
 -- each of these frames of a tree fits, with the words of its children and its mark
 abbrev pub EachFits : Fitting → Tree → List (Frame (List ℕ)) → Type 0

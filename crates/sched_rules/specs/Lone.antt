@@ -1,7 +1,7 @@
 -- Meaning: one step of a tenant that has the core to itself: the refusals in their order, and else what the step does.
 -- (Cilk 5.4 Reference Manual: spawn, sync, inlet, abort, work stealing.)
 use Rattle.std.specs.Prelude.{ℕ, ◌+◌, Bool, true, false, not, ◌||◌, ◌&&◌, ◌==◌, nat_lt, nat_le, List, [], ◌∷◌, ◌++◌, Option, Some, None, Result, Ok, Err, if◌then◌else◌, length, replicate, IsTrue}
-use Rattle.tenant_quota.specs.Quota.{Quota}
+use Rattle.tenant_quota.specs.Reserves.{ReserveOf}
 use Rattle.cactus_stack.specs.Nodes.{charge, growth_charge, padded}
 use Rattle.frame_table.specs.declared.names.State.{State}
 use Rattle.frame_table.specs.declared.names.State.TheVariants.{Ready, Running, Computing, Waiting, Returned}
@@ -70,12 +70,12 @@ abbrev pub is_frame_size : List ℕ → ℕ → Bool
 is_frame_size words size = nat_le 1 size && nat_le size 128 && nat_le (length words) size
 
 -- whether the second reservation is no raise of the first: less in segments or nodes, or the same in both
-abbrev pub is_lower : Quota → Quota → Bool
+abbrev pub is_lower : ReserveOf → ReserveOf → Bool
 is_lower now quota =
     nat_lt quota.segments now.segments || nat_lt quota.nodes now.nodes || ((quota.segments == now.segments) && (quota.nodes == now.nodes))
 
 -- AdmitMore: the tenant with this reservation in the place of its own
-abbrev pub raised : {I : Type 0} → Tenant → Quota → Outcome I
+abbrev pub raised : {I : Type 0} → Tenant → ReserveOf → Outcome I
 raised tenant quota = (Some (record tenant { reserve = quota }), AdmittedMore)
 
 -- the tests of Submit: the root is no frame, it is the 257th job, no node is left, too few segments are left
@@ -195,25 +195,25 @@ advance_tests tenant worker frame act =
     ∷ no_step tenant
     ∷ act_tests tenant frame act
 
--- the rest of an act after its stores, which left these words in the frame
-abbrev pub then_done : {I A : Type 0} → Functions I A → Tenant → ℕ → FrameId → List ℕ → List ℕ → Continuation → Outcome I
-then_done functions tenant worker name path words (Grow more) = (Some (holding name.serial (words ++ replicate more 0) tenant), Grew)
-then_done functions tenant worker name path words (Spawn given size) =
+-- the rest of an act after its stores, which left the frame like this
+abbrev pub then_done : {I A : Type 0} → Functions I A → Tenant → ℕ → FrameId → Frame (List ℕ) → Continuation → Outcome I
+then_done functions tenant worker name frame (Grow more) = (Some (holding name.serial (frame.value ++ replicate more 0) tenant), Grew)
+then_done functions tenant worker name frame (Spawn given size) =
     (Some (opened (Some name.serial) given size worker tenant), Spawned (record name { serial = tenant.serials + 1 }))
-then_done functions tenant worker name path words Go = (Some tenant, Went)
-then_done functions tenant worker name path words Wait =
+then_done functions tenant worker name frame Go = (Some tenant, Went)
+then_done functions tenant worker name frame Wait =
     if has_child tenant.frames name.serial then (Some (in_state name.serial Waiting tenant), Waited) else (Some tenant, Went)
-then_done functions tenant worker name path words Compute = (Some (in_state name.serial (Computing worker) tenant), IsComputing (functions.input words))
-then_done functions tenant worker name path words Return =
+then_done functions tenant worker name frame Compute = (Some (in_state name.serial (Computing worker) tenant), IsComputing (functions.input frame.value))
+then_done functions tenant worker name frame Return =
     if has_child tenant.frames name.serial
     then (Some (in_state name.serial Waiting tenant), Waited)
-    else (Some (in_state name.serial Returned tenant), HasReturned (is_root path))
+    else (Some (in_state name.serial Returned tenant), HasReturned (is_root frame.path))
 
 -- what an Advance does: the stores of the frame's act, and then the rest of the act
 abbrev pub advanced : {I A : Type 0} → Functions I A → Tenant → ℕ → FrameId → Frame (List ℕ) → Act → Outcome I
 advanced functions tenant worker name frame act =
     let words = stored act.stores frame.value in
-    then_done functions (counted (holding frame.serial words tenant)) worker name frame.path words act.after
+    then_done functions (counted (holding frame.serial words tenant)) worker name (record frame { value = words }) act.after
 
 -- the tests of Answer: the worker doesn't compute the frame, the answer is to another input, no step, a store outside
 abbrev pub answer_tests : {I A : Type 0} → Functions I A → Tenant → ℕ → Frame (List ℕ) → A → List (Bool × Refusal)

@@ -2,7 +2,7 @@
 -- and the tree of its frames. (Cilk 5.4 Reference Manual: cactus stack, abort.)
 use Rattle.std.specs.Prelude.{ℕ, ◌+◌, ◌-◌, Bool, false, ◌||◌, ◌==◌, nat_lt, nat_le, List, [], ◌∷◌, Option, Some, None, if◌then◌else◌, map, reverse, length, sum_by, slice_set, take}
 use Rattle.cactus_stack.specs.Nodes.{charge}
-use Rattle.tenant_quota.specs.Quota.{Quota}
+use Rattle.tenant_quota.specs.Reserves.{ReserveOf}
 use Rattle.tenant_quota.specs.Accounts.{left_in}
 use Rattle.tenant_quota.specs.declared.account.Account.{Account}
 use Rattle.tenant_quota.specs.declared.account.Left.{Left}
@@ -18,14 +18,14 @@ Tree = List (Frame (List ℕ))
 
 -- a tenant: what it reserved, how many serials it was given, how many steps it took, its jobs from number 1 on, and its frames
 pub record Tenant : Type 0 where
-  pub reserve : Quota
+  pub reserve : ReserveOf
   pub serials : ℕ
   pub steps : ℕ
   pub jobs : List Job
   pub frames : Tree
 
 -- a tenant as it is admitted, with this reservation: without a job or a frame, and nothing used
-abbrev pub admitted_with : Quota → Tenant
+abbrev pub admitted_with : ReserveOf → Tenant
 admitted_with quota = record { reserve = quota; serials = 0; steps = 0; jobs = []; frames = [] }
 
 -- the words of a frame, and none where there is no frame

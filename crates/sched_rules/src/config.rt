@@ -13,10 +13,10 @@ pub struct Config {
 
 // Clauses see the two totals.
 impl Model for Config {
-    ghost use Rattle.tenant_quota.specs.Quota.{Quota};
+    ghost use Rattle.tenant_quota.specs.Reserves.{ReserveOf};
     ghost use Rattle.sched_rules.specs.Totals.{IsWithinTotals};
 
-    ghost Value = { Quota };
+    ghost Value = { ReserveOf };
 
     ghost view = { λ c. record { segments = c.segments; nodes = c.nodes } };
 
@@ -26,7 +26,7 @@ impl Model for Config {
 }
 
 impl Config {
-    ghost use Rattle.tenant_quota.specs.Quota.{Quota};
+    ghost use Rattle.tenant_quota.specs.Reserves.{ReserveOf};
     ghost use Rattle.sched_rules.specs.Totals.{IsWithinTotals};
 
     /// The most segments of a core.

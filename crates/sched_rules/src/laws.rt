@@ -5,7 +5,7 @@ ghost use Rattle.sched_rules.specs.declared.step.StepOf.{StepOf};
 ghost use Rattle.sched_rules.specs.declared.step.DidOf.{DidOf};
 ghost use Rattle.sched_rules.specs.Cores.{CoreState, step_result, is_full, is_beyond};
 ghost use Rattle.sched_rules.specs.Runs.{answer_of};
-ghost use Rattle.tenant_quota.specs.Quota.{Quota, IsNotAbove};
+ghost use Rattle.tenant_quota.specs.Reserves.{ReserveOf, IsNotAbove};
 ghost use Rattle.tenant_quota.specs.Reservations.{Reservations, IsFull, IsBeyond};
 ghost use Rattle.sched_rules.specs.Headline.{AreAnswersTo, IsHeadline, IsAnswerTo, AreNumbersGiven, after_answers};
 ghost use Rattle.frame_table.specs.declared.names.FrameId.{FrameId};
@@ -33,14 +33,14 @@ pub fn each_step_has_a_right_answer<P: Procedure>()
 /// An admission is refused as full (`is_full`) by the same test as in the book of reservations (`IsFull` of
 /// `tenant_quota`).
 pub fn fullness_is_the_book_s()
-    ensures { (book : Reservations) (quota : Quota) → IsTrue (is_full book quota) ↔ IsFull book quota }
+    ensures { (book : Reservations) (quota : ReserveOf) → IsTrue (is_full book quota) ↔ IsFull book quota }
 {}
 
 /// `is_lower` and `is_beyond`, by which a raise of a reservation is refused, are the same tests as `IsNotAbove`
 /// and `IsBeyond` of `tenant_quota`.
 pub fn more_is_tested_as_by_the_book()
-    ensures lower { (now quota : Quota) → IsTrue (is_lower now quota) ↔ IsNotAbove now quota }
-    ensures beyond { (book : Reservations) (now quota : Quota) → IsTrue (is_beyond book now quota) ↔ IsBeyond book now quota }
+    ensures lower { (now quota : ReserveOf) → IsTrue (is_lower now quota) ↔ IsNotAbove now quota }
+    ensures beyond { (book : Reservations) (now quota : ReserveOf) → IsTrue (is_beyond book now quota) ↔ IsBeyond book now quota }
 {}
 
 /// A Spend of a frame that is there is taken exactly where the frame is spendable (`IsSpendable`).

@@ -1,7 +1,7 @@
 -- Tenants of the core's store come, reserve more and go: an account, places, jobs and frames of their own, and nothing
 -- of any other tenant.
 use Rattle.sched_store.proofs.Lookups.{◌≡◌, ◌≢◌, ℕ, ◌+◌, ◌^◌, ◌<◌, ◌≤◌, inl, inr, false, List, [], ◌∷◌, ◌++◌, length, None, refl, ap, sym, ◌∙◌, arith, Option, zero, suc, replicate, Account, FrameId, IsAboveOwn, with_admitted, length-replicate, with_reserve, Tenant, admitted_with, Nodes, node_at, frame_at, frames_of, places_of, tenant_count, KeepsOtherTenants, JobListOf, owner_of_jobs, jobs_of, Parts, tenant_from, tenants_from, shared_of, cases_eq, ne_eqb, lt-ltb, IsStored, IsAccountFor, AreAtMost, Bool, eqb, subst, filter, cases_Bool, eqb-true, eqb-false, without, total_charge, Frame, values_of, charged_for, with_departed, without_jobs, with_words_of_nodes, inserted, its-account, nobodys, within-reserve, Frames, Trees, Owns, Entries, reservations-found, tenant-found, length-numbers, numbers-inserted, no-job_list, tree_in, numbers-without, CoreState, is_full, reservations_in, tenant_in, reserved_by, is_beyond, without_tenant}
-use Rattle.tenant_quota.specs.Quota.{Quota, IsAbove}
+use Rattle.tenant_quota.specs.Reserves.{ReserveOf, IsAbove}
 use Rattle.tenant_quota.specs.Accounts.{account_of, fresh, with_new, raised_to, without as without_account, AllEntries, IsRising, charged_segments}
 use Rattle.tenant_quota.specs.Reservations.{Reservations, IsSoundBook, HasRoom, Admits, KeepsOtherAccounts, HasRoomFor, Raises, empty_of, Releases}
 use Rattle.numbered_list.proofs.Edits.{said-inserted-own, said-inserted-other, said-without-other, all-without}
@@ -16,7 +16,7 @@ newer-missing newest number [] most newer = refl
 newer-missing newest number (entry ∷ entries) most newer = grind (arith, newer-missing newest number entries most.1 newer, ne_eqb)
 
 -- what can be admitted
-pub record CanBeAdmitted (parts : Parts) (number : ℕ) (quota : Quota) : Type 0 where
+pub record CanBeAdmitted (parts : Parts) (number : ℕ) (quota : ReserveOf) : Type 0 where
   pub newer : parts.newest < number
   pub nobody : account_of number parts.book.accounts ≡ None
   pub no_places : places_of parts.trees number ≡ 0
@@ -24,11 +24,11 @@ pub record CanBeAdmitted (parts : Parts) (number : ℕ) (quota : Quota) : Type 0
   pub few_job_lists : length parts.job_lists < 64
   pub room : HasRoom parts.book quota
 
-pub can-be-admitted : {parts : Parts} (number : ℕ) (quota : Quota) {core : CoreState} → IsStored parts → shared_of parts ≡ core → core.newest < number → is_full (reservations_in core) quota ≡ false → CanBeAdmitted parts number quota
+pub can-be-admitted : {parts : Parts} (number : ℕ) (quota : ReserveOf) {core : CoreState} → IsStored parts → shared_of parts ≡ core → core.newest < number → is_full (reservations_in core) quota ≡ false → CanBeAdmitted parts number quota
 can-be-admitted number quota stored is above not_full = grind (arith, newer-missing, nobodys, reservations-found, length-numbers)
 
 -- what an admission was told by the table and the book
-pub record IsAdmitted (parts : Parts) (trees : Trees) (job_list : JobListOf) (book : Reservations) (number : ℕ) (quota : Quota) : Type 0 where
+pub record IsAdmitted (parts : Parts) (trees : Trees) (job_list : JobListOf) (book : Reservations) (number : ℕ) (quota : ReserveOf) : Type 0 where
   pub newer : parts.newest < number
   pub within : number ≤ 2 ^ 62
   pub places : places_of trees number ≡ quota.segments
@@ -61,7 +61,7 @@ tenants-pushed parts after newest number account (entry ∷ entries) most newer 
     rw (others entry.0 entry.1 (λ e. omega (arith, e, most.0, newer)), tenants-pushed parts after newest number account entries most.1 newer others) refl
 
 -- after an admission the new account stands behind all others
-module _ {parts : Parts} {trees : Trees} {job_list : JobListOf} {book : Reservations} {number : ℕ} {quota : Quota} (stored : IsStored parts)
+module _ {parts : Parts} {trees : Trees} {job_list : JobListOf} {book : Reservations} {number : ℕ} {quota : ReserveOf} (stored : IsStored parts)
     (is : IsAdmitted parts trees job_list book number quota) where
   accounts-after : book.accounts ≡ parts.book.accounts ++ (number, fresh quota) ∷ []
   accounts-after = grind (arith, new-last)
@@ -113,7 +113,7 @@ module _ {parts : Parts} {trees : Trees} {job_list : JobListOf} {book : Reservat
 -- A tenant's reservation is raised: its account and its places, and nothing else.
 
 -- what can be raised
-pub record CanBeRaised (parts : Parts) (number : ℕ) (quota : Quota) : Type 0 where
+pub record CanBeRaised (parts : Parts) (number : ℕ) (quota : ReserveOf) : Type 0 where
   pub account : Account
   pub there : Owns parts number account
   pub above : IsAbove account.reserve quota
@@ -121,12 +121,12 @@ pub record CanBeRaised (parts : Parts) (number : ℕ) (quota : Quota) : Type 0 w
   pub places : places_of parts.trees number ≡ account.reserve.segments
   pub some : 1 ≤ account.reserve.segments
 
-pub can-be-raised : {parts : Parts} (number : ℕ) (quota : Quota) {core : CoreState} → IsStored parts → shared_of parts ≡ core → IsAboveOwn (tenant_in core.tenants number) quota →
+pub can-be-raised : {parts : Parts} (number : ℕ) (quota : ReserveOf) {core : CoreState} → IsStored parts → shared_of parts ≡ core → IsAboveOwn (tenant_in core.tenants number) quota →
     is_beyond (reservations_in core) (reserved_by (tenant_in core.tenants number)) quota ≡ false → CanBeRaised parts number quota
 can-be-raised {parts} number quota stored is own_above own_room = grind (arith, tenant-found, reservations-found, within-reserve)
 
 -- what was told by the table and the book
-pub record IsRaised (parts : Parts) (trees : Trees) (book : Reservations) (number : ℕ) (quota : Quota) : Type 0 where
+pub record IsRaised (parts : Parts) (trees : Trees) (book : Reservations) (number : ℕ) (quota : ReserveOf) : Type 0 where
   pub can : CanBeRaised parts number quota
   pub places : places_of trees number ≡ quota.segments
   pub frames : frames_of trees number ≡ frames_of parts.trees number
@@ -140,7 +140,7 @@ abbrev pub with_more : Parts → Trees → Reservations → Parts
 with_more parts trees book = record parts { trees = trees; book = book }
 
 -- a raise changes no frames, and no account but the tenant's
-module _ {parts : Parts} {trees : Trees} {book : Reservations} {number : ℕ} (quota : Quota) (stored : IsStored parts) where
+module _ {parts : Parts} {trees : Trees} {book : Reservations} {number : ℕ} (quota : ReserveOf) (stored : IsStored parts) where
   raised-frames : IsRaised parts trees book number quota → (other : ℕ) → frames_of trees other ≡ frames_of parts.trees other
   raised-frames is other = grind arith
 

@@ -1,6 +1,6 @@
 -- Representation: what the core's store tells of its core, beside the views of a core.
 use Rattle.std.specs.Prelude.{◌≡◌, ℕ, ◌+◌, ◌≤◌, Bool, true, false, not, ◌||◌, List, [], ◌∷◌, Option, Some, None, IsSomeAnd}
-use Rattle.tenant_quota.specs.Quota.{Quota}
+use Rattle.tenant_quota.specs.Reserves.{ReserveOf}
 use Rattle.frame_table.specs.declared.names.FrameId.{FrameId}
 use Rattle.frame_table.specs.declared.names.State.{State}
 use Rattle.frame_table.specs.declared.names.State.TheVariants.{Running, Computing}
@@ -72,7 +72,7 @@ is_held (Computing worker) = true
 is_held _ = false
 
 -- the tenant is there, and this is a raise of what it reserves: more segments or nodes, and of neither less
-abbrev pub IsAboveOwn : Option Tenant → Quota → Type 0
+abbrev pub IsAboveOwn : Option Tenant → ReserveOf → Type 0
 IsAboveOwn None quota = ⊥
 IsAboveOwn (Some tenant) quota = is_lower tenant.reserve quota ≡ false
 

@@ -15,7 +15,7 @@ pub use Rattle.line_io.specs.declared.faults.WriteFailed.{WriteFailed}
 unfoldable pub use Rattle.othello_board.specs.Rules.{squares}
 pub use Rattle.othello_eval.specs.Tables.{IsTable}
 pub use Rattle.othello_eval.specs.declared.bound.Bound.{Bound}
-pub use Rattle.tenant_quota.specs.Quota.{Quota}
+pub use Rattle.tenant_quota.specs.Reserves.{ReserveOf}
 pub use Rattle.session.specs.Asks.{AllTrue, Asked, KeepsAsks, SaysTrue, ShowsFound, asked_at, asks_after, with_call}
 pub use Rattle.session.specs.Calls.{Call, Get, Gone, Hello, Job, OfficeReply, Told, Welcome}
 pub use Rattle.session.specs.DoneLines.{EachDoneIsTrue, ReplyHolds, StandingHolds, TableHolds, TableReplyHolds, TrueSession, asks_of_lines, with_request}

@@ -1,5 +1,5 @@
 -- A session's DONE and TABLE lines: true replies of its office make true lines.
-use Rattle.session.proofs.Common.{◌≡◌, ℕ, ◌+◌, List, [], ◌∷◌, ◌++◌, length, Bool, true, false, Option, Some, None, refl, sym, ap, ◌∙◌, LineText, Whole, TooLong, Quota, Standing, Pending, Done, Call, Hello, Get, OfficeReply, Welcome, Job, Told, Gone, AtFirst, LineCommand, line_command, Request, Fault, Makes, Tabulates, Ends, request, command_request, quota_request, Faulted, Closed, turns, turn_text, reply_text, table_text, calls_in, leaving, next_reply, later_replies, seated_after, calls_for, Asked, asked_at, with_call, asks_after, SaysTrue, ShowsFound, AllTrue, with_request, asks_of_lines, StandingHolds, ReplyHolds, TableHolds, TableReplyHolds, EachDoneIsTrue}
+use Rattle.session.proofs.Common.{◌≡◌, ℕ, ◌+◌, List, [], ◌∷◌, ◌++◌, length, Bool, true, false, Option, Some, None, refl, sym, ap, ◌∙◌, LineText, Whole, TooLong, ReserveOf, Standing, Pending, Done, Call, Hello, Get, OfficeReply, Welcome, Job, Told, Gone, AtFirst, LineCommand, line_command, Request, Fault, Makes, Tabulates, Ends, request, command_request, quota_request, Faulted, Closed, turns, turn_text, reply_text, table_text, calls_in, leaving, next_reply, later_replies, seated_after, calls_for, Asked, asked_at, with_call, asks_after, SaysTrue, ShowsFound, AllTrue, with_request, asks_of_lines, StandingHolds, ReplyHolds, TableHolds, TableReplyHolds, EachDoneIsTrue}
 use Rattle.session.proofs.Served.{next_turns}
 
 -- lines with their answers, the last first
@@ -13,7 +13,7 @@ EmptyWithout false asks = asks ≡ []
 
 -- what a line asks for that makes a call
 module _ (asks : List Asked) (call : Call) where
-  hello-same : (quota : Option Quota) → quota_request Hello quota ≡ Makes call → asks ≡ with_call asks call
+  hello-same : (quota : Option ReserveOf) → quota_request Hello quota ≡ Makes call → asks ≡ with_call asks call
   hello-same None h = cc h
   hello-same (Some quota) h = ap (with_request asks) h
 
@@ -34,7 +34,7 @@ module _ (asks : List Asked) (call : Call) where
 
 -- a table is asked for where a tenant is there, and its line asks for no position
 module _ (job : ℕ) where
-  no-early-hello : (quota : Option Quota) → quota_request Hello quota ≡ Tabulates job → ⊥
+  no-early-hello : (quota : Option ReserveOf) → quota_request Hello quota ≡ Tabulates job → ⊥
   no-early-hello None h = cc h
   no-early-hello (Some quota) h = cc h
 

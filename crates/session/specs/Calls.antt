@@ -2,7 +2,7 @@
 use Rattle.std.specs.Prelude.{ℕ, List, Result, Ok, Err}
 use Rattle.othello_board.specs.declared.cells.Cell.{Cell}
 use Rattle.othello_board.specs.declared.position_text.positions.Side.{Side}
-use Rattle.tenant_quota.specs.Quota.{Quota}
+use Rattle.tenant_quota.specs.Reserves.{ReserveOf}
 use Rattle.tenant_quota.specs.declared.account.Left.{Left}
 use Rattle.sched_rules.specs.declared.refusal.Refusal.{Refusal}
 use Rattle.sched_rules.specs.Refusals.{refusal_number}
@@ -11,8 +11,8 @@ use Rattle.session.specs.declared.standings.Live.{Live}
 
 -- a call that a session makes of its office
 pub data Call : Type 0 where
-  Hello : (quota : Quota) → Call
-  Reserve : (quota : Quota) → Call
+  Hello : (quota : ReserveOf) → Call
+  Reserve : (quota : ReserveOf) → Call
   Ask : (depth : ℕ) (board : List Cell) (side : Side) → Call
   Get : (job : ℕ) → Call
   Wait : (job : ℕ) → Call
@@ -25,8 +25,8 @@ pub data Call : Type 0 where
 -- number of a new job, how a job stands (Told), that a job is cancelled (Ended), what is left (Rest), how many frames
 -- and words there are (Alive), that the tenant has left (Gone), or the number of a refusal
 pub data OfficeReply : Type 0 where
-  Welcome : (quota : Quota) → OfficeReply
-  Reserved : (quota : Quota) → OfficeReply
+  Welcome : (quota : ReserveOf) → OfficeReply
+  Reserved : (quota : ReserveOf) → OfficeReply
   Job : (number : ℕ) → OfficeReply
   Told : (job : ℕ) (standing : Standing) → OfficeReply
   Ended : (job : ℕ) → OfficeReply

@@ -9,7 +9,7 @@ use Rattle.protocol.specs.declared.faults.ProtocolFault.{ProtocolFault}
 use Rattle.protocol.specs.declared.faults.ProtocolFault.TheVariants.{NoCommand, LongLine, NoNumber, NoHello, HelloAgain}
 use Rattle.protocol.specs.Questions.{QuestionOf, question}
 use Rattle.protocol.specs.Words.{split_at_space, word_number}
-use Rattle.tenant_quota.specs.Quota.{Quota}
+use Rattle.tenant_quota.specs.Reserves.{ReserveOf}
 use Rattle.session.specs.Calls.{Call, Hello, Reserve, Ask, Get, Wait, Cancel, AskQuota, AskLive}
 
 -- what a line asks for: nothing, as it has a fault; a call of the office whose reply is told; a Get whose reply is told
@@ -30,14 +30,14 @@ abbrev pub is_within_limits : ℕ → ℕ → Bool
 is_within_limits segments nodes = nat_le 1 segments && nat_le segments 4096 && nat_le 1 nodes && nat_le nodes 65536
 
 -- the amounts of segments and nodes that a line HELLO or RESERVE says; None unless both are numbers within the limits
-abbrev pub quota_of : Option ℕ → Option ℕ → Option Quota
+abbrev pub quota_of : Option ℕ → Option ℕ → Option ReserveOf
 quota_of None nodes = None
 quota_of (Some segments) None = None
 quota_of (Some segments) (Some nodes) = if is_within_limits segments nodes then Some (record { segments = segments; nodes = nodes }) else None
 
 -- what a line HELLO or RESERVE asks for: this call with the reservation that it says; fault 23 where an amount is no
 -- number or outside the limits
-abbrev pub quota_request : (Quota → Call) → Option Quota → Request
+abbrev pub quota_request : (ReserveOf → Call) → Option ReserveOf → Request
 quota_request call None = Fault NoNumber
 quota_request call (Some quota) = Makes (call quota)
 
@@ -49,7 +49,7 @@ job_request asked (Some job) = asked job
 -- a line's command, by when it may come: HELLO with the amounts that it says (None where it says none), before a tenant is there; any other with what
 -- it asks for, once one is there; and BYE always
 pub data LineCommand : Type 0 where
-  AtFirst : (quota : Option Quota) → LineCommand
+  AtFirst : (quota : Option ReserveOf) → LineCommand
   OnceSeated : (asked : Request) → LineCommand
   AtAnyTime : LineCommand
 

@@ -1,5 +1,5 @@
 -- What the calls of the book of a site's customers leave in its fields.
-use Rattle.site_book.proofs.Common.{◌≡◌, ℕ, ◌<◌, ◌≤◌, Bool, true, false, cond, List, [], ◌∷◌, ◌++◌, length, get_or, set, Option, Some, None, Result, Ok, is_ok, refl, ap, sym, ◌∙◌, subst, inl, inr, arith, if◌then◌else◌, IfNone, cases_lt, remove, Quota, Amount, Grant, Group, All, BookRefusal, Gone, Lower, Who, nothing, of_one, plus, minus, IsAmountWithin, PlanOf, is_in, used, grant_place, grant_of, grants_without, grants_raised, is_no_raise, BookOf, why_over, why_no_raise, why_not_replan, IsKept}
+use Rattle.site_book.proofs.Common.{◌≡◌, ℕ, ◌<◌, ◌≤◌, Bool, true, false, cond, List, [], ◌∷◌, ◌++◌, length, get_or, set, Option, Some, None, Result, Ok, is_ok, refl, ap, sym, ◌∙◌, subst, inl, inr, arith, if◌then◌else◌, IfNone, cases_lt, remove, ReserveOf, Amount, Grant, Group, All, BookRefusal, Gone, Lower, Who, nothing, of_one, plus, minus, IsAmountWithin, PlanOf, is_in, used, grant_place, grant_of, grants_without, grants_raised, is_no_raise, BookOf, why_over, why_no_raise, why_not_replan, IsKept}
 use Rattle.site_book.proofs.GrantLemmas.{IsPlace, place-is, place-none, without-none, used-removed}
 use Rattle.site_book.proofs.Keepings.{kept-open, kept-raise, kept-replan}
 use Rattle.site_book.proofs.RunLemmas.{room-open, room-raise}
@@ -10,7 +10,7 @@ module _ (who : Who) (session : ℕ) where
   pub place-there : (gs : List Grant) → (grant_of who session gs ≡ None → ⊥) → grant_place who session gs < length gs
   place-there gs some = elim (cases_lt (grant_place who session gs) (length gs)) [ inl less ↦ less | inr past ↦ absurd (some (place-none who session gs past)) ]
 
-  pub length-with-ask : (ask : Quota) (gs : List Grant) → length (grants_raised who session ask gs) ≡ length gs
+  pub length-with-ask : (ask : ReserveOf) (gs : List Grant) → length (grants_raised who session ask gs) ≡ length gs
   length-with-ask ask [] = refl
   length-with-ask ask (g ∷ gs) = grind (arith, length-with-ask ask gs)
 
@@ -27,7 +27,7 @@ module _ (gs read : List Grant) (who : Who) (session i : ℕ) (same : read ≡ g
   pub removed-list : i < length gs → remove gs i ≡ grants_without who session gs
   removed-list less = (at-place less).removed
 
-  pub raised-list : (held : Grant) (ask : Quota) → i < length gs → held ≡ get_or gs i held → set gs i (record held { ask = ask }) ≡ grants_raised who session ask gs
+  pub raised-list : (held : Grant) (ask : ReserveOf) → i < length gs → held ≡ get_or gs i held → set gs i (record held { ask = ask }) ≡ grants_raised who session ask gs
   raised-list held ask less at = (at-place less).written held ask at
 
   -- where there is none
@@ -60,18 +60,18 @@ module _ (plan : PlanOf) (gs : List Grant) (book : BookOf) (view : viewed plan g
 
   -- where it keeps the grants, it keeps them after a session or a raise that isn't refused
   module _ (kept : IsKept plan gs) where
-    pub opened : (who : Who) (session : ℕ) (ask : Quota) → why_over book.plan who ask book.grants ≡ None → IsKept plan (gs ++ record { who = who; session = session; ask = ask } ∷ [])
+    pub opened : (who : Who) (session : ℕ) (ask : ReserveOf) → why_over book.plan who ask book.grants ≡ None → IsKept plan (gs ++ record { who = who; session = session; ask = ask } ∷ [])
     opened who session ask none = kept-open plan gs who session ask kept (subst (λ (b : BookOf). why_over b.plan who ask b.grants ≡ None) (sym view) none)
 
-    pub raised : (who : Who) (session : ℕ) (ask : Quota) → why_no_raise book.plan who session ask book.grants (grant_of who session book.grants) ≡ None → IsKept plan (grants_raised who session ask gs)
+    pub raised : (who : Who) (session : ℕ) (ask : ReserveOf) → why_no_raise book.plan who session ask book.grants (grant_of who session book.grants) ≡ None → IsKept plan (grants_raised who session ask gs)
     raised who session ask none = grind (arith, kept-raise)
 
     -- the hall has room for what isn't refused
 
-    pub opens-room : (who : Who) (ask : Quota) (why : Option BookRefusal) → why ≡ why_over book.plan who ask book.grants → IfNone why (IsAmountWithin (plus (of_one ask) (used All book.grants)) book.plan.totals)
+    pub opens-room : (who : Who) (ask : ReserveOf) (why : Option BookRefusal) → why ≡ why_over book.plan who ask book.grants → IfNone why (IsAmountWithin (plus (of_one ask) (used All book.grants)) book.plan.totals)
     opens-room who ask why is = grind (arith, room-open)
 
-    pub raises-room : (who : Who) (session : ℕ) (ask : Quota) (why : Option BookRefusal) → why ≡ why_no_raise book.plan who session ask book.grants (grant_of who session book.grants) →
+    pub raises-room : (who : Who) (session : ℕ) (ask : ReserveOf) (why : Option BookRefusal) → why ≡ why_no_raise book.plan who session ask book.grants (grant_of who session book.grants) →
         IfNone why (IsAmountWithin (plus (of_one ask) (used All (grants_without who session book.grants))) book.plan.totals)
     raises-room who session ask why is = grind (arith, room-raise)
 
@@ -84,11 +84,11 @@ pushed-is r u l more es is pushed = pushed ∙ ap (λ x. if is_ok x then more el
 
 -- why a session isn't raised, by the tests in their order
 
-abbrev raise_by : PlanOf → Who → ℕ → Quota → List Grant → Bool → Option BookRefusal
+abbrev raise_by : PlanOf → Who → ℕ → ReserveOf → List Grant → Bool → Option BookRefusal
 raise_by plan who session ask gs lower = cond lower (Some Lower) (why_over plan who ask (grants_without who session gs))
 
 -- why a raise is refused, by the grant that was found, or its place
-module _ (plan : PlanOf) (who : Who) (session : ℕ) (ask : Quota) (gs : List Grant) where
+module _ (plan : PlanOf) (who : Who) (session : ℕ) (ask : ReserveOf) (gs : List Grant) where
   pub raise-is : (held : Grant) (lower : Bool) → grant_of who session gs ≡ Some held → is_no_raise held.ask ask ≡ lower → raise_by plan who session ask gs lower ≡ why_no_raise plan who session ask gs (grant_of who session gs)
   raise-is held lower is low = sym (ap (why_no_raise plan who session ask gs) is ∙ ap (raise_by plan who session ask gs) low)
 

@@ -1,5 +1,5 @@
 -- The book of a site's customers refuses nothing exactly where everything that is needed is left.
-use Rattle.site_book.proofs.Common.{◌≡◌, ℕ, true, false, List, Some, None, refl, arith, ltb-false, le-ltb, eqb-false, eq-eqb, ne_eqb, or_parts, or_from, and_right, and_parts, and_from, Quota, IsAbove, Grant, Group, Own, Network, Guests, All, Who, same_who, is_guest, network_of, of_one, plus, IsAmountWithin, PlanOf, limit_of, is_in, used, grants_without, is_no_raise, is_beyond_part, why_over, why_no_raise, HasBudgetFor, MayGrow}
+use Rattle.site_book.proofs.Common.{◌≡◌, ℕ, true, false, List, Some, None, refl, arith, ltb-false, le-ltb, eqb-false, eq-eqb, ne_eqb, or_parts, or_from, and_right, and_parts, and_from, ReserveOf, IsAbove, Grant, Group, Own, Network, Guests, All, Who, same_who, is_guest, network_of, of_one, plus, IsAmountWithin, PlanOf, limit_of, is_in, used, grants_without, is_no_raise, is_beyond_part, why_over, why_no_raise, HasBudgetFor, MayGrow}
 use Rattle.site_book.proofs.AmountLemmas.{within-test, test-within}
 use Rattle.site_book.proofs.NameLemmas.{same-is, is-same, in-own}
 
@@ -15,7 +15,7 @@ pub in-network : (who : Who) → is_guest who ≡ true → is_in (Network (netwo
 in-network who guest = and_from _ _ guest (is-same (network_of who))
 
 -- a session isn't refused exactly where each budget has room for it
-module _ (plan : PlanOf) (who : Who) (ask : Quota) (gs : List Grant) where
+module _ (plan : PlanOf) (who : Who) (ask : ReserveOf) (gs : List Grant) where
   within-part : (part : Group) → is_beyond_part plan part who ask (used part gs) ≡ false → is_in part who ≡ true → IsAmountWithin (plus (of_one ask) (used part gs)) (limit_of plan part)
   within-part part nay own = within-test _ _ (grind arith)
 
@@ -43,14 +43,14 @@ module _ (plan : PlanOf) (who : Who) (ask : Quota) (gs : List Grant) where
   passes has part is own = grind (arith, same-is, and_parts)
 
 -- a raise that asks for more is one, and no other
-module _ (now ask : Quota) where
+module _ (now ask : ReserveOf) where
   pub more-from : is_no_raise now ask ≡ false → IsAbove now ask
   more-from nay = grind (arith, or_parts, ltb-false, eq-eqb, eqb-false)
 
   more-to : IsAbove now ask → is_no_raise now ask ≡ false
   more-to more = grind (arith, or_from, le-ltb, ne_eqb, and_right)
 
-module _ (plan : PlanOf) (who : Who) (session : ℕ) (ask : Quota) (gs : List Grant) (held : Grant) where
+module _ (plan : PlanOf) (who : Who) (session : ℕ) (ask : ReserveOf) (gs : List Grant) (held : Grant) where
   -- what a raise that isn't refused has passed
   pub grow-from : why_no_raise plan who session ask gs (Some held) ≡ None → MayGrow plan who session ask gs held
   grow-from none = grind (arith, more-from, allowed)

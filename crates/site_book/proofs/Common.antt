@@ -9,7 +9,7 @@ pub use Rattle.std.proofs.lemmas.List.{length_push}
 pub use Rattle.std.specs.List.{remove}
 pub use Rattle.std.specs.Option.{is_none, is_some}
 pub use Rattle.std.specs.Prelude.{IfNone, if◌then◌else◌}
-pub use Rattle.tenant_quota.specs.Quota.{IsAbove, Quota}
+pub use Rattle.tenant_quota.specs.Reserves.{IsAbove, ReserveOf}
 pub use Rattle.site_book.specs.Allowed.{HasBudgetFor, MayGrow}
 pub use Rattle.site_book.specs.Amounts.{IsAmountWithin, is_amount_within, is_same, minus, nothing, of_one, plus, sum_of}
 pub use Rattle.site_book.specs.Books.{BookOf, answer_of_book, are_within, book_after, book_after_answer}

@@ -1,6 +1,6 @@
 -- In the book of a site's customers: what a new grant (a session's entry), a raise and an end leave of what some
 -- grants have together.
-use Rattle.site_book.proofs.Common.{◌≡◌, ℕ, suc, ◌<◌, ◌≤◌, Bool, true, false, ◌&&◌, ◌||◌, cond, List, [], ◌∷◌, ◌++◌, length, get_or, set, ltb, Some, None, refl, arith, nat_tests, is_some, remove, Quota, Amount, Grant, Group, All, Who, nothing, of_one, plus, IsAmountWithin, is_in, used_by, used, is_held_as, grant_place, grant_of, grants_without, grants_raised}
+use Rattle.site_book.proofs.Common.{◌≡◌, ℕ, suc, ◌<◌, ◌≤◌, Bool, true, false, ◌&&◌, ◌||◌, cond, List, [], ◌∷◌, ◌++◌, length, get_or, set, ltb, Some, None, refl, arith, nat_tests, is_some, remove, ReserveOf, Amount, Grant, Group, All, Who, nothing, of_one, plus, IsAmountWithin, is_in, used_by, used, is_held_as, grant_place, grant_of, grants_without, grants_raised}
 use Rattle.site_book.proofs.AmountLemmas.{plus-swap, plus-group, within-same, within-plus, within-more}
 
 module _ (test : Who → Bool) where
@@ -21,7 +21,7 @@ module _ (test : Who → Bool) where
     used-without-le [] = within-same nothing
     used-without-le (g ∷ gs) = grind (arith, used-without-le gs, within-more, within-same, within-plus)
 
-    module _ (ask : Quota) where
+    module _ (ask : ReserveOf) where
       -- the grant's own part, with another amount: that and all others
       pub used-with-ask : (gs : List Grant) (held : Grant) → grant_of who session gs ≡ Some held → test held.who ≡ true →
           used_by test (grants_raised who session ask gs) ≡ plus (of_one ask) (used_by test (grants_without who session gs))
@@ -46,7 +46,7 @@ used-all (g ∷ gs) = grind (arith, used-all gs)
 pub record IsPlace (who : Who) (session : ℕ) (gs : List Grant) (i : ℕ) : Type 0 where
   pub found : (held : Grant) → held ≡ get_or gs i held → grant_of who session gs ≡ Some held
   pub removed : remove gs i ≡ grants_without who session gs
-  pub written : (held : Grant) (ask : Quota) → held ≡ get_or gs i held → set gs i (record held { ask = ask }) ≡ grants_raised who session ask gs
+  pub written : (held : Grant) (ask : ReserveOf) → held ≡ get_or gs i held → set gs i (record held { ask = ask }) ≡ grants_raised who session ask gs
 
 -- a session's grant: how many there are without it, where it stands, and whether there is one
 module _ (who : Who) (session : ℕ) where

@@ -1,5 +1,5 @@
 -- In the book of a site's customers: what others do changes nothing for customers who share no budget with them.
-use Rattle.site_book.proofs.Common.{◌≡◌, ℕ, Bool, true, false, not, ◌&&◌, cond, List, [], ◌∷◌, Option, Some, None, refl, ap, sym, ◌∙◌, inl, inr, arith, cases_Bool, and_parts, and_from, is_none, Quota, Amount, Grant, Group, Own, Network, Guests, BookRefusal, OverBudget, OverNetwork, OverGuests, Lower, Who, Named, same_who, is_guest, network_of, of_one, plus, is_amount_within, PlanOf, limit_of, is_in, used, grants_without, is_no_raise, BookOf, BookEvent, Opens, Raises, Closes, Replans, first_refusal, why_over, why_no_raise, part_over, are_within, why_not_replan, answer_of_book, taken, book_after_answer, book_after, book_after_events, is_of, is_event_kept, only_events, answers_of, grants_of}
+use Rattle.site_book.proofs.Common.{◌≡◌, ℕ, Bool, true, false, not, ◌&&◌, cond, List, [], ◌∷◌, Option, Some, None, refl, ap, sym, ◌∙◌, inl, inr, arith, cases_Bool, and_parts, and_from, is_none, ReserveOf, Amount, Grant, Group, Own, Network, Guests, BookRefusal, OverBudget, OverNetwork, OverGuests, Lower, Who, Named, same_who, is_guest, network_of, of_one, plus, is_amount_within, PlanOf, limit_of, is_in, used, grants_without, is_no_raise, BookOf, BookEvent, Opens, Raises, Closes, Replans, first_refusal, why_over, why_no_raise, part_over, are_within, why_not_replan, answer_of_book, taken, book_after_answer, book_after, book_after_events, is_of, is_event_kept, only_events, answers_of, grants_of}
 use Rattle.site_book.proofs.NameLemmas.{same-is}
 use Rattle.site_book.proofs.BudgetLemmas.{IsPart}
 use Rattle.site_book.proofs.Keepings.{comes-in}
@@ -35,7 +35,7 @@ module _ (is_one : Who → Bool) where
       | inr nay ↦ rw nay refl
     ]
 
-    over-theirs : (plan : PlanOf) (who : Who) (ask : Quota) (gs : List Grant) → is_one who ≡ true → why_over plan who ask (grants_of is_one gs) ≡ why_over plan who ask gs
+    over-theirs : (plan : PlanOf) (who : Who) (ask : ReserveOf) (gs : List Grant) → is_one who ≡ true → why_over plan who ask (grants_of is_one gs) ≡ why_over plan who ask gs
     over-theirs plan who ask gs own =
         let same = λ (part : Group) (is : IsPart part). part-theirs part who gs (λ a. not (is_amount_within (plus (of_one ask) a) (limit_of plan part))) is own in
         λ i. first_refusal ((same (Own who) tt i, OverBudget) ∷ (same (Network (network_of who)) tt i, OverNetwork) ∷ (same Guests tt i, OverGuests) ∷ [])
@@ -57,7 +57,7 @@ module _ (is_one : Who → Bool) where
           | inr other ↦ rw other rest
         ]
 
-    raise-theirs : (plan : PlanOf) (who : Who) (session : ℕ) (ask : Quota) (gs : List Grant) (found : Option Grant) → is_one who ≡ true →
+    raise-theirs : (plan : PlanOf) (who : Who) (session : ℕ) (ask : ReserveOf) (gs : List Grant) (found : Option Grant) → is_one who ≡ true →
         why_no_raise plan who session ask (grants_of is_one gs) found ≡ why_no_raise plan who session ask gs found
     raise-theirs plan who session ask gs None own = refl
     raise-theirs plan who session ask gs (Some held) own =

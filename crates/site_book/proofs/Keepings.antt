@@ -1,5 +1,5 @@
 -- Each event in the book of a site's customers leaves all within their budgets.
-use Rattle.site_book.proofs.Common.{◌≡◌, ℕ, ◌≤◌, true, false, List, [], ◌∷◌, ◌++◌, length, Option, Some, None, refl, ap, ◌∙◌, inl, inr, ◌⊎◌, arith, cases_Bool, and_parts, and_from, and_right, is_none, Quota, Grant, Group, Own, Network, Guests, All, BookRefusal, Who, is_guest, network_of, nothing, IsAmountWithin, PlanOf, limit_of, sums_fit, is_in, used, grant_of, grants_without, grants_raised, BookOf, BookEvent, Opens, Raises, Closes, Replans, why_over, why_no_raise, is_over, part_over, are_within, why_not_replan, answer_of_book, taken, book_after_answer, book_after, HasBudgetFor, IsKept}
+use Rattle.site_book.proofs.Common.{◌≡◌, ℕ, ◌≤◌, true, false, List, [], ◌∷◌, ◌++◌, length, Option, Some, None, refl, ap, ◌∙◌, inl, inr, ◌⊎◌, arith, cases_Bool, and_parts, and_from, and_right, is_none, ReserveOf, Grant, Group, Own, Network, Guests, All, BookRefusal, Who, is_guest, network_of, nothing, IsAmountWithin, PlanOf, limit_of, sums_fit, is_in, used, grant_of, grants_without, grants_raised, BookOf, BookEvent, Opens, Raises, Closes, Replans, why_over, why_no_raise, is_over, part_over, are_within, why_not_replan, answer_of_book, taken, book_after_answer, book_after, HasBudgetFor, IsKept}
 use Rattle.site_book.proofs.AmountLemmas.{within-test, test-within, within-trans, within-nothing, same-is_same, same-self}
 use Rattle.site_book.proofs.NameLemmas.{same-is, in-own}
 use Rattle.site_book.proofs.GrantLemmas.{within-push, used-without-le, used-with-ask, used-with-ask-other, found-own, used-all}
@@ -27,7 +27,7 @@ module _ (plan : PlanOf) (gs : List Grant) where
 -- a plan keeps the grants after a session opens, is raised or closes
 module _ (plan : PlanOf) (gs : List Grant) (who : Who) (session : ℕ) where
   -- where it asks for so much
-  module _ (ask : Quota) where
+  module _ (ask : ReserveOf) where
     pub kept-open : IsKept plan gs → why_over plan who ask gs ≡ None → IsKept plan (gs ++ record { who = who; session = session; ask = ask } ∷ [])
     kept-open kept none =
         let has = allowed plan who ask gs none in

@@ -1,5 +1,5 @@
 -- What holds of the book of a site's customers after each list of events.
-use Rattle.site_book.proofs.Common.{◌≡◌, ℕ, true, List, [], ◌∷◌, ◌++◌, Option, Some, None, refl, ap, ◌∙◌, subst, arith, Quota, Amount, Grant, All, BookRefusal, Who, of_one, plus, IsAmountWithin, PlanOf, used, grant_of, grants_without, grants_raised, BookOf, BookEvent, why_over, why_no_raise, answer_of_book, book_after_answer, book_after, book_after_events, answers, Name, names_without, open_after, still_open, names_granted, IsKept}
+use Rattle.site_book.proofs.Common.{◌≡◌, ℕ, true, List, [], ◌∷◌, ◌++◌, Option, Some, None, refl, ap, ◌∙◌, subst, arith, ReserveOf, Amount, Grant, All, BookRefusal, Who, of_one, plus, IsAmountWithin, PlanOf, used, grant_of, grants_without, grants_raised, BookOf, BookEvent, why_over, why_no_raise, answer_of_book, book_after_answer, book_after, book_after_events, answers, Name, names_without, open_after, still_open, names_granted, IsKept}
 use Rattle.site_book.proofs.GrantLemmas.{used-push, used-with-ask}
 use Rattle.site_book.proofs.BudgetLemmas.{grow-from}
 use Rattle.site_book.proofs.Keepings.{comes-in, kept-after, kept-open, kept-grow}
@@ -19,10 +19,10 @@ totals-run book (event ∷ events) = totals-run (book_after book event) events �
 
 -- the hall has room for what the book grants
 module _ (plan : PlanOf) (gs : List Grant) (who : Who) where
-  pub room-open : (ask : Quota) → IsKept plan gs → why_over plan who ask gs ≡ None → IsAmountWithin (plus (of_one ask) (used All gs)) plan.totals
+  pub room-open : (ask : ReserveOf) → IsKept plan gs → why_over plan who ask gs ≡ None → IsAmountWithin (plus (of_one ask) (used All gs)) plan.totals
   room-open ask kept none = rw used-push at ((kept-open plan gs who 0 ask kept none).within All)
 
-  pub room-raise : (session : ℕ) (ask : Quota) (found : Option Grant) → IsKept plan gs → grant_of who session gs ≡ found → why_no_raise plan who session ask gs found ≡ None →
+  pub room-raise : (session : ℕ) (ask : ReserveOf) (found : Option Grant) → IsKept plan gs → grant_of who session gs ≡ found → why_no_raise plan who session ask gs found ≡ None →
       IsAmountWithin (plus (of_one ask) (used All (grants_without who session gs))) plan.totals
   room-raise session ask None kept is none = absurd cc
   room-raise session ask (Some held) kept is none =
@@ -41,7 +41,7 @@ module _ (who : Who) (session : ℕ) where
   names-without [] = refl
   names-without (g ∷ gs) = grind (arith, names-without gs)
 
-  pub names-with-ask : (ask : Quota) (gs : List Grant) → names_granted (grants_raised who session ask gs) ≡ names_granted gs
+  pub names-with-ask : (ask : ReserveOf) (gs : List Grant) → names_granted (grants_raised who session ask gs) ≡ names_granted gs
   names-with-ask ask [] = refl
   names-with-ask ask (g ∷ gs) = grind (arith, names-with-ask ask gs)
 

@@ -1,5 +1,5 @@
 -- What some customers of a site see of the grants in its book.
-use Rattle.site_book.proofs.Common.{◌≡◌, ℕ, Bool, true, false, List, [], ◌∷◌, ◌++◌, refl, arith, and_parts, Quota, Grant, Who, used_by, is_held_as, grant_of, grants_without, grants_raised, grants_of}
+use Rattle.site_book.proofs.Common.{◌≡◌, ℕ, Bool, true, false, List, [], ◌∷◌, ◌++◌, refl, arith, and_parts, ReserveOf, Grant, Who, used_by, is_held_as, grant_of, grants_without, grants_raised, grants_of}
 use Rattle.site_book.proofs.NameLemmas.{same-is}
 
 -- of their grants alone: what they use, and a grant more
@@ -31,7 +31,7 @@ module _ (is_one : Who → Bool) (who : Who) (session : ℕ) where
     without-theirs [] = refl
     without-theirs (g ∷ gs) = grind (arith, without-theirs gs, held-is)
 
-    pub with-ask-theirs : (ask : Quota) (gs : List Grant) → grants_of is_one (grants_raised who session ask gs) ≡ grants_raised who session ask (grants_of is_one gs)
+    pub with-ask-theirs : (ask : ReserveOf) (gs : List Grant) → grants_of is_one (grants_raised who session ask gs) ≡ grants_raised who session ask (grants_of is_one gs)
     with-ask-theirs ask [] = refl
     with-ask-theirs ask (g ∷ gs) = grind (arith, with-ask-theirs ask gs, held-is)
 
@@ -41,6 +41,6 @@ module _ (is_one : Who → Bool) (who : Who) (session : ℕ) where
     without-others [] = refl
     without-others (g ∷ gs) = grind (arith, without-others gs, held-is)
 
-    pub with-ask-others : (ask : Quota) (gs : List Grant) → grants_of is_one (grants_raised who session ask gs) ≡ grants_of is_one gs
+    pub with-ask-others : (ask : ReserveOf) (gs : List Grant) → grants_of is_one (grants_raised who session ask gs) ≡ grants_of is_one gs
     with-ask-others ask [] = refl
     with-ask-others ask (g ∷ gs) = grind (arith, with-ask-others ask gs, held-is)

@@ -1,6 +1,6 @@
 -- Meaning: amounts of a site's sessions, segments and nodes, compared and added one by one.
 use Rattle.std.specs.Prelude.{◌+◌, ◌-◌, ◌≤◌, ◌==◌, ◌&&◌, Bool, nat_le, List, [], ◌∷◌}
-use Rattle.tenant_quota.specs.Quota.{Quota}
+use Rattle.tenant_quota.specs.Reserves.{ReserveOf}
 use Rattle.site_book.specs.declared.amount.Amount.{Amount}
 
 -- the amount of no session: no segments and no nodes
@@ -8,7 +8,7 @@ abbrev pub nothing : Amount
 nothing = record { sessions = 0; segments = 0; nodes = 0 }
 
 -- the amount of a single session with this reservation
-abbrev pub of_one : Quota → Amount
+abbrev pub of_one : ReserveOf → Amount
 of_one ask = record { sessions = 1; segments = ask.segments; nodes = ask.nodes }
 
 -- two amounts together

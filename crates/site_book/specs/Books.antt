@@ -1,6 +1,6 @@
 -- Meaning: what the book of a site's customers holds, why it refuses what it is asked for, and what comes of it.
 use Rattle.std.specs.Prelude.{ℕ, Bool, true, not, ◌&&◌, is_none, List, [], ◌∷◌, ◌++◌, Option, Some, None, if◌then◌else◌}
-use Rattle.tenant_quota.specs.Quota.{Quota}
+use Rattle.tenant_quota.specs.Reserves.{ReserveOf}
 use Rattle.site_book.specs.declared.amount.Amount.{Amount}
 use Rattle.site_book.specs.declared.event.BookEvent.{BookEvent}
 use Rattle.site_book.specs.declared.event.BookEvent.TheVariants.{Opens, Raises, Closes, Replans}
@@ -32,21 +32,21 @@ first_refusal (test ∷ tests) = if test.0 then Some test.1 else first_refusal t
 
 -- whether a part of the customers (one customer, a network's guests, all guests, or all) would have more than it may
 -- have, if this customer had so much more; no where the customer isn't one of the part
-abbrev pub is_beyond_part : PlanOf → Group → Who → Quota → Amount → Bool
+abbrev pub is_beyond_part : PlanOf → Group → Who → ReserveOf → Amount → Bool
 is_beyond_part plan part who ask has = is_in part who && not (is_amount_within (plus (of_one ask) has) (limit_of plan part))
 
 -- why so much more is beyond the customer's own budget, its wider network's or all guests', which have these amounts
 -- already; the first in this order, None where it is within all three
-abbrev pub why_beyond : PlanOf → Who → Quota → Amount → Amount → Amount → Option BookRefusal
+abbrev pub why_beyond : PlanOf → Who → ReserveOf → Amount → Amount → Amount → Option BookRefusal
 why_beyond plan who ask own network guests =
     first_refusal ((is_beyond_part plan (Own who) who ask own, OverBudget) ∷ (is_beyond_part plan (Network (network_of who)) who ask network, OverNetwork) ∷ (is_beyond_part plan Guests who ask guests, OverGuests) ∷ [])
 
 -- why a customer isn't granted so much more beside these grants; None where it is granted
-abbrev pub why_over : PlanOf → Who → Quota → List Grant → Option BookRefusal
+abbrev pub why_over : PlanOf → Who → ReserveOf → List Grant → Option BookRefusal
 why_over plan who ask grants = why_beyond plan who ask (used (Own who) grants) (used (Network (network_of who)) grants) (used Guests grants)
 
 -- why a session isn't raised: it isn't there, it isn't raised by this, or with what it has then a budget is passed
-abbrev pub why_no_raise : PlanOf → Who → ℕ → Quota → List Grant → Option Grant → Option BookRefusal
+abbrev pub why_no_raise : PlanOf → Who → ℕ → ReserveOf → List Grant → Option Grant → Option BookRefusal
 why_no_raise plan who session ask grants None = Some Gone
 why_no_raise plan who session ask grants (Some held) = if is_no_raise held.ask ask then Some Lower else why_over plan who ask (grants_without who session grants)
 

@@ -1,6 +1,6 @@
 -- Meaning: what comes of one who asks a site for a session, and who has to end for another plan.
 use Rattle.std.specs.Prelude.{ℕ, List, [], ◌∷◌, ◌++◌, Bool, ◌&&◌, is_none, Option, Some, None, if◌then◌else◌}
-use Rattle.tenant_quota.specs.Quota.{Quota}
+use Rattle.tenant_quota.specs.Reserves.{ReserveOf}
 use Rattle.site_book.specs.declared.held.Grant.{Grant}
 use Rattle.site_book.specs.declared.refusal.BookRefusal.{BookRefusal}
 use Rattle.site_book.specs.declared.refusal.BookRefusal.TheVariants.{OverGuests}
@@ -40,7 +40,7 @@ by_book None staying why idle = Enters
 by_book (Some refusal) staying why idle = if_refused refusal staying why idle
 
 -- one who asks for a session with this reservation at this time, where a guest may be silent for so many milliseconds
-abbrev pub comer_of : Who → Quota → ℕ → ℕ → Comer
+abbrev pub comer_of : Who → ReserveOf → ℕ → ℕ → Comer
 comer_of who ask at most = record { who = who; ask = ask; at = at; most = most }
 
 -- what comes of one who asks for a session: it enters where the book allows it; it waits for those who were told to end, where they leave

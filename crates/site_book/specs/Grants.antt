@@ -1,7 +1,7 @@
 -- Meaning: the grants that are out in the book of a site's customers (an entry for each session), and what some of
 -- them have together.
 use Rattle.std.specs.Prelude.{ℕ, suc, ◌==◌, Bool, true, ◌&&◌, ◌||◌, nat_lt, List, [], ◌∷◌, Option, Some, None, if◌then◌else◌}
-use Rattle.tenant_quota.specs.Quota.{Quota}
+use Rattle.tenant_quota.specs.Reserves.{ReserveOf}
 use Rattle.site_book.specs.declared.amount.Amount.{Amount}
 use Rattle.site_book.specs.declared.held.Grant.{Grant}
 use Rattle.site_book.specs.declared.held.Group.{Group}
@@ -46,10 +46,10 @@ grants_without who session [] = []
 grants_without who session (held ∷ grants) = if is_held_as who session held then grants else held ∷ grants_without who session grants
 
 -- the grants, once the first of this session reserves this
-abbrev pub grants_raised : Who → ℕ → Quota → List Grant → List Grant
+abbrev pub grants_raised : Who → ℕ → ReserveOf → List Grant → List Grant
 grants_raised who session ask [] = []
 grants_raised who session ask (held ∷ grants) = if is_held_as who session held then record held { ask = ask } ∷ grants else held ∷ grants_raised who session ask grants
 
 -- whether a second reservation is no raise of the first: less in segments or nodes, or the same in both
-abbrev pub is_no_raise : Quota → Quota → Bool
+abbrev pub is_no_raise : ReserveOf → ReserveOf → Bool
 is_no_raise now ask = nat_lt ask.segments now.segments || nat_lt ask.nodes now.nodes || ((ask.segments == now.segments) && (ask.nodes == now.nodes))

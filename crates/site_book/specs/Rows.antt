@@ -1,6 +1,6 @@
 -- Representation: a site's small hall, and events in the book of its customers, on which the definitions are tried.
 use Rattle.std.specs.Prelude.{ℕ, List, [], ◌∷◌, map, Option}
-use Rattle.tenant_quota.specs.Quota.{Quota}
+use Rattle.tenant_quota.specs.Reserves.{ReserveOf}
 use Rattle.site_book.specs.declared.amount.Amount.{Amount}
 use Rattle.site_book.specs.declared.refusal.BookRefusal.{BookRefusal}
 use Rattle.site_book.specs.declared.who.Who.{Who}
@@ -18,7 +18,7 @@ abbrev pub amount : ℕ → ℕ → ℕ → Amount
 amount sessions segments nodes = record { sessions = sessions; segments = segments; nodes = nodes }
 
 -- a reservation of so many segments and nodes
-abbrev pub ask : ℕ → ℕ → Quota
+abbrev pub ask : ℕ → ℕ → ReserveOf
 ask segments nodes = record { segments = segments; nodes = nodes }
 
 -- a hall of 4 sessions, 40 segments and 400 nodes, with one named customer, and guests that may have a session each, of 5 segments and 50

@@ -1,7 +1,7 @@
 //! Laws on the book of a site's customers: what follows for every list of events on a new one, and of all grants and
 //! sessions. A function here does nothing: its contract is the law.
 ghost use Rattle.std.specs.Prelude.{◌≡◌, ◌+◌, ◌≤◌, ◌↔◌, ℕ, length, List, [], Some, None, Bool, true, IsTrue, ◌≢◌, ◌-◌, ◌<◌, false, Contains};
-ghost use Rattle.tenant_quota.specs.Quota.{Quota};
+ghost use Rattle.tenant_quota.specs.Reserves.{ReserveOf};
 ghost use Rattle.site_book.specs.declared.held.Grant.{Grant};
 ghost use Rattle.site_book.specs.declared.held.Group.{Group};
 ghost use Rattle.site_book.specs.declared.held.Group.TheVariants.{All};
@@ -27,9 +27,9 @@ ghost use Rattle.site_book.specs.Comings.{coming, told_by, comer_of};
 /// of its wider network and of all guests allow it.
 #[tactic(auto, using(crate::proofs::Rules::a_refusal_is_ones_own_rules))]
 pub fn a_refusal_is_ones_own()
-    ensures opens { (plan : PlanOf) (who : Who) (ask : Quota) (grants : List Grant) →
+    ensures opens { (plan : PlanOf) (who : Who) (ask : ReserveOf) (grants : List Grant) →
         ((why_over plan who ask grants ≡ None) ↔ HasBudgetFor plan who ask grants) }
-    ensures raises { (plan : PlanOf) (who : Who) (session : ℕ) (ask : Quota) (grants : List Grant) (held : Grant) → grant_of who session grants ≡ Some held →
+    ensures raises { (plan : PlanOf) (who : Who) (session : ℕ) (ask : ReserveOf) (grants : List Grant) (held : Grant) → grant_of who session grants ≡ Some held →
         ((why_no_raise plan who session ask grants (grant_of who session grants) ≡ None) ↔ MayGrow plan who session ask grants held) }
 {}
 
@@ -47,10 +47,10 @@ pub fn nobody_is_over_budget()
 /// with it are within the hall's totals.
 #[tactic(auto, using(crate::proofs::Rules::the_hall_has_room_rules))]
 pub fn the_hall_has_room()
-    ensures opens { (plan : PlanOf) (events : List BookEvent) → IsTrue (sums_fit plan) → (who : Who) (ask : Quota) →
+    ensures opens { (plan : PlanOf) (events : List BookEvent) → IsTrue (sums_fit plan) → (who : Who) (ask : ReserveOf) →
         let book = book_after_events (new_book plan) events in
         why_over book.plan who ask book.grants ≡ None → IsAmountWithin (plus (of_one ask) (used All book.grants)) plan.totals }
-    ensures raises { (plan : PlanOf) (events : List BookEvent) → IsTrue (sums_fit plan) → (who : Who) (session : ℕ) (ask : Quota) →
+    ensures raises { (plan : PlanOf) (events : List BookEvent) → IsTrue (sums_fit plan) → (who : Who) (session : ℕ) (ask : ReserveOf) →
         let book = book_after_events (new_book plan) events in
         why_no_raise book.plan who session ask book.grants (grant_of who session book.grants) ≡ None →
         IsAmountWithin (plus (of_one ask) (used All (grants_without who session book.grants))) plan.totals }
@@ -88,16 +88,16 @@ pub fn all_comes_back()
 /// Who comes enters exactly where the book allows it, whoever is idle.
 #[tactic(auto, using(crate::proofs::ComingLemmas::only_enters))]
 pub fn who_has_budget_enters()
-    ensures enters { (plan : PlanOf) (grants : List Grant) (roll : List Present) (who : Who) (ask : Quota) (now most : ℕ) →
+    ensures enters { (plan : PlanOf) (grants : List Grant) (roll : List Present) (who : Who) (ask : ReserveOf) (now most : ℕ) →
         why_over plan who ask grants ≡ None → coming plan grants roll (comer_of who ask now most) ≡ Enters }
-    ensures only { (plan : PlanOf) (grants : List Grant) (roll : List Present) (who : Who) (ask : Quota) (now most : ℕ) →
+    ensures only { (plan : PlanOf) (grants : List Grant) (roll : List Present) (who : Who) (ask : ReserveOf) (now most : ℕ) →
         coming plan grants roll (comer_of who ask now most) ≡ Enters → why_over plan who ask grants ≡ None }
 {}
 
 /// No session of a named customer goes for another's, and no guest's that isn't idle: one that is to end for one who comes is a guest's,
 /// waits for no job, wasn't told to end before and has said nothing for longer than a guest may.
 pub fn only_idle_guests_go_for_another()
-    ensures { (plan : PlanOf) (grants : List Grant) (roll : List Present) (who : Who) (ask : Quota) (now most session : ℕ) (refusal : BookRefusal) →
+    ensures { (plan : PlanOf) (grants : List Grant) (roll : List Present) (who : Who) (ask : ReserveOf) (now most session : ℕ) (refusal : BookRefusal) →
         coming plan grants roll (comer_of who ask now most) ≡ Ends session refusal →
         (present : Present) × Contains roll present × (present.session ≡ session) × (is_guest present.who ≡ true) × (present.told ≡ None) × (present.waits ≡ false) × (most < now - present.last) }
 {}
@@ -105,11 +105,11 @@ pub fn only_idle_guests_go_for_another()
 /// Who is refused has no room even when those have gone who were told to end; and where that is since all guests together have too
 /// much, not even when all idle guests have gone as well.
 pub fn who_is_refused_has_no_room()
-    ensures now { (plan : PlanOf) (grants : List Grant) (roll : List Present) (who : Who) (ask : Quota) (now most : ℕ) (refusal : BookRefusal) →
+    ensures now { (plan : PlanOf) (grants : List Grant) (roll : List Present) (who : Who) (ask : ReserveOf) (now most : ℕ) (refusal : BookRefusal) →
         coming plan grants roll (comer_of who ask now most) ≡ Refused refusal → why_over plan who ask grants ≡ Some refusal }
-    ensures then { (plan : PlanOf) (grants : List Grant) (roll : List Present) (who : Who) (ask : Quota) (now most : ℕ) (refusal : BookRefusal) →
+    ensures then { (plan : PlanOf) (grants : List Grant) (roll : List Present) (who : Who) (ask : ReserveOf) (now most : ℕ) (refusal : BookRefusal) →
         coming plan grants roll (comer_of who ask now most) ≡ Refused refusal → why_over plan who ask (remaining those_told grants roll) ≢ None }
-    ensures idle { (plan : PlanOf) (grants : List Grant) (roll : List Present) (who : Who) (ask : Quota) (now most : ℕ) →
+    ensures idle { (plan : PlanOf) (grants : List Grant) (roll : List Present) (who : Who) (ask : ReserveOf) (now most : ℕ) →
         coming plan grants roll (comer_of who ask now most) ≡ Refused OverGuests → why_over plan who ask (remaining (those_idle now most) grants roll) ≢ None }
 {}
 

@@ -56,7 +56,7 @@ pub use Rattle.site_book.specs.declared.present.Whom.{Whom}
 pub use Rattle.site_book.specs.declared.refusal.BookRefusal.TheVariants.{Lower}
 pub use Rattle.site_book.specs.declared.who.Who.{Who}
 pub use Rattle.tenant_quota.specs.Accounts.{reserved_nodes, reserved_segments}
-pub use Rattle.tenant_quota.specs.Quota.{Quota}
+pub use Rattle.tenant_quota.specs.Reserves.{ReserveOf}
 pub use Rattle.tenant_quota.specs.declared.account.Account.{Account}
 pub use Rattle.desk.specs.Traces.{Known}
 pub use Rattle.site_desk.specs.Granted.{AreGranted, AreHeld, IsBookBy, IsBookLook, IsFirstOf, IsGrantedFrom, IsNotReplanned, IsOpened, IsPartOnce, IsReplannedBy, are_raisings, book_at, events_of, is_open_by, is_opening, is_raising}

@@ -1,5 +1,5 @@
 -- What the hall's steps do to the seats of a site's desk.
-use Rattle.site_desk.proofs.Common.{◌≡◌, ℕ, ◌+◌, ◌≤◌, ◌==◌, ◌||◌, ◌^◌, ◌⊎◌, inl, inr, nat_le, nat_lt, nat_tests, true, false, cases_Bool, Option, Some, None, Result, Ok, Err, refl, ap, sym, ◌∙◌, arith, false≢true, Quota, Refusal, StepOf, Admit, AdmitMore, Leave, DidOf, Functions, Tenant, admitted_with, Outcome, is_lower, lone, lone_step, tenant_of, CoreState, tenant_in, reservations_in, is_full, is_beyond, with_outcome, shared_with, AreNumbersGiven, IsOneStep, IsTaken, shared-after-taken, step-taken, by-kinds, unless-passed, is_within_seat}
+use Rattle.site_desk.proofs.Common.{◌≡◌, ℕ, ◌+◌, ◌≤◌, ◌==◌, ◌||◌, ◌^◌, ◌⊎◌, inl, inr, nat_le, nat_lt, nat_tests, true, false, cases_Bool, Option, Some, None, Result, Ok, Err, refl, ap, sym, ◌∙◌, arith, false≢true, ReserveOf, Refusal, StepOf, Admit, AdmitMore, Leave, DidOf, Functions, Tenant, admitted_with, Outcome, is_lower, lone, lone_step, tenant_of, CoreState, tenant_in, reservations_in, is_full, is_beyond, with_outcome, shared_with, AreNumbersGiven, IsOneStep, IsTaken, shared-after-taken, step-taken, by-kinds, unless-passed, is_within_seat}
 use Rattle.sched_rules.specs.declared.refusal.Refusal.TheVariants.{OldTenant, OutOfMemory}
 use Rattle.hall.specs.Journals.{is_worker_step}
 use Rattle.sched_rules.specs.declared.step.DidOf.TheVariants.{Admitted, AdmittedMore}
@@ -17,12 +17,12 @@ module _ {I A : Type 0} (functions : Functions I A) where
   went before after step did known one = (let t = step-taken functions before step did known one.answered in (t, one.left ∙ shared-after-taken functions before step did t))
 
   -- an admission leaves a fresh tenant
-  pub admit-outcome : (own : Option Tenant) (n : ℕ) (q : Quota) (outcome : Outcome I) → own ≡ None → lone functions own (Admit n q) ≡ Ok outcome → outcome.0 ≡ Some (admitted_with q)
+  pub admit-outcome : (own : Option Tenant) (n : ℕ) (q : ReserveOf) (outcome : Outcome I) → own ≡ None → lone functions own (Admit n q) ≡ Ok outcome → outcome.0 ≡ Some (admitted_with q)
   admit-outcome None n q outcome none is = grind arith
   admit-outcome (Some tenant) n q outcome none is = absurd cc
 
   -- a raise leaves the tenant with what was asked
-  pub more-outcome : (tenant : Tenant) (n : ℕ) (q : Quota) (outcome : Outcome I) → lone functions (Some tenant) (AdmitMore n q) ≡ Ok outcome → outcome.0 ≡ Some (record tenant { reserve = q })
+  pub more-outcome : (tenant : Tenant) (n : ℕ) (q : ReserveOf) (outcome : Outcome I) → lone functions (Some tenant) (AdmitMore n q) ≡ Ok outcome → outcome.0 ≡ Some (record tenant { reserve = q })
   more-outcome tenant n q outcome is = grind (arith, unless-passed)
 
   -- a leave leaves none
@@ -68,7 +68,7 @@ module _ {I A : Type 0} (functions : Functions I A) where
   moved before after step o is = (ap (λ (s : CoreState). s.tenants) is, ap (λ (s : CoreState). s.totals) is)
 
   -- what an admission is refused for where there is room for it: all numbers were given, or memory ran out
-  pub admit-refused : (before after : CoreState) (n : ℕ) (q : Quota) (refusal : Refusal) → n ≡ before.newest + 1 → is_full (reservations_in before) q ≡ false → IsOneStep functions before (Admit n q) (Err refusal) after
+  pub admit-refused : (before after : CoreState) (n : ℕ) (q : ReserveOf) (refusal : Refusal) → n ≡ before.newest + 1 → is_full (reservations_in before) q ≡ false → IsOneStep functions before (Admit n q) (Err refusal) after
       → ((refusal ≡ OldTenant) × (2 ^ 62 ≤ before.newest)) ⊎ (refusal ≡ OutOfMemory)
   admit-refused before after n q refusal next room one =
       let right = one.answered.0 refl in
@@ -82,7 +82,7 @@ module _ {I A : Type 0} (functions : Functions I A) where
       ]
 
   -- and a raise
-  pub raise-refused : (before after : CoreState) (n : ℕ) (q : Quota) (tenant : Tenant) (refusal : Refusal) → tenant_in before.tenants n ≡ Some tenant → is_lower tenant.reserve q ≡ false → is_beyond (reservations_in before) tenant.reserve q ≡ false
+  pub raise-refused : (before after : CoreState) (n : ℕ) (q : ReserveOf) (tenant : Tenant) (refusal : Refusal) → tenant_in before.tenants n ≡ Some tenant → is_lower tenant.reserve q ≡ false → is_beyond (reservations_in before) tenant.reserve q ≡ false
       → IsOneStep functions before (AdmitMore n q) (Err refusal) after → refusal ≡ OutOfMemory
   raise-refused before after n q tenant refusal at more room one =
       let right = one.answered.0 refl in

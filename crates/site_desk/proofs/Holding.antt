@@ -1,5 +1,5 @@
 -- Each session that is open by its maker's own events has its grant in the book, after each event.
-use Rattle.site_desk.proofs.Common.{◌≡◌, ◌⊎◌, ℕ, ◌==◌, ◌&&◌, ◌||◌, inl, inr, true, false, cases_Bool, false≢true, List, [], ◌∷◌, ◌++◌, None, is_some, refl, ap, sym, ◌∙◌, subst, arith, nat_tests, and_parts, eqb-true, eq-eqb, Quota, Grant, Who, same_who, is_held_as, grant_of, grants_raised, grants_without, BookOf, BookEvent, Opens, Raises, Closes, Replans, taken, PlanOf, AreHeld, are_raisings, is_open_by, is_opening, is_raising}
+use Rattle.site_desk.proofs.Common.{◌≡◌, ◌⊎◌, ℕ, ◌==◌, ◌&&◌, ◌||◌, inl, inr, true, false, cases_Bool, false≢true, List, [], ◌∷◌, ◌++◌, None, is_some, refl, ap, sym, ◌∙◌, subst, arith, nat_tests, and_parts, eqb-true, eq-eqb, ReserveOf, Grant, Who, same_who, is_held_as, grant_of, grants_raised, grants_without, BookOf, BookEvent, Opens, Raises, Closes, Replans, taken, PlanOf, AreHeld, are_raisings, is_open_by, is_opening, is_raising}
 use Rattle.desk.specs.Traces.{own}
 
 abbrev History : Type 0
@@ -23,10 +23,10 @@ raisings-more : (who : Who) (n : ℕ) (events : List BookEvent) (event : BookEve
 raisings-more who n [] event = grind arith
 raisings-more who n (e ∷ events) event = grind (arith, raisings-more who n events event)
 
-pub open-first : (who : Who) (n : ℕ) (ask : Quota) → is_open_by who n (Opens who n ask ∷ []) ≡ true
+pub open-first : (who : Who) (n : ℕ) (ask : ReserveOf) → is_open_by who n (Opens who n ask ∷ []) ≡ true
 open-first who n ask = λ i. own-name who n i && true
 
-pub open-raised : (who : Who) (n : ℕ) (ask : Quota) (mine : List BookEvent) → is_open_by who n mine ≡ true → is_open_by who n (mine ++ Raises who n ask ∷ []) ≡ true
+pub open-raised : (who : Who) (n : ℕ) (ask : ReserveOf) (mine : List BookEvent) → is_open_by who n mine ≡ true → is_open_by who n (mine ++ Raises who n ask ∷ []) ≡ true
 open-raised who n ask [] is = absurd (false≢true is)
 open-raised who n ask (e ∷ mine) is =
     let parts = and_parts (is_opening who n e) (are_raisings who n mine) is in
@@ -60,7 +60,7 @@ there-push who n [] g = grind arith
 there-push who n (h ∷ gs) g = grind (arith, there-push who n gs g)
 
 module _ (who : Who) (n : ℕ) where
-  there-raised : (ask : Quota) (other : Who) (k : ℕ) (gs : List Grant) → is_some (grant_of other k (grants_raised who n ask gs)) ≡ is_some (grant_of other k gs)
+  there-raised : (ask : ReserveOf) (other : Who) (k : ℕ) (gs : List Grant) → is_some (grant_of other k (grants_raised who n ask gs)) ≡ is_some (grant_of other k gs)
   there-raised ask other k [] = refl
   there-raised ask other k (g ∷ gs) = grind (arith, there-raised ask other k gs)
 
@@ -106,7 +106,7 @@ module _ (log : History) (book after : BookOf) (m : ℕ) (held : AreHeld log boo
     | inr apart ↦ inl (subst (λ l. is_open_by who n l ≡ true) (own-other m event x log apart) is, λ e. absurd (false≢true (sym apart ∙ eq-eqb m x (sym e))))
   ]
 
-  pub held-open : (who : Who) (n : ℕ) (ask : Quota) → grant_of who n book.grants ≡ None → after ≡ taken book (Opens who n ask) → AreHeld (log ++ (m, Opens who n ask) ∷ []) after
+  pub held-open : (who : Who) (n : ℕ) (ask : ReserveOf) → grant_of who n book.grants ≡ None → after ≡ taken book (Opens who n ask) → AreHeld (log ++ (m, Opens who n ask) ∷ []) after
   held-open who n ask fresh went = record {
     there = λ x w k is. subst (λ (b : BookOf). is_some (grant_of w k b.grants) ≡ true) (sym went) (there-push w k book.grants new ∙ still x w k (holds event x w k is));
     one = λ x y w k is same. alone x y w k (holds event x w k is) (holds event y w k same);
@@ -140,7 +140,7 @@ module _ (log : History) (book after : BookOf) (m : ℕ) (held : AreHeld log boo
   none-more event x who n none (inl old) = old
   none-more event x who n none (inr opened) = absurd (false≢true (sym none ∙ opened.1))
 
-  pub held-raise : (who : Who) (n : ℕ) (ask : Quota) → after ≡ taken book (Raises who n ask) → AreHeld (log ++ (m, Raises who n ask) ∷ []) after
+  pub held-raise : (who : Who) (n : ℕ) (ask : ReserveOf) → after ≡ taken book (Raises who n ask) → AreHeld (log ++ (m, Raises who n ask) ∷ []) after
   held-raise who n ask went =
       let old : (x : ℕ) (w : Who) (k : ℕ) → is_open_by w k (own x (log ++ (m, Raises who n ask) ∷ [])) ≡ true → is_open_by w k (own x log) ≡ true = λ x w k is. (none-more (Raises who n ask) x w k refl (holds (Raises who n ask) x w k is)).0 in
       record {

@@ -1,5 +1,5 @@
 -- At a site's desk: after each call the book's grants are still those of the hall's tenants, one to one.
-use Rattle.site_desk.proofs.Common.{◌≡◌, ◌≢◌, ℕ, ◌+◌, ◌<◌, ◌≤◌, length, OnErr, inl, inr, true, false, List, [], ◌∷◌, ◌++◌, Option, Some, None, Result, Ok, Err, refl, ap, sym, ◌∙◌, subst, arith, cases_Bool, is_some, AreRising, Quota, Refusal, StepOf, Admit, AdmitMore, Leave, DidOf, Tenant, admitted_with, is_lower, tenant_of, tenant_in, with_outcome, reservations_in, is_full, is_beyond, AreNumbersGiven, AreNumbersTaken, tenant_in-new, IsTaken, Leaf, LeafAnswer, jamboree, HallOf, IsDecided, IsDone, Amount, Grant, All, Lower, Who, of_one, plus, IsAmountWithin, used, grant_of, grants_without, BookOf, Opens, Raises, Closes, taken, why_no_raise, why_over, BookedOf, IsBooked, IsRaise, IsRaiseTold, IsTurnedAway, TookInHall, is_within_seat, turned_by, BookedSeat, seats_in_book, seats_in_hall, number_of}
+use Rattle.site_desk.proofs.Common.{◌≡◌, ◌≢◌, ℕ, ◌+◌, ◌<◌, ◌≤◌, length, OnErr, inl, inr, true, false, List, [], ◌∷◌, ◌++◌, Option, Some, None, Result, Ok, Err, refl, ap, sym, ◌∙◌, subst, arith, cases_Bool, is_some, AreRising, ReserveOf, Refusal, StepOf, Admit, AdmitMore, Leave, DidOf, Tenant, admitted_with, is_lower, tenant_of, tenant_in, with_outcome, reservations_in, is_full, is_beyond, AreNumbersGiven, AreNumbersTaken, tenant_in-new, IsTaken, Leaf, LeafAnswer, jamboree, HallOf, IsDecided, IsDone, Amount, Grant, All, Lower, Who, of_one, plus, IsAmountWithin, used, grant_of, grants_without, BookOf, Opens, Raises, Closes, taken, why_no_raise, why_over, BookedOf, IsBooked, IsRaise, IsRaiseTold, IsTurnedAway, TookInHall, is_within_seat, turned_by, BookedSeat, seats_in_book, seats_in_hall, number_of}
 use Rattle.site_book.specs.declared.refusal.BookRefusal.{BookRefusal}
 use Rattle.sched_rules.specs.declared.refusal.Refusal.TheVariants.{NoJob, OutOfMemory as HallOutOfMemory}
 use Rattle.hall.specs.declared.desk_rules.asked.SeatAsked.{SeatAsked}
@@ -29,8 +29,8 @@ gone before after step known took =
 -- a hall and a book with these seats
 booked-as : (hall hall' : HallOf) (book book' : BookOf) (seats : List BookedSeat) → IsBooked hall book → hall'.shared.totals ≡ hall.shared.totals → AreNumbersGiven hall'.shared → book'.plan.totals ≡ book.plan.totals → seats_in_hall hall'.shared.tenants ≡ seats → seats_in_book book'.grants ≡ seats → AreRising number_of seats → IsBooked hall' book'
 booked-as hall hall' book book' seats is totals given plan by_hall by_book rising =
-    let segments = ap (λ (q : Quota). q.segments) totals in
-    let nodes = ap (λ (q : Quota). q.nodes) totals in
+    let segments = ap (λ (q : ReserveOf). q.segments) totals in
+    let nodes = ap (λ (q : ReserveOf). q.nodes) totals in
     let plan_segments = ap (λ (a : Amount). a.segments) plan in
     record {
       seated = by_book ∙ sym by_hall;
@@ -42,7 +42,7 @@ booked-as hall hall' book book' seats is totals given plan by_hall by_book risin
 
 -- a tenant more
 
-pub booked-admit : (hall hall' : HallOf) (book book' : BookOf) (who : Who) (n : ℕ) (q : Quota) → IsBooked hall book → n ≡ hall.shared.newest + 1 → TookInHall hall (Admit n q) hall' → book' ≡ taken book (Opens who n q) → IsBooked hall' book'
+pub booked-admit : (hall hall' : HallOf) (book book' : BookOf) (who : Who) (n : ℕ) (q : ReserveOf) → IsBooked hall book → n ≡ hall.shared.newest + 1 → TookInHall hall (Admit n q) hall' → book' ≡ taken book (Opens who n q) → IsBooked hall' book'
 booked-admit hall hall' book book' who n q is next took entered =
     let g = gone hall hall' (Admit n q) is.given took in
     let less : hall.shared.newest < n = omega (arith, next) in
@@ -75,7 +75,7 @@ not-granted hall book who n is next = by (grant_of who n book.grants) refl
 
 -- a tenant raised
 
-pub booked-raise : (hall hall' : HallOf) (book book' : BookOf) (who : Who) (n : ℕ) (q : Quota) (held : Grant) → IsBooked hall book → grant_of who n book.grants ≡ Some held → TookInHall hall (AdmitMore n q) hall' → book' ≡ taken book (Raises who n q) → IsBooked hall' book'
+pub booked-raise : (hall hall' : HallOf) (book book' : BookOf) (who : Who) (n : ℕ) (q : ReserveOf) (held : Grant) → IsBooked hall book → grant_of who n book.grants ≡ Some held → TookInHall hall (AdmitMore n q) hall' → book' ≡ taken book (Raises who n q) → IsBooked hall' book'
 booked-raise hall hall' book book' who n q held is found took entered =
     let g = gone hall hall' (AdmitMore n q) is.given took in
     let there = tenant-of hall book who n held is found in
@@ -139,11 +139,11 @@ booked-new hall book nobody nothing segments nodes = record {
 all-seats : (hall : HallOf) (book : BookOf) → IsBooked hall book → used All book.grants ≡ amount_of (seats_in_hall hall.shared.tenants)
 all-seats hall book is = book-amount book.grants ∙ ap amount_of is.seated
 
-pub has-room : (hall : HallOf) (book : BookOf) (q : Quota) → IsBooked hall book → book.plan.totals.sessions ≤ 64 → IsAmountWithin (plus (of_one q) (used All book.grants)) book.plan.totals → is_full (reservations_in hall.shared) q ≡ false
+pub has-room : (hall : HallOf) (book : BookOf) (q : ReserveOf) → IsBooked hall book → book.plan.totals.sessions ≤ 64 → IsAmountWithin (plus (of_one q) (used All book.grants)) book.plan.totals → is_full (reservations_in hall.shared) q ≡ false
 has-room hall book q is few room = not-full hall.shared q (used All book.grants) book.plan.totals (all-seats hall book is) room few is.segments is.nodes
 
 -- what a raise that the book doesn't refuse has
-pub record MayRaise (hall : HallOf) (book : BookOf) (who : Who) (n : ℕ) (q : Quota) : Type 0 where
+pub record MayRaise (hall : HallOf) (book : BookOf) (who : Who) (n : ℕ) (q : ReserveOf) : Type 0 where
   pub held : Grant
   pub found : grant_of who n book.grants ≡ Some held
   pub tenant : Tenant
@@ -151,7 +151,7 @@ pub record MayRaise (hall : HallOf) (book : BookOf) (who : Who) (n : ℕ) (q : Q
   pub more : is_lower tenant.reserve q ≡ false
   pub room : is_beyond (reservations_in hall.shared) tenant.reserve q ≡ false
 
-raise-by : (hall : HallOf) (book : BookOf) (who : Who) (n : ℕ) (q : Quota) (found : Option Grant) → IsBooked hall book → grant_of who n book.grants ≡ found → why_no_raise book.plan who n q book.grants found ≡ None → IsAmountWithin (plus (of_one q) (used All (grants_without who n book.grants))) book.plan.totals → MayRaise hall book who n q
+raise-by : (hall : HallOf) (book : BookOf) (who : Who) (n : ℕ) (q : ReserveOf) (found : Option Grant) → IsBooked hall book → grant_of who n book.grants ≡ found → why_no_raise book.plan who n q book.grants found ≡ None → IsAmountWithin (plus (of_one q) (used All (grants_without who n book.grants))) book.plan.totals → MayRaise hall book who n q
 raise-by hall book who n q None is at none room = absurd cc
 raise-by hall book who n q (Some held) is at none room =
     let there = tenant-of hall book who n held is at in
@@ -160,8 +160,8 @@ raise-by hall book who n q (Some held) is at none room =
       found = at;
       tenant = there.tenant;
       at = there.at;
-      more = ap (λ (r : Quota). is_lower r q) there.reserve ∙ not-lower held none;
-      room = ap (λ (r : Quota). is_beyond (reservations_in hall.shared) r q) there.reserve ∙ not-beyond hall.shared held.ask q (used All book.grants) (used All (grants_without who n book.grants)) book.plan.totals (all-seats hall book is) (used-found who n book.grants held at) room is.segments is.nodes;
+      more = ap (λ (r : ReserveOf). is_lower r q) there.reserve ∙ not-lower held none;
+      room = ap (λ (r : ReserveOf). is_beyond (reservations_in hall.shared) r q) there.reserve ∙ not-beyond hall.shared held.ask q (used All book.grants) (used All (grants_without who n book.grants)) book.plan.totals (all-seats hall book is) (used-found who n book.grants held at) room is.segments is.nodes;
     }
   where
     not-lower : (held : Grant) → why_no_raise book.plan who n q book.grants (Some held) ≡ None → is_lower held.ask q ≡ false
@@ -170,7 +170,7 @@ raise-by hall book who n q (Some held) is at none room =
       | inr nay ↦ nay
     ]
 
-pub may-raise : (hall : HallOf) (book : BookOf) (who : Who) (n : ℕ) (q : Quota) → IsBooked hall book → why_no_raise book.plan who n q book.grants (grant_of who n book.grants) ≡ None → IsAmountWithin (plus (of_one q) (used All (grants_without who n book.grants))) book.plan.totals → MayRaise hall book who n q
+pub may-raise : (hall : HallOf) (book : BookOf) (who : Who) (n : ℕ) (q : ReserveOf) → IsBooked hall book → why_no_raise book.plan who n q book.grants (grant_of who n book.grants) ≡ None → IsAmountWithin (plus (of_one q) (used All (grants_without who n book.grants))) book.plan.totals → MayRaise hall book who n q
 may-raise hall book who n q is none room = raise-by hall book who n q (grant_of who n book.grants) is refl none room
 
 -- a grant that is there
@@ -183,7 +183,7 @@ found-of (Some held) some = (held, refl)
 not-changed : (hall hall' : HallOf) (book : BookOf) (step : Step) (refusal : Refusal) → IsDecided hall step (Err refusal) hall' → ◌≡◌ {A = BookedOf} (record { hall = hall'; book = book }) (record { hall = hall; book = book })
 not-changed hall hall' book step refusal decided = ap (λ (h : HallOf). record { hall = h; book = book }) decided.refused
 
-pub not-admitted : (hall hall' : HallOf) (book : BookOf) (who : Who) (q : Quota) (refusal : Refusal) → why_over book.plan who q book.grants ≡ None → is_full (reservations_in hall.shared) q ≡ false → IsDecided hall (Admit (hall.shared.newest + 1) q) (Err refusal) hall'
+pub not-admitted : (hall hall' : HallOf) (book : BookOf) (who : Who) (q : ReserveOf) (refusal : Refusal) → why_over book.plan who q book.grants ≡ None → is_full (reservations_in hall.shared) q ≡ false → IsDecided hall (Admit (hall.shared.newest + 1) q) (Err refusal) hall'
     → IsTurnedAway (record { hall = hall; book = book }) who q (turned_by refusal) (record { hall = hall'; book = book })
 not-admitted hall hall' book who q refusal none room decided =
     let same = not-changed hall hall' book (Admit (hall.shared.newest + 1) q) refusal decided in
@@ -192,17 +192,17 @@ not-admitted hall hall' book who q refusal none room decided =
       | inr memory ↦ rw memory (none, same, rw memory at decided)
     ]
 
-out-of-memory : (hall hall' : HallOf) (book : BookOf) (who : Who) (n : ℕ) (q : Quota) (refusal : Refusal) → MayRaise hall book who n q → IsDecided hall (AdmitMore n q) (Err refusal) hall' → refusal ≡ HallOutOfMemory
+out-of-memory : (hall hall' : HallOf) (book : BookOf) (who : Who) (n : ℕ) (q : ReserveOf) (refusal : Refusal) → MayRaise hall book who n q → IsDecided hall (AdmitMore n q) (Err refusal) hall' → refusal ≡ HallOutOfMemory
 out-of-memory hall hall' book who n q refusal may decided = raise-refused (jamboree hall.grain) hall.shared hall'.shared n q may.tenant refusal may.at may.more may.room decided.one
 
-pub not-raised : (hall hall' : HallOf) (book : BookOf) (who : Who) (n : ℕ) (q : Quota) (refusal : Refusal) → why_no_raise book.plan who n q book.grants (grant_of who n book.grants) ≡ None → MayRaise hall book who n q → IsDecided hall (AdmitMore n q) (Err refusal) hall'
+pub not-raised : (hall hall' : HallOf) (book : BookOf) (who : Who) (n : ℕ) (q : ReserveOf) (refusal : Refusal) → why_no_raise book.plan who n q book.grants (grant_of who n book.grants) ≡ None → MayRaise hall book who n q → IsDecided hall (AdmitMore n q) (Err refusal) hall'
     → IsRaise (record { hall = hall; book = book }) who n q (Err (turned_by refusal)) (record { hall = hall'; book = book })
 not-raised hall hall' book who n q refusal none may decided =
     let same = not-changed hall hall' book (AdmitMore n q) refusal decided in
     let memory = out-of-memory hall hall' book who n q refusal may decided in
     rw memory (none, same, rw memory at decided)
 
-pub not-raised-told : (hall hall' : HallOf) (book : BookOf) (begun : HallOf) (who : Who) (before after : SeatOf) (q : Quota) (refusal : Refusal) → MayRaise hall book who before.tenant q → IsDecided hall (AdmitMore before.tenant q) (Err refusal) hall'
+pub not-raised-told : (hall hall' : HallOf) (book : BookOf) (begun : HallOf) (who : Who) (before after : SeatOf) (q : ReserveOf) (refusal : Refusal) → MayRaise hall book who before.tenant q → IsDecided hall (AdmitMore before.tenant q) (Err refusal) hall'
     → after ≡ seeing after.known before → IsToldOf {X = Unit {0}} begun before.known (AdmitMore before.tenant q) (Err refusal) after.known → IsRaiseTold begun before q (Err (turned_by refusal)) after
 not-raised-told hall hall' book begun who before after q refusal may decided seen told =
     let memory = out-of-memory hall hall' book who before.tenant q refusal may decided in

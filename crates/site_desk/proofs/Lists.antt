@@ -1,5 +1,5 @@
 -- At a site's desk: the sessions that are listed are those that have a grant, after each call.
-use Rattle.site_desk.proofs.Common.{◌≡◌, ℕ, ◌<◌, ◌≤◌, ◌&&◌, inl, inr, Bool, true, false, cond, eqb, List, [], ◌∷◌, ◌++◌, length, refl, ap, sym, ◌∙◌, arith, length-append, cases_Bool, Quota, Grant, Who, same_who, is_held_as, grants_without, BookOf, Opens, Raises, Closes, taken, Name, names_granted, PlanOf, SessionMark, Spoke, Waits, Told as told_to, Present, Whom, is_meant, is_present_as, marked, marked_all, marked_if, names_present, newcomer, without_present, stays, told_by, told_unless, with_staying, IsListed, names-with-ask}
+use Rattle.site_desk.proofs.Common.{◌≡◌, ℕ, ◌<◌, ◌≤◌, ◌&&◌, inl, inr, Bool, true, false, cond, eqb, List, [], ◌∷◌, ◌++◌, length, refl, ap, sym, ◌∙◌, arith, length-append, cases_Bool, ReserveOf, Grant, Who, same_who, is_held_as, grants_without, BookOf, Opens, Raises, Closes, taken, Name, names_granted, PlanOf, SessionMark, Spoke, Waits, Told as told_to, Present, Whom, is_meant, is_present_as, marked, marked_all, marked_if, names_present, newcomer, without_present, stays, told_by, told_unless, with_staying, IsListed, names-with-ask}
 
 abbrev name_of : Present → Name
 name_of p = (p.who, p.session)
@@ -72,11 +72,11 @@ alike gs roll is = sym (book-length gs) ∙ (ap length (sym is) ∙ roll-length 
 
 -- after each call
 
-pub listed-open : (book book' : BookOf) (roll : List Present) (who : Who) (n now : ℕ) (q : Quota) → IsListed book roll → book' ≡ taken book (Opens who n q) → IsListed book' (roll ++ newcomer who n now ∷ [])
+pub listed-open : (book book' : BookOf) (roll : List Present) (who : Who) (n now : ℕ) (q : ReserveOf) → IsListed book roll → book' ≡ taken book (Opens who n q) → IsListed book' (roll ++ newcomer who n now ∷ [])
 listed-open book book' roll who n now q is entered =
     roll-push roll (newcomer who n now) ∙ (ap (λ (l : List Name). l ++ (who, n) ∷ []) is ∙ (sym (book-push book.grants (record { who = who; session = n; ask = q })) ∙ ap (λ (b : BookOf). names_granted b.grants) (sym entered)))
 
-pub listed-raise : (book book' : BookOf) (roll : List Present) (who : Who) (n : ℕ) (q : Quota) → IsListed book roll → book' ≡ taken book (Raises who n q) → IsListed book' roll
+pub listed-raise : (book book' : BookOf) (roll : List Present) (who : Who) (n : ℕ) (q : ReserveOf) → IsListed book roll → book' ≡ taken book (Raises who n q) → IsListed book' roll
 listed-raise book book' roll who n q is raised =
     is ∙ (sym (names-with-ask who n q book.grants) ∙ ap (λ (b : BookOf). names_granted b.grants) (sym raised))
 
@@ -85,7 +85,7 @@ listed-close book book' roll who n is closed =
     roll-drop who n roll ∙ (ap (drop_name who n) is ∙ (sym (book-drop who n book.grants) ∙ ap (λ (b : BookOf). names_granted b.grants) (sym closed)))
 
 -- where a session was entered in the book there is a place for it in the roll
-pub has-place : (book book' : BookOf) (roll : List Present) (who : Who) (n : ℕ) (q : Quota) → IsListed book roll → book' ≡ taken book (Opens who n q) → length book'.grants ≤ 64 → length roll < 64
+pub has-place : (book book' : BookOf) (roll : List Present) (who : Who) (n : ℕ) (q : ReserveOf) → IsListed book roll → book' ≡ taken book (Opens who n q) → length book'.grants ≤ 64 → length roll < 64
 has-place book book' roll who n q is entered few =
     let more : length book'.grants ≡ length (book.grants ++ record { who = who; session = n; ask = q } ∷ []) = ap (λ (b : BookOf). length b.grants) entered in
     omega (arith, length-append book.grants (record { who = who; session = n; ask = q } ∷ []), more, alike book.grants roll is, few)

@@ -1,11 +1,11 @@
 -- The seats of a site's desk, by its book's grants and by its hall's tenants.
-use Rattle.site_desk.proofs.Common.{◌≡◌, ℕ, ◌+◌, ◌<◌, ◌≤◌, inl, inr, true, false, cond, eqb, List, [], ◌∷◌, ◌++◌, length, Option, Some, None, refl, ap, sym, ◌∙◌, subst, arith, cases_Bool, eqb-true, eq-eqb, ne_eqb, and_parts, or_from, lt-leb, le-ltb, sum_by-cons, AreAbove, AreRising, Quota, reserved_segments, reserved_nodes, Account, Tenant, account_in, CoreState, tenant_in, with_tenant, without_tenant, accounts_in, reservations_in, is_full, is_beyond, AreNumbersTaken, Amount, Grant, All, Who, same_who, nothing, of_one, plus, IsAmountWithin, used, is_held_as, grant_of, grants_without, grants_raised, plus-swap, BookedSeat, seats_in_book, seats_in_hall, number_of}
+use Rattle.site_desk.proofs.Common.{◌≡◌, ℕ, ◌+◌, ◌<◌, ◌≤◌, inl, inr, true, false, cond, eqb, List, [], ◌∷◌, ◌++◌, length, Option, Some, None, refl, ap, sym, ◌∙◌, subst, arith, cases_Bool, eqb-true, eq-eqb, ne_eqb, and_parts, or_from, lt-leb, le-ltb, sum_by-cons, AreAbove, AreRising, ReserveOf, reserved_segments, reserved_nodes, Account, Tenant, account_in, CoreState, tenant_in, with_tenant, without_tenant, accounts_in, reservations_in, is_full, is_beyond, AreNumbersTaken, Amount, Grant, All, Who, same_who, nothing, of_one, plus, IsAmountWithin, used, is_held_as, grant_of, grants_without, grants_raised, plus-swap, BookedSeat, seats_in_book, seats_in_hall, number_of}
 
 abbrev Entries : Type 0
 Entries = List (ℕ × Tenant)
 
 -- the seats, the first of this number having this
-abbrev pub set_seat : ℕ → Quota → List BookedSeat → List BookedSeat
+abbrev pub set_seat : ℕ → ReserveOf → List BookedSeat → List BookedSeat
 set_seat n q [] = []
 set_seat n q (s ∷ ss) = cond (eqb s.0 n) ((n, q) ∷ ss) (s ∷ set_seat n q ss)
 
@@ -15,7 +15,7 @@ drop_seats n [] = []
 drop_seats n (s ∷ ss) = cond (eqb s.0 n) (drop_seats n ss) (s ∷ drop_seats n ss)
 
 -- what the first seat of this number reserves
-abbrev pub seat_at : ℕ → List BookedSeat → Option Quota
+abbrev pub seat_at : ℕ → List BookedSeat → Option ReserveOf
 seat_at n [] = None
 seat_at n (s ∷ ss) = cond (eqb s.0 n) (Some s.1) (seat_at n ss)
 
@@ -56,12 +56,12 @@ hall-drop n (e ∷ es) = elim (cases_Bool (eqb e.0 n)) [
 ]
 
 -- the tenant of a seat
-pub record IsThere (es : Entries) (n : ℕ) (q : Quota) : Type 0 where
+pub record IsThere (es : Entries) (n : ℕ) (q : ReserveOf) : Type 0 where
   pub tenant : Tenant
   pub at : tenant_in es n ≡ Some tenant
   pub reserve : tenant.reserve ≡ q
 
-pub hall-at : (n : ℕ) (q : Quota) (es : Entries) → seat_at n (seats_in_hall es) ≡ Some q → IsThere es n q
+pub hall-at : (n : ℕ) (q : ReserveOf) (es : Entries) → seat_at n (seats_in_hall es) ≡ Some q → IsThere es n q
 hall-at n q [] at = absurd cc
 hall-at n q (e ∷ es) at = elim (cases_Bool (eqb e.0 n)) [
   | inl is ↦ (let both : Some e.1.reserve ≡ Some q = rw is at at in let same : e.1.reserve ≡ q = cc in record { tenant = e.1; at = rw is refl; reserve = same })
@@ -92,7 +92,7 @@ other-number who n g gs held is above = elim (cases_Bool (eqb g.session n)) [
   | inr nay ↦ nay
 ]
 
-pub book-set : (who : Who) (n : ℕ) (q : Quota) (gs : List Grant) (held : Grant) → grant_of who n gs ≡ Some held → AreRising number_of (seats_in_book gs) → seats_in_book (grants_raised who n q gs) ≡ set_seat n q (seats_in_book gs)
+pub book-set : (who : Who) (n : ℕ) (q : ReserveOf) (gs : List Grant) (held : Grant) → grant_of who n gs ≡ Some held → AreRising number_of (seats_in_book gs) → seats_in_book (grants_raised who n q gs) ≡ set_seat n q (seats_in_book gs)
 book-set who n q [] held is rising = absurd cc
 book-set who n q (g ∷ gs) held is rising = elim (cases_Bool (is_held_as who n g)) [
   | inl aye ↦ (let number = held-number who n g aye in
@@ -124,7 +124,7 @@ book-at who n (g ∷ gs) held is rising = elim (cases_Bool (is_held_as who n g))
 
 -- numbers that rise
 
-above-push : (m n : ℕ) (q : Quota) (ss : List BookedSeat) → m < n → AreAbove number_of m ss → AreAbove number_of m (ss ++ (n, q) ∷ [])
+above-push : (m n : ℕ) (q : ReserveOf) (ss : List BookedSeat) → m < n → AreAbove number_of m ss → AreAbove number_of m (ss ++ (n, q) ∷ [])
 above-push m n q [] less above = (less, tt)
 above-push m n q (s ∷ ss) less above = (above.0, above-push m n q ss less above.1)
 
@@ -137,18 +137,18 @@ pub taken-upto : (newest : ℕ) (es : Entries) → AreNumbersTaken newest es →
 taken-upto newest [] known = tt
 taken-upto newest (e ∷ es) known = (known.0, taken-upto newest es known.1)
 
-pub rising-push : (most n : ℕ) (q : Quota) (ss : List BookedSeat) → most < n → AreUpTo most ss → AreRising number_of ss → AreRising number_of (ss ++ (n, q) ∷ [])
+pub rising-push : (most n : ℕ) (q : ReserveOf) (ss : List BookedSeat) → most < n → AreUpTo most ss → AreRising number_of ss → AreRising number_of (ss ++ (n, q) ∷ [])
 rising-push most n q [] less few rising = (tt, tt)
 rising-push most n q (s ∷ ss) less few rising = (let first : s.0 ≤ most = few.0 in (above-push s.0 n q ss (omega (arith, first, less)) rising.0, rising-push most n q ss less few.1 rising.1))
 
-above-set : (m n : ℕ) (q : Quota) (ss : List BookedSeat) → AreAbove number_of m ss → AreAbove number_of m (set_seat n q ss)
+above-set : (m n : ℕ) (q : ReserveOf) (ss : List BookedSeat) → AreAbove number_of m ss → AreAbove number_of m (set_seat n q ss)
 above-set m n q [] above = tt
 above-set m n q (s ∷ ss) above = elim (cases_Bool (eqb s.0 n)) [
   | inl is ↦ rw is (subst (λ k. m < k) (eqb-true s.0 n is) above.0, above.1)
   | inr other ↦ rw other (above.0, above-set m n q ss above.1)
 ]
 
-pub rising-set : (n : ℕ) (q : Quota) (ss : List BookedSeat) → AreRising number_of ss → AreRising number_of (set_seat n q ss)
+pub rising-set : (n : ℕ) (q : ReserveOf) (ss : List BookedSeat) → AreRising number_of ss → AreRising number_of (set_seat n q ss)
 rising-set n q [] rising = tt
 rising-set n q (s ∷ ss) rising = elim (cases_Bool (eqb s.0 n)) [
   | inl is ↦ rw is (subst (λ k. AreAbove number_of k ss) (eqb-true s.0 n is) rising.0, rising.1)
@@ -197,7 +197,7 @@ used-found who n (g ∷ gs) held is = elim (cases_Bool (is_held_as who n g)) [
 
 -- room
 
-pub not-full : (shared : CoreState) (q : Quota) (all totals : Amount) → all ≡ amount_of (seats_in_hall shared.tenants) → IsAmountWithin (plus (of_one q) all) totals → totals.sessions ≤ 64 → totals.segments ≤ shared.totals.segments → totals.nodes ≤ shared.totals.nodes → is_full (reservations_in shared) q ≡ false
+pub not-full : (shared : CoreState) (q : ReserveOf) (all totals : Amount) → all ≡ amount_of (seats_in_hall shared.tenants) → IsAmountWithin (plus (of_one q) all) totals → totals.sessions ≤ 64 → totals.segments ≤ shared.totals.segments → totals.nodes ≤ shared.totals.nodes → is_full (reservations_in shared) q ≡ false
 not-full shared q all totals is room few segments nodes =
     let accounts = accounts_in shared.tenants in
     let long : length accounts ≡ all.sessions = hall-sessions shared.tenants ∙ ap (λ (a : Amount). a.sessions) (sym is) in
@@ -205,7 +205,7 @@ not-full shared q all totals is room few segments nodes =
     let node_sum : reserved_nodes accounts ≡ all.nodes = hall-nodes shared.tenants ∙ ap (λ (a : Amount). a.nodes) (sym is) in
     or_from _ _ (or_from _ _ (lt-leb 64 (length accounts) (omega (arith, long, room.sessions, few))) (le-ltb shared.totals.segments (reserved_segments accounts + q.segments) (omega (arith, segment_sum, room.segments, segments)))) (le-ltb shared.totals.nodes (reserved_nodes accounts + q.nodes) (omega (arith, node_sum, room.nodes, nodes)))
 
-pub not-beyond : (shared : CoreState) (own q : Quota) (all others totals : Amount) → all ≡ amount_of (seats_in_hall shared.tenants) → all ≡ plus (of_one own) others → IsAmountWithin (plus (of_one q) others) totals → totals.segments ≤ shared.totals.segments → totals.nodes ≤ shared.totals.nodes → is_beyond (reservations_in shared) own q ≡ false
+pub not-beyond : (shared : CoreState) (own q : ReserveOf) (all others totals : Amount) → all ≡ amount_of (seats_in_hall shared.tenants) → all ≡ plus (of_one own) others → IsAmountWithin (plus (of_one q) others) totals → totals.segments ≤ shared.totals.segments → totals.nodes ≤ shared.totals.nodes → is_beyond (reservations_in shared) own q ≡ false
 not-beyond shared own q all others totals is parts room segments nodes =
     let accounts = accounts_in shared.tenants in
     let segment_sum : reserved_segments accounts ≡ own.segments + others.segments = hall-segments shared.tenants ∙ ap (λ (a : Amount). a.segments) (sym is ∙ parts) in

@@ -1,7 +1,7 @@
 -- Meaning: the hall of a site's desk with the book of its customers, and what each call does to both.
 use Rattle.std.specs.Prelude.{◌≡◌, ℕ, ◌+◌, ◌≤◌, ◌^◌, Bool, true, false, Some, None, Result, Ok, Err, IsSome}
 use Rattle.numbered_list.specs.Places.{AreRising}
-use Rattle.tenant_quota.specs.Quota.{Quota}
+use Rattle.tenant_quota.specs.Reserves.{ReserveOf}
 use Rattle.sched_rules.specs.declared.refusal.Refusal.{Refusal as HallRefusal}
 use Rattle.sched_rules.specs.declared.refusal.Refusal.TheVariants.{OldTenant as HallOldTenant, OutOfMemory as HallOutOfMemory}
 use Rattle.sched_rules.specs.declared.step.StepOf.{StepOf}
@@ -48,12 +48,12 @@ turned_by _ = OutOfMemory
 
 -- a customer's session is admitted: where the book allows it the tenant is admitted under the number after the newest, and the grant is
 -- entered, both at once
-abbrev pub IsLetIn : BookedOf → Who → Quota → ℕ → BookedOf → Type 0
+abbrev pub IsLetIn : BookedOf → Who → ReserveOf → ℕ → BookedOf → Type 0
 IsLetIn before who ask number after =
     (why_over before.book.plan who ask before.book.grants ≡ None) × (number ≡ before.hall.shared.newest + 1) × (after.book ≡ taken before.book (Opens who number ask)) × TookInHall before.hall (Admit number ask) after.hall
 
 -- a customer is turned away, and nothing changes: the book refuses it, or the hall has no number or no memory left
-abbrev pub IsTurnedAway : BookedOf → Who → Quota → Turned → BookedOf → Type 0
+abbrev pub IsTurnedAway : BookedOf → Who → ReserveOf → Turned → BookedOf → Type 0
 IsTurnedAway before who ask (ByBook refusal) after = (why_over before.book.plan who ask before.book.grants ≡ Some refusal) × (after ≡ before)
 IsTurnedAway before who ask OldTenant after = (2 ^ 62 ≤ before.hall.shared.newest) × (after ≡ before)
 IsTurnedAway before who ask OutOfMemory after =
@@ -61,7 +61,7 @@ IsTurnedAway before who ask OutOfMemory after =
 
 -- what comes of a raise: it is refused exactly where the book refuses it, or else the tenant and the grant have this, both at once; or no
 -- memory is left, and nothing changes
-abbrev pub IsRaise : BookedOf → Who → ℕ → Quota → Result (Unit {0}) Turned → BookedOf → Type 0
+abbrev pub IsRaise : BookedOf → Who → ℕ → ReserveOf → Result (Unit {0}) Turned → BookedOf → Type 0
 IsRaise before who number ask (Ok _) after =
     (why_no_raise before.book.plan who number ask before.book.grants (grant_of who number before.book.grants) ≡ None) × (after.book ≡ taken before.book (Raises who number ask)) × TookInHall before.hall (AdmitMore number ask) after.hall
 IsRaise before who number ask (Err (ByBook refusal)) after =

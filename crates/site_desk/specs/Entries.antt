@@ -1,6 +1,6 @@
 -- Meaning: what one has who asked a site's desk for a session: a seat, or why there is none.
 use Rattle.std.specs.Prelude.{◌≡◌, ℕ, [], None}
-use Rattle.tenant_quota.specs.Quota.{Quota}
+use Rattle.tenant_quota.specs.Reserves.{ReserveOf}
 use Rattle.sched_rules.specs.Cores.{tenant_in}
 use Rattle.hall.specs.Halls.{HallOf}
 use Rattle.desk.specs.Histories.{IsSeated}
@@ -13,7 +13,7 @@ use Rattle.site_desk.specs.declared.entry.SeatOutcome.TheVariants.{Seated}
 
 -- a new seat at the desk of this number, which was made with this hall and this plan: it is this customer's, has asked nothing, and its share is
 -- 1. The history of the hall ends with its admission, that of the book with its opening, and the first hall had no such tenant
-pub record IsNewSeat (begun : HallOf) (plan : PlanOf) (at : ℕ) (who : Who) (ask : Quota) (seat : SiteSeatOf) : Type 0 where
+pub record IsNewSeat (begun : HallOf) (plan : PlanOf) (at : ℕ) (who : Who) (ask : ReserveOf) (seat : SiteSeatOf) : Type 0 where
   pub whose : seat.who ≡ who
   pub where_at : seat.at ≡ at
   pub unasked : seat.seat.asked ≡ []
@@ -23,6 +23,6 @@ pub record IsNewSeat (begun : HallOf) (plan : PlanOf) (at : ℕ) (who : Who) (as
   pub opened : IsOpened plan who seat.seat.tenant ask seat.books
 
 -- what one has who asked a site's desk for a session: if seated, a new seat of its own; else nothing is said here
-abbrev pub IsEntry : HallOf → PlanOf → ℕ → Who → Quota → SeatOutcome SiteSeatOf → Type 0
+abbrev pub IsEntry : HallOf → PlanOf → ℕ → Who → ReserveOf → SeatOutcome SiteSeatOf → Type 0
 IsEntry begun plan at who ask (Seated seat) = IsNewSeat begun plan at who ask seat
 IsEntry begun plan at who ask _ = Unit {0}

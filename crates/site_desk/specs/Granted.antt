@@ -1,6 +1,6 @@
 -- Meaning: the history of a book, which are the events that it granted since it was made, each with the number of its maker.
 use Rattle.std.specs.Prelude.{◌≡◌, ℕ, ◌==◌, ◌&&◌, Bool, true, false, List, [], ◌∷◌, ◌++◌, Some, None, is_some}
-use Rattle.tenant_quota.specs.Quota.{Quota}
+use Rattle.tenant_quota.specs.Reserves.{ReserveOf}
 use Rattle.desk.specs.Histories.{Saw}
 use Rattle.desk.specs.Traces.{own, Known}
 use Rattle.site_book.specs.declared.event.BookEvent.{BookEvent}
@@ -46,7 +46,7 @@ pub record IsFirstOf (plan : PlanOf) (event : BookEvent) (known : Known BookEven
   pub granted : IsGrantedFrom plan known.seen
 
 -- a new session's maker has seen the events up to its own opening
-abbrev pub IsOpened : PlanOf → Who → ℕ → Quota → Known BookEvent → Type 0
+abbrev pub IsOpened : PlanOf → Who → ℕ → ReserveOf → Known BookEvent → Type 0
 IsOpened plan who number ask known = IsFirstOf plan (Opens who number ask) known
 
 -- another plan came in, by which a book goes on whose plan was this one until then: its maker has seen the events up to that

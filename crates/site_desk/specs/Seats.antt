@@ -3,7 +3,7 @@ use Rattle.std.specs.Prelude.{◌≡◌, ℕ, Result, Ok, Err}
 use Rattle.sched_rules.specs.declared.refusal.Refusal.TheVariants.{OutOfMemory as HallOutOfMemory}
 use Rattle.sched_rules.specs.declared.step.StepOf.{StepOf}
 use Rattle.sched_rules.specs.declared.step.StepOf.TheVariants.{AdmitMore}
-use Rattle.tenant_quota.specs.Quota.{Quota}
+use Rattle.tenant_quota.specs.Reserves.{ReserveOf}
 use Rattle.hall.specs.Halls.{HallOf}
 use Rattle.hall.specs.jamboree_rules.declared.leaf.LeafAnswer.{LeafAnswer}
 use Rattle.desk.specs.Traces.{Known}
@@ -35,7 +35,7 @@ pub record BookTraceOf : Type 0 where
 
 -- how a raise of what a seat reserves is answered, by the history: the raise was taken, and the history ends with it; or the book refused it,
 -- and nobody was asked; or memory ran out
-abbrev pub IsRaiseTold : HallOf → SeatOf → Quota → Result (Unit {0}) Turned → SeatOf → Type 0
+abbrev pub IsRaiseTold : HallOf → SeatOf → ReserveOf → Result (Unit {0}) Turned → SeatOf → Type 0
 IsRaiseTold begun before ask (Ok done) after =
     (after ≡ stepped after.known before) × IsToldOf {X = Unit {0}} begun before.known (AdmitMore before.tenant ask) (Ok done) after.known
 IsRaiseTold begun before ask (Err (ByBook refusal)) after = after ≡ before

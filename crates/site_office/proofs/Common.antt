@@ -64,7 +64,7 @@ unfoldable pub use Rattle.std.specs.Fmt.{digits}
 pub use Rattle.std.specs.List.{concat}
 pub use Rattle.std.specs.Option.{is_some, option_map}
 pub use Rattle.std.specs.Str.{bytes_eq}
-pub use Rattle.tenant_quota.specs.Quota.{Quota}
+pub use Rattle.tenant_quota.specs.Reserves.{ReserveOf}
 pub use Rattle.site_desk.specs.Entries.{IsNewSeat}
 pub use Rattle.site_book.specs.Plans.{PlanOf}
 pub use Rattle.site_book.specs.declared.who.Who.{Who}

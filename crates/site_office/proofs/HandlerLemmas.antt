@@ -1,5 +1,5 @@
 -- Whether a tenant is there, through the lines of a site's session.
-use Rattle.site_office.proofs.Common.{◌≡◌, ℕ, List, [], ◌∷◌, Bool, true, false, Option, sym, ap, subst, ◌∙◌, LineText, Answers, Call, Hello, Reserve, Get, Leave, OfficeReply, Gone, Request, Fault, Makes, Tabulates, Ends, LeavesIf, Turned, seated_after, Quota, Greeted, Known, Unknown, Crowded, Info, SiteRequest, Greets, Raises, Informs, Pings, Plain, IsRefused, IsWelcomed, SiteTurned, IfPaid, site_relations, handler_of}
+use Rattle.site_office.proofs.Common.{◌≡◌, ℕ, List, [], ◌∷◌, Bool, true, false, Option, sym, ap, subst, ◌∙◌, LineText, Answers, Call, Hello, Reserve, Get, Leave, OfficeReply, Gone, Request, Fault, Makes, Tabulates, Ends, LeavesIf, Turned, seated_after, ReserveOf, Greeted, Known, Unknown, Crowded, Info, SiteRequest, Greets, Raises, Informs, Pings, Plain, IsRefused, IsWelcomed, SiteTurned, IfPaid, site_relations, handler_of}
 
 -- what each answer keeps true stays true through a chain of them
 pub chain-holds : {A : Type 0} (answers : A → LineText → List ℕ → A → Type 0) (holds : A → Type 0) → ((a : A) (line : LineText) (text : List ℕ) (b : A) → answers a line text b → holds a → holds b)
@@ -27,16 +27,16 @@ module _ {O : Type 0} (does : O → Call → OfficeReply → O → Type 0) (gree
   refused : (number : ℕ) (from : O) (seated : Bool) (text : List ℕ) (to : O) (seated' : Bool) → IsRefused number (handler_of from seated) text (handler_of to seated') → here from ≡ seated → here to ≡ seated'
   refused number from seated text to seated' h e = ap here (sym h.0) ∙ e ∙ sym h.1
 
-  welcomed : (greeted : Greeted) (quota : Quota) (from : O) (seated : Bool) (text : List ℕ) (to : O) (seated' : Bool) → IsWelcomed does greeted quota (handler_of from seated) text (handler_of to seated') → here from ≡ seated → here to ≡ seated'
+  welcomed : (greeted : Greeted) (quota : ReserveOf) (from : O) (seated : Bool) (text : List ℕ) (to : O) (seated' : Bool) → IsWelcomed does greeted quota (handler_of from seated) text (handler_of to seated') → here from ≡ seated → here to ≡ seated'
   welcomed Known quota from seated text to seated' h e = turned (Makes (Hello quota)) from seated text to seated' h e
   welcomed Unknown quota from seated text to seated' h e = refused 30 from seated text to seated' h e
   welcomed Crowded quota from seated text to seated' h e = refused 14 from seated text to seated' h e
 
-  greeted-so : (passes : Bool) (greeted : Greeted) (quota : Quota) (from : O) (seated : Bool) (text : List ℕ) (to : O) (seated' : Bool) → IfPaid passes (IsWelcomed does greeted quota (handler_of from seated) text (handler_of to seated')) (handler_of from seated) text (handler_of to seated') → here from ≡ seated → here to ≡ seated'
+  greeted-so : (passes : Bool) (greeted : Greeted) (quota : ReserveOf) (from : O) (seated : Bool) (text : List ℕ) (to : O) (seated' : Bool) → IfPaid passes (IsWelcomed does greeted quota (handler_of from seated) text (handler_of to seated')) (handler_of from seated) text (handler_of to seated') → here from ≡ seated → here to ≡ seated'
   greeted-so true greeted quota from seated text to seated' h e = welcomed greeted quota from seated text to seated' h e
   greeted-so false greeted quota from seated text to seated' h e = refused 31 from seated text to seated' h e
 
-  raised : (passes : Bool) (quota : Quota) (from : O) (seated : Bool) (text : List ℕ) (to : O) (seated' : Bool) → IfPaid passes (Turned does (Makes (Reserve quota)) (handler_of from seated) text (handler_of to seated')) (handler_of from seated) text (handler_of to seated') → here from ≡ seated → here to ≡ seated'
+  raised : (passes : Bool) (quota : ReserveOf) (from : O) (seated : Bool) (text : List ℕ) (to : O) (seated' : Bool) → IfPaid passes (Turned does (Makes (Reserve quota)) (handler_of from seated) text (handler_of to seated')) (handler_of from seated) text (handler_of to seated') → here from ≡ seated → here to ≡ seated'
   raised true quota from seated text to seated' h e = turned (Makes (Reserve quota)) from seated text to seated' h e
   raised false quota from seated text to seated' h e = refused 31 from seated text to seated' h e
 

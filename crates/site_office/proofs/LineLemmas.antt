@@ -1,5 +1,5 @@
 -- What comes of one line of a site's session: it is answered beside the session, or is a line of the session's own.
-use Rattle.site_office.proofs.Common.{◌≡◌, ◌⊎◌, ℕ, List, Bool, true, false, refl, sym, ap, ◌∙◌, inl, inr, Option, codes, bytes_eq, if◌then◌else◌, LineText, Whole, TooLong, HallOf, Quota, Call, Hello, Reserve, Get, Leave, OfficeReply, Gone, reply_text, Request, Fault, Makes, Tabulates, Ends, request, LeavesIf, Turned, seated_after, IsTurnAt, Greeted, Known, Unknown, Crowded, Info, SiteRequest, Pings, asked_by, info_request, site_request, SiteTurned, token_of, without_token, SiteOfficeOf, office_of, IsSiteTurn, IsTracedAt, IsRefusedByBook, Stays, IsBeside, MayBeOwn, tokenless, is_some, IfPaid, IsWelcomed, site_relations, handler_of}
+use Rattle.site_office.proofs.Common.{◌≡◌, ◌⊎◌, ℕ, List, Bool, true, false, refl, sym, ap, ◌∙◌, inl, inr, Option, codes, bytes_eq, if◌then◌else◌, LineText, Whole, TooLong, HallOf, ReserveOf, Call, Hello, Reserve, Get, Leave, OfficeReply, Gone, reply_text, Request, Fault, Makes, Tabulates, Ends, request, LeavesIf, Turned, seated_after, IsTurnAt, Greeted, Known, Unknown, Crowded, Info, SiteRequest, Pings, asked_by, info_request, site_request, SiteTurned, token_of, without_token, SiteOfficeOf, office_of, IsSiteTurn, IsTracedAt, IsRefusedByBook, Stays, IsBeside, MayBeOwn, tokenless, is_some, IfPaid, IsWelcomed, site_relations, handler_of}
 
 pub stays-same : (from to : SiteOfficeOf) → from ≡ to → Stays from to
 stays-same from to e = record { seat = ap (λ (o : SiteOfficeOf). (office_of o).seat) (sym e); there = ap (λ (o : SiteOfficeOf). is_some o.seat) (sym e); knew = ap (λ (o : SiteOfficeOf). o.knew) (sym e); place = λ h. ap (λ (o : SiteOfficeOf). o.at) (sym e) }
@@ -41,14 +41,14 @@ module _ (begun : ℕ → HallOf) where
     made : (asked : SiteRequest) (call : Call) → MayBeOwn asked → (start from to : O) (seated : Bool) (text : List ℕ) (seated' : Bool) → ((reply : OfficeReply) → IsRefusedByBook call reply → ⊥) → Stays (seen start) (seen from) → Turned does (Makes call) (handler_of from seated) text (handler_of to seated') → Came asked (Makes call) (seen start) seated text (seen to) seated'
     made asked call may start from to seated text seated' other s h = inr (seen from, s, (h.0, as-own (seen from) (seen to) call h.0 (called from call h.0 to h.1) (other h.0), h.2, h.3), may)
 
-    greeted-so : (token : Option (List ℕ)) (quota : Quota) (passes : Bool) (greeted : Greeted) (start from to : O) (seated : Bool) (text : List ℕ) (seated' : Bool) → Stays (seen start) (seen from) → IfPaid passes (IsWelcomed does greeted quota (handler_of from seated) text (handler_of to seated')) (handler_of from seated) text (handler_of to seated')
+    greeted-so : (token : Option (List ℕ)) (quota : ReserveOf) (passes : Bool) (greeted : Greeted) (start from to : O) (seated : Bool) (text : List ℕ) (seated' : Bool) → Stays (seen start) (seen from) → IfPaid passes (IsWelcomed does greeted quota (handler_of from seated) text (handler_of to seated')) (handler_of from seated) text (handler_of to seated')
         → Came (asked_by token (Makes (Hello quota))) (Makes (Hello quota)) (seen start) seated text (seen to) seated'
     greeted-so token quota true Known start from to seated text seated' s h = made (asked_by token (Makes (Hello quota))) (Hello quota) tt start from to seated text seated' (λ reply away. away) s h
     greeted-so token quota true Unknown start from to seated text seated' s h = inl (inr (inl h.2), stays-on (seen start) (seen from) (seen to) s (stays-same (seen from) (seen to) (ap seen h.0)), h.1)
     greeted-so token quota true Crowded start from to seated text seated' s h = inl (inr (inr h.2), stays-on (seen start) (seen from) (seen to) s (stays-same (seen from) (seen to) (ap seen h.0)), h.1)
     greeted-so token quota false greeted start from to seated text seated' s h = inl (inl h.2, stays-on (seen start) (seen from) (seen to) s (stays-same (seen from) (seen to) (ap seen h.0)), h.1)
 
-    raised : (token : Option (List ℕ)) (quota : Quota) (passes : Bool) (start from to : O) (seated : Bool) (text : List ℕ) (seated' : Bool) → Stays (seen start) (seen from) → IfPaid passes (Turned does (Makes (Reserve quota)) (handler_of from seated) text (handler_of to seated')) (handler_of from seated) text (handler_of to seated')
+    raised : (token : Option (List ℕ)) (quota : ReserveOf) (passes : Bool) (start from to : O) (seated : Bool) (text : List ℕ) (seated' : Bool) → Stays (seen start) (seen from) → IfPaid passes (Turned does (Makes (Reserve quota)) (handler_of from seated) text (handler_of to seated')) (handler_of from seated) text (handler_of to seated')
         → Came (asked_by token (Makes (Reserve quota))) (Makes (Reserve quota)) (seen start) seated text (seen to) seated'
     raised token quota false start from to seated text seated' s h = inl (inl h.2, stays-on (seen start) (seen from) (seen to) s (stays-same (seen from) (seen to) (ap seen h.0)), h.1)
     raised token quota true start from to seated text seated' s h = by turn.came

@@ -1,5 +1,5 @@
 -- What a call of the office of a site's session is, by what the desk's call has done.
-use Rattle.site_office.proofs.Common.{PlanOf, Who, IsNewSeat, Hello, Welcome, Refused, comer_refusals, live_answer, [], ◌∷◌, Contains, IfErr, MatchResult, map, Left, Tenant, NoTenant, refusal_number, left, tenant_in, core_at, lone_tenant, IsLook, IsTrueTo, Took, LeaveStep, left_in_core, live_in_core, found_or_no_tenant, live_in, seeing, refused-by, ask_of, asks_of, KeepsAsks, AskQuota, AskLive, Leave, Rest, Alive, Gone, OfficeOf, SiteOfficeOf, IsTurnOf, History, length, sum_by, ◌≡◌, ℕ, true, refl, sym, ap, subst, ◌∙◌, inl, inr, arith, Option, Some, None, Result, Ok, Err, is_some, option_map, Quota, Refusal, HallOutOfMemory, HallOf, SeatOf, Call, Reserve, OfficeReply, Reserved, reply_of, seated_after, with_seat, IsTurnAt, reserve-turn, RaiseTurned, ByBook, NumbersOut, NoMemory, IsRaiseTold, SiteSeatOf, SiteTraceOf, at_site, office_of, IsSiteTurn, IsTracedAt, place_of, raise_refusal}
+use Rattle.site_office.proofs.Common.{PlanOf, Who, IsNewSeat, Hello, Welcome, Refused, comer_refusals, live_answer, [], ◌∷◌, Contains, IfErr, MatchResult, map, Left, Tenant, NoTenant, refusal_number, left, tenant_in, core_at, lone_tenant, IsLook, IsTrueTo, Took, LeaveStep, left_in_core, live_in_core, found_or_no_tenant, live_in, seeing, refused-by, ask_of, asks_of, KeepsAsks, AskQuota, AskLive, Leave, Rest, Alive, Gone, OfficeOf, SiteOfficeOf, IsTurnOf, History, length, sum_by, ◌≡◌, ℕ, true, refl, sym, ap, subst, ◌∙◌, inl, inr, arith, Option, Some, None, Result, Ok, Err, is_some, option_map, ReserveOf, Refusal, HallOutOfMemory, HallOf, SeatOf, Call, Reserve, OfficeReply, Reserved, reply_of, seated_after, with_seat, IsTurnAt, reserve-turn, RaiseTurned, ByBook, NumbersOut, NoMemory, IsRaiseTold, SiteSeatOf, SiteTraceOf, at_site, office_of, IsSiteTurn, IsTracedAt, place_of, raise_refusal}
 
 -- how a raise is answered
 abbrev pub raised_answer : Result (Unit {0}) RaiseTurned → Result (Unit {0}) Refusal
@@ -39,7 +39,7 @@ pub noted : (begun : ℕ → HallOf) (from : SiteOfficeOf) (call : Call) (reply 
 noted begun from call reply reply' at at' seat seat' knew knew' e f h k t = subst (λ (z : OfficeReply × SiteOfficeOf). IsSiteTurn begun from call z.0 z.1) (λ i. (sym e i, at_site (sym f i) (sym h i) (sym k i))) t
 
 -- a raise, where the book has what it had unless it was taken
-pub raised : (begun : ℕ → HallOf) (at : ℕ) (seat : Option SiteSeatOf) (knew : Option SiteTraceOf) (before after : SiteSeatOf) → seat ≡ Some before → (quota : Quota) (answer : Result (Unit {0}) RaiseTurned) → IsRaiseTold (begun at) before.seat quota answer after.seat →
+pub raised : (begun : ℕ → HallOf) (at : ℕ) (seat : Option SiteSeatOf) (knew : Option SiteTraceOf) (before after : SiteSeatOf) → seat ≡ Some before → (quota : ReserveOf) (answer : Result (Unit {0}) RaiseTurned) → IsRaiseTold (begun at) before.seat quota answer after.seat →
     after ≡ record before { seat = after.seat; books = after.books } → (Entered : Unit {0} → Type 0) → MatchResult answer Entered (λ _. after.books ≡ before.books) →
     IsSiteTurn begun (at_site at seat knew) (Reserve quota) (reply_of (λ _. Reserved quota) (raised_answer answer)) (at_site at (Some after) knew)
 raised begun at seat knew before after is quota (Ok done) told kept entered books =
@@ -106,9 +106,9 @@ left-turn begun at seat knew here trace is own told =
     }
 
 -- a new tenant comes
-pub came_in : (begun : ℕ → HallOf) (plan : PlanOf) (at : ℕ) (who : Who) (quota : Quota) (knew : Option SiteTraceOf) (here : SiteSeatOf) → IsNewSeat (begun at) plan at who quota here → IsSiteTurn begun (at_site at None knew) (Hello quota) (Welcome quota) (at_site at (Some here) knew)
+pub came_in : (begun : ℕ → HallOf) (plan : PlanOf) (at : ℕ) (who : Who) (quota : ReserveOf) (knew : Option SiteTraceOf) (here : SiteSeatOf) → IsNewSeat (begun at) plan at who quota here → IsSiteTurn begun (at_site at None knew) (Hello quota) (Welcome quota) (at_site at (Some here) knew)
 came_in begun plan at who quota knew here new = record { place = refl; knew = refl; there = refl; came = inl (inl (here.seat, refl, new.admitted, new.new, new.unasked, refl), (ap (map ask_of) new.unasked, tt, tt, refl)) }
 
 -- it is turned away
-pub refused_in : (begun : ℕ → HallOf) (at : ℕ) (quota : Quota) (knew : Option SiteTraceOf) (refusal : Refusal) → Contains comer_refusals refusal → IsSiteTurn begun (at_site at None knew) (Hello quota) (Refused (refusal_number refusal)) (at_site at None knew)
+pub refused_in : (begun : ℕ → HallOf) (at : ℕ) (quota : ReserveOf) (knew : Option SiteTraceOf) (refusal : Refusal) → Contains comer_refusals refusal → IsSiteTurn begun (at_site at None knew) (Hello quota) (Refused (refusal_number refusal)) (at_site at None knew)
 refused_in begun at quota knew refusal h = record { place = refl; knew = refl; there = refl; came = inl (inr (refl, refusal_number refusal, refl), (refl, tt, refused-by comer_refusals refusal h, tt)) }

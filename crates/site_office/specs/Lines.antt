@@ -5,14 +5,14 @@ use Rattle.line_io.specs.Lines.{LineText, Whole, TooLong}
 use Rattle.protocol.specs.declared.faults.ProtocolFault.TheVariants.{LongLine, NoHello}
 use Rattle.session.specs.Calls.{Hello, Reserve}
 use Rattle.session.specs.Requests.{Request, Fault, Makes, request}
-use Rattle.tenant_quota.specs.Quota.{Quota}
+use Rattle.tenant_quota.specs.Reserves.{ReserveOf}
 use Rattle.site_office.specs.Tokens.{token_of, without_token}
 
 -- what a line asks for: a session with this reservation, perhaps by a token; that the session's reservation be raised to this; what the
 -- customer may have and has; a sign that the site is there; or what concerns the session alone
 pub data SiteRequest : Type 0 where
-  Greets : (token : Option (List ℕ)) (quota : Quota) → SiteRequest
-  Raises : (quota : Quota) → SiteRequest
+  Greets : (token : Option (List ℕ)) (quota : ReserveOf) → SiteRequest
+  Raises : (quota : ReserveOf) → SiteRequest
   Informs : SiteRequest
   Pings : SiteRequest
   Plain : (request : Request) → SiteRequest

@@ -4,7 +4,7 @@ use Rattle.protocol.specs.Texts.{error_text}
 use Rattle.session.specs.Calls.{Call, Hello, Reserve, OfficeReply}
 use Rattle.session.specs.Requests.{Makes}
 use Rattle.session.specs.Sessions.{HandlerOf, Turned, handler_of}
-use Rattle.tenant_quota.specs.Quota.{Quota}
+use Rattle.tenant_quota.specs.Reserves.{ReserveOf}
 use Rattle.site_office.specs.declared.access.Greeted.{Greeted}
 use Rattle.site_office.specs.declared.access.Greeted.TheVariants.{Known, Unknown, Crowded}
 use Rattle.site_office.specs.declared.access.Info.{Info}
@@ -38,7 +38,7 @@ IsRefused number from text to = (from.office ≡ to.office) × (to.seated ≡ fr
 
 -- what comes of a HELLO whose rate was paid, by what is known of who says it: ERR 30 where nobody has the token, ERR 14 where its customer
 -- has too many connections, and else what comes of it in any session
-abbrev pub IsWelcomed : {O : Type 0} → (O → Call → OfficeReply → O → Type 0) → Greeted → Quota → HandlerOf O → List ℕ → HandlerOf O → Type 0
+abbrev pub IsWelcomed : {O : Type 0} → (O → Call → OfficeReply → O → Type 0) → Greeted → ReserveOf → HandlerOf O → List ℕ → HandlerOf O → Type 0
 IsWelcomed does Known quota from text to = Turned does (Makes (Hello quota)) from text to
 IsWelcomed does Unknown quota from text to = IsRefused 30 from text to
 IsWelcomed does Crowded quota from text to = IsRefused 14 from text to

@@ -1,9 +1,9 @@
 -- The search of a line of `solve`: what was asked of its core stays asked, and what has become of the job answers it.
-use Rattle.solve_engine.proofs.Common.{◌≡◌, ℕ, Bool, true, false, ◌&&◌, eqb, List, [], ◌∷◌, ◌++◌, Option, Some, None, Result, Ok, refl, ap, ap₂, sym, ◌∙◌, subst, append-nil, rules, is_ok, if◌then◌else◌, IsSome, Quota, cells, cells_of, Refusal, StepOf, Submit, DidOf, tenant_of, Tenant, CoreState, shared_by_nobody, tenant_in, submits, origins_after, LeafAnswer, root_words, Reply, board_of, IsSearch, TenantSearches, ServesSearches, CoreSearches, origin_at, Done, IsReplyOn, AnswersTo, nobody-searches, core-tenant, core-serves, HasAsked, HasReserved}
+use Rattle.solve_engine.proofs.Common.{◌≡◌, ℕ, Bool, true, false, ◌&&◌, eqb, List, [], ◌∷◌, ◌++◌, Option, Some, None, Result, Ok, refl, ap, ap₂, sym, ◌∙◌, subst, append-nil, rules, is_ok, if◌then◌else◌, IsSome, ReserveOf, cells, cells_of, Refusal, StepOf, Submit, DidOf, tenant_of, Tenant, CoreState, shared_by_nobody, tenant_in, submits, origins_after, LeafAnswer, root_words, Reply, board_of, IsSearch, TenantSearches, ServesSearches, CoreSearches, origin_at, Done, IsReplyOn, AnswersTo, nobody-searches, core-tenant, core-serves, HasAsked, HasReserved}
 use Rattle.jamboree_core.specs.declared.outcomes.Outcome.{Outcome}
 
 -- a core with no tenant was asked nothing
-pub nothing-asked : (totals : Quota) (shared : CoreState) → shared ≡ shared_by_nobody totals → HasAsked [] shared
+pub nothing-asked : (totals : ReserveOf) (shared : CoreState) → shared ≡ shared_by_nobody totals → HasAsked [] shared
 nothing-asked totals shared is =
     let P : CoreState → Type 0 = λ s. HasAsked [] s in
     subst P (sym is) (record { origins = λ number. []; are = refl; searches = nobody-searches totals })
@@ -47,7 +47,7 @@ abbrev pub TellsOf : CoreState → Option Outcome → Type 0
 TellsOf shared outcome =
     (origins : List (List ℕ)) (owner : Tenant) → tenant_in shared.tenants 1 ≡ Some owner → TenantSearches origins owner → AnswersTo (origin_at origins 1) outcome
 
-pub outcome-to : {words : List ℕ} {quota : Quota} {shared : CoreState} {outcome : Option Outcome} → HasReserved quota shared → HasAsked (words ∷ []) shared →
+pub outcome-to : {words : List ℕ} {quota : ReserveOf} {shared : CoreState} {outcome : Option Outcome} → HasReserved quota shared → HasAsked (words ∷ []) shared →
     TellsOf shared outcome → AnswersTo (Some words) outcome
 outcome-to {shared = shared} reserved has tells =
     let to = tells (has.origins 1) reserved.tenant reserved.there (core-tenant has.origins shared 1 reserved.tenant has.searches reserved.there) in rw has.are at to

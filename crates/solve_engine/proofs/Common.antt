@@ -55,7 +55,7 @@ pub use Rattle.sched_rules.specs.declared.step.DidOf.{DidOf}
 pub use Rattle.sched_rules.specs.declared.step.DidOf.TheVariants.{Admitted}
 pub use Rattle.sched_rules.specs.declared.step.StepOf.{StepOf}
 pub use Rattle.sched_rules.specs.declared.step.StepOf.TheVariants.{Admit, Steal, Submit, Take}
-pub use Rattle.tenant_quota.specs.Quota.{IsWithinLimits, Quota}
+pub use Rattle.tenant_quota.specs.Reserves.{IsWithinLimits, ReserveOf}
 pub use Rattle.solve_engine.specs.Asked.{HasAsked, HasReserved, HasRun, IsNewCore, IsWork, Keeps, Task, WorksOn}
 pub use Rattle.solve_engine.specs.Solving.{IsSolvedLine, IsVisitedLine, OrderedRun, SolvedRun, answers_unless, question_answer, solve_line, solve_line_unless}
 pub use Rattle.solve_engine.specs.Solving.{solve_out_unless, solved, solved_unless, solved_with_count}

@@ -1,5 +1,5 @@
 -- What the search of a line of `solve` keeps: it begins by an admission and a Submit, and goes on by a worker's steps.
-use Rattle.solve_engine.proofs.Common.{◌≡◌, ◌≢◌, ℕ, inl, inr, false, eqb, ltb, [], ◌∷◌, ◌++◌, Option, Some, None, Result, Ok, Err, refl, ap, sym, ◌∙◌, arith, cases_Bool, eqb-true, eqb-false, nat_tests, Quota, IsWithinLimits, Refusal, StepOf, Admit, Submit, DidOf, Admitted, Tenant, admitted_with, left, Outcome, lone, lone_step, lone_refusal, refusal_in, submitted, tenant_of, answer_of, CoreState, CoreOf, shared_by_nobody, shared_with, tenant_in, IsOneStep, AreNumbersGiven, tenant_in-with_outcome, tenant_in-other-with_outcome, IsTaken, step-taken, shared-after-taken, IsRunning, runs-on, submits, Leaf, LeafAnswer, jamboree, root_words, IsSearch, Jamboree, HasRun, HasReserved, Task, WorksOn, IsWork, Keeps, IsNewCore}
+use Rattle.solve_engine.proofs.Common.{◌≡◌, ◌≢◌, ℕ, inl, inr, false, eqb, ltb, [], ◌∷◌, ◌++◌, Option, Some, None, Result, Ok, Err, refl, ap, sym, ◌∙◌, arith, cases_Bool, eqb-true, eqb-false, nat_tests, ReserveOf, IsWithinLimits, Refusal, StepOf, Admit, Submit, DidOf, Admitted, Tenant, admitted_with, left, Outcome, lone, lone_step, lone_refusal, refusal_in, submitted, tenant_of, answer_of, CoreState, CoreOf, shared_by_nobody, shared_with, tenant_in, IsOneStep, AreNumbersGiven, tenant_in-with_outcome, tenant_in-other-with_outcome, IsTaken, step-taken, shared-after-taken, IsRunning, runs-on, submits, Leaf, LeafAnswer, jamboree, root_words, IsSearch, Jamboree, HasRun, HasReserved, Task, WorksOn, IsWork, Keeps, IsNewCore}
 use Rattle.solve_engine.proofs.Staying.{Stays, step-stays}
 use Rattle.solve_engine.proofs.Asking.{StepSearches, step-asks, submit-asks, nothing-asked}
 
@@ -8,7 +8,7 @@ work-search : {A : Type 0} (step : StepOf A) → IsWork step → (submits step �
 work-search (Submit number words size) work = absurd work
 work-search _ work = (refl, tt)
 
-module _ (grain : ℕ) (totals : Quota) where
+module _ (grain : ℕ) (totals : ReserveOf) where
   -- a run goes on
   run-begins : (shared : CoreState) → shared ≡ shared_by_nobody totals → HasRun grain totals shared
   run-begins shared is = record { steps = []; answers = []; right = tt; comes = is }
@@ -34,7 +34,7 @@ module _ (grain : ℕ) (before : CoreState) (step : StepOf LeafAnswer) where
       )
 
   -- the tenant stays, whoever's the worker's step is
-  reserved-on : (quota : Quota) (answer : Result (DidOf Leaf) Refusal) (after : CoreState) → IsWork step → AreNumbersGiven before → HasReserved quota before →
+  reserved-on : (quota : ReserveOf) (answer : Result (DidOf Leaf) Refusal) (after : CoreState) → IsWork step → AreNumbersGiven before → HasReserved quota before →
       IsOneStep (jamboree grain) before step answer after → HasReserved quota after
   reserved-on quota (Err refusal) after work known has one =
       record { tenant = has.tenant; there = ap (λ (s : CoreState). tenant_in s.tenants 1) one.left ∙ has.there; reserve = has.reserve }
@@ -68,7 +68,7 @@ module _ (before after : CoreOf Jamboree) (step : StepOf LeafAnswer) (answer : R
       }
 
 -- the tenant comes
-module _ (quota : Quota) (before after : CoreOf Jamboree) (did : DidOf Leaf) where
+module _ (quota : ReserveOf) (before after : CoreOf Jamboree) (did : DidOf Leaf) where
   abbrev admitting : StepOf LeafAnswer
   admitting = Admit 1 quota
 
@@ -97,7 +97,7 @@ module _ (quota : Quota) (before after : CoreOf Jamboree) (did : DidOf Leaf) whe
           let own : ◌≡◌ {A = Outcome Leaf} outcome (Some (admitted_with quota), Admitted) = cc in ap (λ (o : Outcome Leaf). o.0) own
 
 -- the job comes: a tenant that has just come has a place, a node and a segment for it
-module _ (grain : ℕ) (quota : Quota) (own opp depth : ℕ) (limits : IsWithinLimits quota) where
+module _ (grain : ℕ) (quota : ReserveOf) (own opp depth : ℕ) (limits : IsWithinLimits quota) where
   some-nodes : eqb (left (admitted_with quota)).nodes 0 ≡ false
   some-nodes = let some = limits.some_nodes in grind (arith, nat_tests)
 

@@ -1,6 +1,6 @@
 -- Meaning: what the core of one line of `solve`, with its one tenant, keeps while its job is worked on.
 use Rattle.std.specs.Prelude.{◌≡◌, ℕ, List, [], Some, Result}
-use Rattle.tenant_quota.specs.Quota.{Quota}
+use Rattle.tenant_quota.specs.Reserves.{ReserveOf}
 use Rattle.sched_rules.specs.declared.refusal.Refusal.{Refusal}
 use Rattle.sched_rules.specs.declared.step.StepOf.{StepOf}
 use Rattle.sched_rules.specs.declared.step.StepOf.TheVariants.{Take, Steal, Advance, Answer, Inlet, Finish, Spend}
@@ -22,14 +22,14 @@ pub record HasAsked (asked : List (List ℕ)) (shared : CoreState) : Type 0 wher
 
 -- a new core of these totals, with this grain, came to this by a list of steps that were each answered as the
 -- definitions say
-pub record HasRun (grain : ℕ) (totals : Quota) (shared : CoreState) : Type 0 where
+pub record HasRun (grain : ℕ) (totals : ReserveOf) (shared : CoreState) : Type 0 where
   pub steps : List (StepOf LeafAnswer)
   pub answers : List (Result (DidOf Leaf) Refusal)
   pub right : AreAnswersTo (jamboree grain) (shared_by_nobody totals) steps answers
   pub comes : shared ≡ after_answers (jamboree grain) (shared_by_nobody totals) steps answers
 
 -- tenant 1 of the core is there, and its reservation is this
-pub record HasReserved (quota : Quota) (shared : CoreState) : Type 0 where
+pub record HasReserved (quota : ReserveOf) (shared : CoreState) : Type 0 where
   pub tenant : Tenant
   pub there : tenant_in shared.tenants 1 ≡ Some tenant
   pub reserve : tenant.reserve ≡ quota
@@ -38,7 +38,7 @@ pub record HasReserved (quota : Quota) (shared : CoreState) : Type 0 where
 -- its jobs were submitted with
 pub record Task : Type 0 where
   pub grain : ℕ
-  pub quota : Quota
+  pub quota : ReserveOf
   pub asked : List (List ℕ)
 
 -- a core has this grain, and came to where it is from these totals; tenant 1 reserves them all, and its jobs are
@@ -65,6 +65,6 @@ IsWork (Spend name) = Unit {0}
 IsWork _ = ⊥
 
 -- a core all of which tenant 1 reserves, who was just admitted and has no job
-pub record IsNewCore (grain : ℕ) (quota : Quota) (core : CoreOf Jamboree) : Type 0 where
+pub record IsNewCore (grain : ℕ) (quota : ReserveOf) (core : CoreOf Jamboree) : Type 0 where
   pub works : WorksOn (record { grain = grain; quota = quota; asked = [] }) core
   pub fresh : tenant_in core.shared.tenants 1 ≡ Some (admitted_with quota)

@@ -1,6 +1,6 @@
 -- Meaning: what the search of a line of `solve` by a core came to.
 use Rattle.std.specs.Prelude.{◌≡◌, ℕ, List, [], ◌∷◌, Option, Some, None}
-use Rattle.tenant_quota.specs.Quota.{Quota}
+use Rattle.tenant_quota.specs.Reserves.{ReserveOf}
 use Rattle.sched_rules.specs.declared.job.Job.{Job}
 use Rattle.sched_rules.specs.declared.job.Job.TheVariants.{Live, Done as DoneJob, Spent as SpentJob, Cancelled as CancelledJob}
 use Rattle.sched_rules.specs.Cores.{CoreState}
@@ -25,7 +25,7 @@ pub record IsFoundIn (shared : CoreState) (found : Searched) : Type 0 where
 
 -- what was found is what a core came to from new: it has this grain and these totals, which tenant 1 reserves,
 -- and one job, which was submitted with these words
-pub record IsFoundBy (grain : ℕ) (totals : Quota) (words : List ℕ) (found : Searched) : Type 0 where
+pub record IsFoundBy (grain : ℕ) (totals : ReserveOf) (words : List ℕ) (found : Searched) : Type 0 where
   pub shared : CoreState
   pub run : HasRun grain totals shared
   pub reserved : HasReserved totals shared

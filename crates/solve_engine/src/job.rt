@@ -1,6 +1,6 @@
 //! The one job of the core of a line of `solve`: how it is asked, and what it came to.
 ghost use Rattle.std.specs.Prelude.{◌≡◌, ◌≤◌, [], ◌∷◌, ℕ, IfOk};
-ghost use Rattle.tenant_quota.specs.Quota.{Quota, IsWithinLimits};
+ghost use Rattle.tenant_quota.specs.Reserves.{ReserveOf, IsWithinLimits};
 ghost use Rattle.othello_board.specs.Words.{cells};
 ghost use Rattle.othello_eval.specs.Minimax.{minimax, best_choice};
 ghost use Rattle.sched_rules.specs.Cores.{shared_by_nobody};
@@ -49,7 +49,7 @@ pub(crate) fn ask<A: Allocator + Clone>(
     depth: u8,
 )
     requires { depth ≤ DEEPEST }
-    ensures { (grain : ℕ) (quota : Quota) → IsWithinLimits quota → IsNewCore grain quota core.old
+    ensures { (grain : ℕ) (quota : ReserveOf) → IsWithinLimits quota → IsNewCore grain quota core.old
         → WorksOn (record { grain = grain; quota = quota; asked = root_words position.now.board.own position.now.board.opp depth ∷ [] }) core.new }
 {
     let _ = step_search(core, &submit(TENANT, position, depth));
@@ -62,7 +62,7 @@ pub(crate) fn answer_in<A: Allocator>(
     depth: u8,
 ) -> Searched
     requires shallow { depth ≤ DEEPEST }
-    requires there { (quota : Quota) × HasReserved quota core.now.shared }
+    requires there { (quota : ReserveOf) × HasReserved quota core.now.shared }
     requires asked { HasAsked (root_words position.now.board.own position.now.board.opp depth ∷ []) core.now.shared }
     ensures value { result.answer.value ≡ minimax depth (cells position.now.board) }
     ensures choice { result.answer.choice ≡ best_choice depth (cells position.now.board) }

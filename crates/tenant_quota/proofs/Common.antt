@@ -7,7 +7,7 @@ pub use Rattle.numbered_list.specs.Places.{change_by_number, find_by_number, has
 pub use Rattle.tenant_quota.specs.Accounts.{AllEntries, IsWithinReserve, account_of, charged_by, charged_segments, credited_by, fresh, left_in}
 pub use Rattle.tenant_quota.specs.Accounts.{owner_of_account, raised_to, reserved_nodes, reserved_segments, ticked, with_new}
 pub use Rattle.tenant_quota.specs.Keeping.{held_by}
-pub use Rattle.tenant_quota.specs.Quota.{IsAbove, IsNotAbove, IsWithinLimits, Quota}
+pub use Rattle.tenant_quota.specs.Reserves.{IsAbove, IsNotAbove, IsWithinLimits, ReserveOf}
 pub use Rattle.tenant_quota.specs.Reservations.{Admits, CanRaise, ChangesOnly, HasRoom, HasRoomFor, IsBeyond, IsLower, IsSoundBook, IsTooMuch}
 pub use Rattle.tenant_quota.specs.Reservations.{KeepsOtherAccounts, Raises, Releases, Reservations, admitted, changed, released, reserve_of, unreserved_of}
 pub use Rattle.tenant_quota.specs.declared.account.Account.{Account}

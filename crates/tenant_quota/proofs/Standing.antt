@@ -1,7 +1,7 @@
 -- What entering, changing and releasing one tenant's account does to a sound book of reservations.
 use Rattle.std.proofs.Common.{◌≡◌, ◌≢◌, ℕ, ◌-◌, false, List, Some, None, refl, ap, sym, subst, arith, ◌+◌, ◌*◌, true, ◌<◌, ◌≤◌, ◌⊎◌, inl, inr, Option, IsSome}
 use Rattle.std.proofs.Common.{IsSomeAnd, IfSome}
-use Rattle.tenant_quota.proofs.Common.{Account, option_map, sum_by, Quota, IsWithinLimits, IsAbove, has_by_number, find_by_number, change_by_number}
+use Rattle.tenant_quota.proofs.Common.{Account, option_map, sum_by, ReserveOf, IsWithinLimits, IsAbove, has_by_number, find_by_number, change_by_number}
 use Rattle.tenant_quota.proofs.Common.{owner_of_account, fresh, raised_to, account_of, IsWithinReserve, reserved_segments, reserved_nodes, Reservations}
 use Rattle.tenant_quota.proofs.Common.{admitted, changed, released, HasRoom, HasRoomFor, KeepsOtherAccounts, Admits, Raises, ChangesOnly, Releases, IsSoundBook}
 use Rattle.numbered_list.proofs.Edits.{has-found, lacks-said, said-with-own, said-with-other, all-with, rising-with, length-with, sum_by-with}
@@ -19,7 +19,7 @@ entry_by f e = (e.0, f e.1)
 lacks : (t : ℕ) (es : List (ℕ × Account)) → account_of t es ≡ None → has_by_number owner_of_account t es ≡ false
 lacks t es none = lacks-said owner_of_account (λ e. Some e.1) None t es (λ e is. cc) none
 
-pub IsWithinReserve-fresh : (quota : Quota) → IsWithinLimits quota → IsWithinReserve (fresh quota)
+pub IsWithinReserve-fresh : (quota : ReserveOf) → IsWithinLimits quota → IsWithinReserve (fresh quota)
 IsWithinReserve-fresh quota limits = grind arith
 
 -- other accounts, where no other tenant's has changed
@@ -27,7 +27,7 @@ others-by : {b : Reservations} {accounts : List (ℕ × Account)} {t : ℕ} → 
     KeepsOtherAccounts b (record b { accounts = accounts }) t
 others-by others = record { segments = refl; nodes = refl; others = others }
 
-module _ (b : Reservations) (t : ℕ) (quota : Quota) where
+module _ (b : Reservations) (t : ℕ) (quota : ReserveOf) where
   pub KeepsOtherAccounts-admitted : KeepsOtherAccounts b (admitted b t quota) t
   KeepsOtherAccounts-admitted = others-by (λ q other. said-inserted-other owner_of_account (λ e. Some e.1) None q (t, fresh quota) b.accounts (λ e. other (sym e)))
 
@@ -65,10 +65,10 @@ module _ (b : Reservations) (t : ℕ) (f : Account → Account) where
 
   module _ (keeps : (a : Account) → (f a).reserve ≡ a.reserve) where
     segments-kept : reserved_segments (changed b t f).accounts ≡ reserved_segments b.accounts
-    segments-kept = sum_by-with-same (λ e. e.1.reserve.segments) owner_of_account t (entry_by f) b.accounts (λ e. ap (λ (q : Quota). q.segments) (keeps e.1))
+    segments-kept = sum_by-with-same (λ e. e.1.reserve.segments) owner_of_account t (entry_by f) b.accounts (λ e. ap (λ (q : ReserveOf). q.segments) (keeps e.1))
 
     nodes-kept : reserved_nodes (changed b t f).accounts ≡ reserved_nodes b.accounts
-    nodes-kept = sum_by-with-same (λ e. e.1.reserve.nodes) owner_of_account t (entry_by f) b.accounts (λ e. ap (λ (q : Quota). q.nodes) (keeps e.1))
+    nodes-kept = sum_by-with-same (λ e. e.1.reserve.nodes) owner_of_account t (entry_by f) b.accounts (λ e. ap (λ (q : ReserveOf). q.nodes) (keeps e.1))
 
     pub ChangesOnly-changed : ChangesOnly b (changed b t f) t f
     ChangesOnly-changed = record {
@@ -96,7 +96,7 @@ module _ (b : Reservations) (t : ℕ) (f : Account → Account) where
     }
 
 -- an account whose reservation is raised
-module _ (b : Reservations) (t : ℕ) (quota : Quota) (a : Account) (is : account_of t b.accounts ≡ Some a) where
+module _ (b : Reservations) (t : ℕ) (quota : ReserveOf) (a : Account) (is : account_of t b.accounts ≡ Some a) where
   pub Raises-raised : Raises b (changed b t (raised_to quota)) t quota a.reserve
   Raises-raised =
       let raise = entry_by (raised_to quota) in
@@ -212,7 +212,7 @@ change-facts b t f a is keeps within sound = record {
 }
 
 -- the raise of one reservation, seen in full
-pub record IsRaise (old new : Reservations) (t : ℕ) (quota now : Quota) : Type 0 where
+pub record IsRaise (old new : Reservations) (t : ℕ) (quota now : ReserveOf) : Type 0 where
   pub raises : Raises old new t quota now
   pub others : KeepsOtherAccounts old new t
   pub sound : IsSoundBook new
@@ -236,7 +236,7 @@ module _ (b : Reservations) (t : ℕ) (e : ℕ × Account) (found : find_by_numb
   pub sum_by-write : (g : ℕ × Account → ℕ) (f : Account → Account) → sum_by g (written b t e f).accounts + g e ≡ sum_by g b.accounts + g (e.0, f e.1)
   sum_by-write g f = sum_by-with g owner_of_account t (λ x. (e.0, f e.1)) e b.accounts found
 
-  pub raise-by-write : (quota : Quota) → IsSoundBook b → IsWithinLimits quota → IsAbove e.1.reserve quota → HasRoomFor b e.1.reserve quota → IsRaise b (written b t e (raised_to quota)) t quota e.1.reserve
+  pub raise-by-write : (quota : ReserveOf) → IsSoundBook b → IsWithinLimits quota → IsAbove e.1.reserve quota → HasRoomFor b e.1.reserve quota → IsRaise b (written b t e (raised_to quota)) t quota e.1.reserve
   raise-by-write quota sound limits above room =
       let stands = stands-for sound in
       subst (λ new. IsRaise b new t quota e.1.reserve) (written-is (raised_to quota)) (record {

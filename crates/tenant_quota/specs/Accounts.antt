@@ -2,12 +2,12 @@
 use Rattle.std.specs.Prelude.{ℕ, ◌+◌, ◌-◌, ◌*◌, ◌≤◌, List, Option, Some, None, sum_by}
 use Rattle.std.specs.List.{AllByRecursion}
 use Rattle.numbered_list.specs.Places.{read_by_number, inserted, change_by_number, remove_by_number, AreRising}
-use Rattle.tenant_quota.specs.Quota.{Quota}
+use Rattle.tenant_quota.specs.Reserves.{ReserveOf}
 use Rattle.tenant_quota.specs.declared.account.Account.{Account}
 use Rattle.tenant_quota.specs.declared.account.Left.{Left}
 
 -- the account of a tenant that has reserved this and used nothing of it
-abbrev pub fresh : Quota → Account
+abbrev pub fresh : ReserveOf → Account
 fresh quota = record { reserve = quota; charged = 0; opened = 0; ticks = 0 }
 
 -- a tenant's account after it was charged `segments` segments more, and opened `nodes` nodes more
@@ -23,7 +23,7 @@ abbrev pub ticked : Account → Account
 ticked a = record a { ticks = a.ticks + 1 }
 
 -- a tenant's account once it reserves this; what is used stays
-abbrev pub raised_to : Quota → Account → Account
+abbrev pub raised_to : ReserveOf → Account → Account
 raised_to quota a = record a { reserve = quota }
 
 -- what a tenant's account has left: the segments reserved less those charged, the nodes reserved less those ever

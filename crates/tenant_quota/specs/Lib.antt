@@ -1,4 +1,4 @@
-pub mod Quota
+pub mod Reserves
 pub mod Accounts
 pub mod Reservations
 pub mod Refusals

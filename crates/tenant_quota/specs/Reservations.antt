@@ -1,6 +1,6 @@
 -- Meaning: what the book of reservations holds: the totals, and the account of each tenant that is there.
 use Rattle.std.specs.Prelude.{◌≡◌, ◌≢◌, ℕ, ◌+◌, ◌-◌, ◌<◌, ◌≤◌, ◌⊎◌, List, [], length, Option, Some, None, IsSomeAnd, option_map}
-use Rattle.tenant_quota.specs.Quota.{Quota, IsAbove, IsNotAbove}
+use Rattle.tenant_quota.specs.Reserves.{ReserveOf, IsAbove, IsNotAbove}
 use Rattle.tenant_quota.specs.declared.account.Account.{Account}
 use Rattle.tenant_quota.specs.declared.account.Left.{Left}
 use Rattle.tenant_quota.specs.declared.book.Rest.{Rest}
@@ -17,7 +17,7 @@ abbrev pub empty_of : ℕ → ℕ → Reservations
 empty_of segments nodes = record { segments = segments; nodes = nodes; accounts = [] }
 
 -- the book with a new tenant, who has used nothing of what it reserves
-abbrev pub admitted : Reservations → ℕ → Quota → Reservations
+abbrev pub admitted : Reservations → ℕ → ReserveOf → Reservations
 admitted b tenant quota = record b { accounts = with_new tenant (fresh quota) b.accounts }
 
 -- the book with one tenant's account changed by f
@@ -37,7 +37,7 @@ abbrev pub opened_of : ℕ → Reservations → Option ℕ
 opened_of tenant b = option_map (λ a. a.opened) (account_of tenant b.accounts)
 
 -- what a tenant has reserved; None where it isn't there
-abbrev pub reserve_of : ℕ → Reservations → Option Quota
+abbrev pub reserve_of : ℕ → Reservations → Option ReserveOf
 reserve_of tenant b = option_map (λ a. a.reserve) (account_of tenant b.accounts)
 
 -- what isn't reserved: the places of 64 tenants less those that are there, and the totals less all reservations
@@ -45,37 +45,37 @@ abbrev pub unreserved_of : Reservations → Rest
 unreserved_of b = record { tenants = 64 - length b.accounts; segments = b.segments - reserved_segments b.accounts; nodes = b.nodes - reserved_nodes b.accounts }
 
 -- fewer than 64 tenants are there, and both totals allow the reservation
-pub record HasRoom (b : Reservations) (quota : Quota) : Type 0 where
+pub record HasRoom (b : Reservations) (quota : ReserveOf) : Type 0 where
   pub tenants : length b.accounts < 64
   pub segments : reserved_segments b.accounts + quota.segments ≤ b.segments
   pub nodes : reserved_nodes b.accounts + quota.nodes ≤ b.nodes
 
 -- 64 tenants are there, or a total doesn't allow the reservation
-abbrev pub IsFull : Reservations → Quota → Type 0
+abbrev pub IsFull : Reservations → ReserveOf → Type 0
 IsFull b quota = (64 ≤ length b.accounts) ⊎ ((b.segments < reserved_segments b.accounts + quota.segments) ⊎ (b.nodes < reserved_nodes b.accounts + quota.nodes))
 
 -- the tenant is in the book, and asks for what isn't above its reservation: less of one amount, or the same of both
-abbrev pub IsLower : Reservations → ℕ → Quota → Type 0
+abbrev pub IsLower : Reservations → ℕ → ReserveOf → Type 0
 IsLower b tenant quota = IsSomeAnd (reserve_of tenant b) (λ now. IsNotAbove now quota)
 
 -- both totals of the book allow this amount in the place of `now`, which one of its tenants has reserved
-pub record HasRoomFor (b : Reservations) (now quota : Quota) : Type 0 where
+pub record HasRoomFor (b : Reservations) (now quota : ReserveOf) : Type 0 where
   pub segments : reserved_segments b.accounts + quota.segments ≤ b.segments + now.segments
   pub nodes : reserved_nodes b.accounts + quota.nodes ≤ b.nodes + now.nodes
 
 -- a total of the book doesn't allow this amount in the place of `now`, which one of its tenants has reserved
-abbrev pub IsBeyond : Reservations → Quota → Quota → Type 0
+abbrev pub IsBeyond : Reservations → ReserveOf → ReserveOf → Type 0
 IsBeyond b now quota =
     (b.segments + now.segments < reserved_segments b.accounts + quota.segments) ⊎ (b.nodes + now.nodes < reserved_nodes b.accounts + quota.nodes)
 
 -- the tenant is in the book and asks for more than it has reserved (of one amount or both, of none less), and both totals
 -- allow the new reservation in the place of the old one
-abbrev pub CanRaise : Reservations → ℕ → Quota → Type 0
+abbrev pub CanRaise : Reservations → ℕ → ReserveOf → Type 0
 CanRaise b tenant quota = IsSomeAnd (reserve_of tenant b) (λ now. IsAbove now quota × HasRoomFor b now quota)
 
 -- the tenant is in the book and asks for more than it has reserved (of one amount or both, of none less), and a total
 -- doesn't allow the new reservation in the place of the old one
-abbrev pub IsTooMuch : Reservations → ℕ → Quota → Type 0
+abbrev pub IsTooMuch : Reservations → ℕ → ReserveOf → Type 0
 IsTooMuch b tenant quota = IsSomeAnd (reserve_of tenant b) (λ now. IsAbove now quota × IsBeyond b now quota)
 
 -- the tenant is there, and has at least so many segments and so many nodes left
@@ -105,7 +105,7 @@ pub record KeepsOtherAccounts (old new : Reservations) (tenant : ℕ) : Type 0 w
   pub others : (other : ℕ) → other ≢ tenant → account_of other new.accounts ≡ account_of other old.accounts
 
 -- the tenant is there now, with this much reserved and nothing used, and nothing else has changed
-pub record Admits (old new : Reservations) (tenant : ℕ) (quota : Quota) : Type 0 where
+pub record Admits (old new : Reservations) (tenant : ℕ) (quota : ReserveOf) : Type 0 where
   pub whole : new ≡ admitted old tenant quota
   pub account : account_of tenant new.accounts ≡ Some (fresh quota)
   pub tenants : length new.accounts ≡ length old.accounts + 1
@@ -120,7 +120,7 @@ pub record ChangesOnly (old new : Reservations) (tenant : ℕ) (f : Account → 
   pub rest : unreserved_of new ≡ unreserved_of old
 
 -- the tenant has reserved this in the place of `now`, what it used stays, and nothing else has changed
-pub record Raises (old new : Reservations) (tenant : ℕ) (quota now : Quota) : Type 0 where
+pub record Raises (old new : Reservations) (tenant : ℕ) (quota now : ReserveOf) : Type 0 where
   pub whole : new ≡ changed old tenant (raised_to quota)
   pub account : account_of tenant new.accounts ≡ option_map (raised_to quota) (account_of tenant old.accounts)
   pub tenants : length new.accounts ≡ length old.accounts

@@ -1,13 +1,13 @@
 -- Representation: the states of a worked example: a book of reservations of 8 segments and 32 nodes.
 use Rattle.std.specs.Prelude.{ℕ}
-use Rattle.tenant_quota.specs.Quota.{Quota}
+use Rattle.tenant_quota.specs.Reserves.{ReserveOf}
 use Rattle.tenant_quota.specs.declared.account.Left.{Left}
 use Rattle.tenant_quota.specs.declared.book.Rest.{Rest}
 use Rattle.tenant_quota.specs.Accounts.{raised_to, charged_by, credited_by, ticked}
 use Rattle.tenant_quota.specs.Reservations.{Reservations, empty_of, admitted, changed, released}
 
 -- a reservation of these amounts
-abbrev pub quota : ℕ → ℕ → Quota
+abbrev pub quota : ℕ → ℕ → ReserveOf
 quota segments nodes = record { segments = segments; nodes = nodes }
 
 -- what a tenant has left, in these amounts: segments, nodes, steps

@@ -13,9 +13,9 @@ pub struct Reserve {
 
 // Clauses see the two amounts.
 impl Model for Reserve {
-    ghost use Rattle.tenant_quota.specs.Quota.{Quota, IsWithinLimits};
+    ghost use Rattle.tenant_quota.specs.Reserves.{ReserveOf, IsWithinLimits};
 
-    ghost Value = { Quota };
+    ghost Value = { ReserveOf };
 
     ghost view = { λ r. record { segments = r.segments; nodes = r.nodes } };
 
@@ -25,7 +25,7 @@ impl Model for Reserve {
 }
 
 impl Reserve {
-    ghost use Rattle.tenant_quota.specs.Quota.{Quota, IsAbove, IsWithinLimits};
+    ghost use Rattle.tenant_quota.specs.Reserves.{ReserveOf, IsAbove, IsWithinLimits};
 
     /// The most segments that one tenant may reserve.
     pub const MAX_SEGMENTS: u32 = 4096;

@@ -1,6 +1,6 @@
 -- Representation: worked examples of the toy procedure Fan, as lists of a core's steps.
 use Rattle.std.specs.Prelude.{ℕ, List, [], ◌∷◌, ◌++◌, Result, Ok, Err}
-use Rattle.tenant_quota.specs.Quota.{Quota}
+use Rattle.tenant_quota.specs.Reserves.{ReserveOf}
 use Rattle.tenant_quota.specs.declared.account.Left.{Left}
 use Rattle.frame_table.specs.declared.names.FrameId.{FrameId}
 use Rattle.frame_table.specs.declared.names.State.{State}
@@ -26,7 +26,7 @@ abbrev pub two : ℕ → FrameId
 two serial = record { tenant = 2; serial = serial }
 
 -- a reservation of so many segments and nodes
-abbrev pub toy_quota : ℕ → ℕ → Quota
+abbrev pub toy_quota : ℕ → ℕ → ReserveOf
 toy_quota segments nodes = record { segments = segments; nodes = nodes }
 
 -- what a tenant has left: so many segments, nodes and steps
@@ -39,7 +39,7 @@ frame serial path state words = record { serial = serial; path = path; state = s
 
 -- a tenant with one job, which lives under frame 1: what it reserves, the last serial that it was given, its steps and
 -- its frames
-abbrev pub one_job : Quota → ℕ → ℕ → Tree → Tenant
+abbrev pub one_job : ReserveOf → ℕ → ℕ → Tree → Tenant
 one_job reserve serials steps frames = record { reserve = reserve; serials = serials; steps = steps; jobs = Live 1 ∷ []; frames = frames }
 
 -- an answer that was computed from this input

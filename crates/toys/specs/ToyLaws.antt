@@ -15,7 +15,7 @@ abbrev pub AlwaysRooted : Rooting
 AlwaysRooted origin own = Unit {0}
 
 -- where every frame fits and every root belongs, every parent fits
-pub parent-fits : (origin : List ℕ) (above older : List (List ℕ)) (own : List ℕ) (younger : List (List ℕ)) → ParentFits AlwaysFits AlwaysRooted origin above older own younger
+pub parent-fits : (origin : List ℕ) (above older : List (List ℕ)) (own : List ℕ) (younger : List (List ℕ)) → ParentFits AlwaysFits AlwaysRooted origin above (older, younger) own
 parent-fits origin [] older own younger = tt
 parent-fits origin (parent ∷ above) older own younger = tt
 

@@ -33,17 +33,17 @@ taken-names before tenant worker frame serial home ready = inl (ready-with-other
 
 module _ (functions : Functions Leaf LeafAnswer) where
   -- what comes after the stores
-  then-names : (first : Tree) (before : Tenant) (worker : ℕ) (name : FrameId) (path words : List ℕ) (after : Continuation) → NoneMore first before.frames →
-      Names first name.tenant worker (then_done functions before worker name path words after)
-  then-names first before worker name path words (Grow more) none serial home ready =
-      inl (none serial home (ready-with_frame_words name.serial (words ++ replicate more 0) before.frames serial home ready))
-  then-names first before worker name path words (Spawn given size) none serial home ready =
+  then-names : (first : Tree) (before : Tenant) (worker : ℕ) (name : FrameId) (frame : TreeFrame) (after : Continuation) → NoneMore first before.frames →
+      Names first name.tenant worker (then_done functions before worker name frame after)
+  then-names first before worker name frame (Grow more) none serial home ready =
+      inl (none serial home (ready-with_frame_words name.serial (frame.value ++ replicate more 0) before.frames serial home ready))
+  then-names first before worker name frame (Spawn given size) none serial home ready =
       elim (ready-push before.frames _ serial home ready) [ inl was ↦ inl (none serial home was) | inr now ↦ inr (let own = now.0 in let here = now.1 in cc) ]
-  then-names first before worker name path words Go none serial home ready = inl (none serial home ready)
-  then-names first before worker name path words Wait none serial home ready = grind (arith, ready-with-other)
-  then-names first before worker name path words Compute none serial home ready =
+  then-names first before worker name frame Go none serial home ready = inl (none serial home ready)
+  then-names first before worker name frame Wait none serial home ready = grind (arith, ready-with-other)
+  then-names first before worker name frame Compute none serial home ready =
       inl (none serial home (ready-with-other name.serial (Computing worker) before.frames serial home refl ready))
-  then-names first before worker name path words Return none serial home ready = grind (arith, ready-with-other)
+  then-names first before worker name frame Return none serial home ready = grind (arith, ready-with-other)
 
   -- Advance
   advanced-names : (before : Tenant) (worker : ℕ) (name : FrameId) (frame : TreeFrame) (act : Act) → Names before.frames name.tenant worker (advanced functions before worker name frame act)

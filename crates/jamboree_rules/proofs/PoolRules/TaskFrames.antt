@@ -9,13 +9,13 @@ IsTasked tenant worker outcome = IsOfAReadyFrame tenant (frames_of_tenant outcom
 
 module _ (functions : Functions Leaf LeafAnswer) (before : Tenant) (worker : ℕ) (name : FrameId) where
   -- what comes after the stores
-  then-ready : (path words : List ℕ) (after : Continuation) → AllBelow (before.serials + 1) before.frames → IsTasked name.tenant worker (then_done functions before worker name path words after)
-  then-ready path words (Grow more) below = tt
-  then-ready path words (Spawn given size) below = (refl, ready-pushed before.frames (before.serials + 1) (Some name.serial) worker _ below)
-  then-ready path words Go below = tt
-  then-ready path words Wait below = grind arith
-  then-ready path words Compute below = tt
-  then-ready path words Return below = grind arith
+  then-ready : (frame : TreeFrame) (after : Continuation) → AllBelow (before.serials + 1) before.frames → IsTasked name.tenant worker (then_done functions before worker name frame after)
+  then-ready frame (Grow more) below = tt
+  then-ready frame (Spawn given size) below = (refl, ready-pushed before.frames (before.serials + 1) (Some name.serial) worker _ below)
+  then-ready frame Go below = tt
+  then-ready frame Wait below = grind arith
+  then-ready frame Compute below = tt
+  then-ready frame Return below = grind arith
 
 -- a parent that is woken waited
 module _ (before : Tenant) (worker : ℕ) (name : FrameId) (parent gone : ℕ) (act : InletAct) where
@@ -55,7 +55,7 @@ module _ (functions : Functions Leaf LeafAnswer) (before : Tenant) (worker : ℕ
       (λ frame. advanced functions before worker name frame (act frame))
       (λ frame. let words = stored (act frame).stores frame.value in
       let fewer = below-with_frame_words (before.serials + 1) frame.serial words before.frames below in
-      then-ready functions (counted (holding frame.serial words before)) worker name frame.path words (act frame).after fewer)
+      then-ready functions (counted (holding frame.serial words before)) worker name (record frame { value = words }) (act frame).after fewer)
   action-ready (Bring name answer) below =
       taken-at (IsTasked name.tenant worker) (frame_at before.frames name.serial) (λ frame. answer_tests functions before worker frame answer)
       (λ frame. answered functions before worker frame answer) (λ frame. tt)

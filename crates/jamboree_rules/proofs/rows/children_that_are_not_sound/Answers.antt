@@ -13,7 +13,7 @@ searches-none (inl e) = omega (arith, e)
 searches-none (inr e) = omega (arith, e)
 
 -- a first child's window is the whole one
-not-whole : HasWindow (full_root phase_first least 65 none_settled) (after_d3 0 (pos 0) (pos 200000) role_first_child) → ⊥
+not-whole : HasWindow (full_root phase_first least 65 none_settled) (after_d3 0 (pos 0, pos 200000) role_first_child) → ⊥
 not-whole (First role alpha beta) = let e : pos 0 ≡ negsuc 199999 = alpha in omega (arith, ints, e)
 not-whole (Test role t alpha beta low high) = let e : 1 ≡ 2 = role in omega (arith, e)
 not-whole (Again role alpha beta settled) = let e : 1 ≡ 3 = role in omega (arith, e)

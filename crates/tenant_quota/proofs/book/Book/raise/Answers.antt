@@ -1,6 +1,6 @@
 -- The book raises a tenant's reservation (`Book::raise`): one above its own that the totals allow is written into its
 -- account; any other is refused.
-use Rattle.tenant_quota.proofs.Common.{◌≡◌, ℕ, ◌-◌, ◌<◌, ◌≤◌, ◌⊎◌, inl, inr, Some, ap, ◌∙◌, refl, arith, option_map, Quota, IsAbove, IsNotAbove}
+use Rattle.tenant_quota.proofs.Common.{◌≡◌, ℕ, ◌-◌, ◌<◌, ◌≤◌, ◌⊎◌, inl, inr, Some, ap, ◌∙◌, refl, arith, option_map, ReserveOf, IsAbove, IsNotAbove}
 use Rattle.tenant_quota.proofs.Common.{IsWithinLimits, owner_of_account, raised_to, Account, Rest, Reservations, reserve_of, unreserved_of, HasRoomFor}
 use Rattle.tenant_quota.proofs.Common.{IsBeyond, CanRaise, IsTooMuch, IsLower, IsSoundBook, held_by, find_by_number, put-same}
 use Rattle.tenant_quota.proofs.Standing.{and-at, and-from, if-from, is-there, stands-for, others-same, IsRaise, written, raise-by-write, one-less}
@@ -9,7 +9,7 @@ use Rattle.tenant_quota.proofs.book.Book.raise.Goals.{After-get_mut, Joined-then
 use Rattle.tenant_quota.proofs.book.Book.raise.Goals.{then-rest-segments-via-else-rest-segments+then-rest-nodes}
 use Rattle.tenant_quota.proofs.book.Book.raise.Goals as goal
 
-module _ (now quota : Quota) where
+module _ (now quota : ReserveOf) where
   not-above : (IsAbove now quota → ⊥) → IsNotAbove now quota
   not-above never = grind arith
 
@@ -19,32 +19,32 @@ module _ (now quota : Quota) where
   not-both above (inr (inr same)) = elim above.one [ inl more ↦ omega (arith, same.0) | inr more ↦ omega (arith, same.1) ]
 
 -- what is asked isn't above what the tenant has reserved
-record IsTooLittle (b : Reservations) (t : ℕ) (quota : Quota) : Type 0 where
+record IsTooLittle (b : Reservations) (t : ℕ) (quota : ReserveOf) : Type 0 where
   lower : IsLower b t quota
   taken : CanRaise b t quota → ⊥
   much : IsTooMuch b t quota → ⊥
 
-too-little : (b : Reservations) (t : ℕ) (quota now : Quota) → reserve_of t b ≡ Some now → (IsAbove now quota → ⊥) → IsTooLittle b t quota
+too-little : (b : Reservations) (t : ℕ) (quota now : ReserveOf) → reserve_of t b ≡ Some now → (IsAbove now quota → ⊥) → IsTooLittle b t quota
 too-little b t quota now is never = record {
-  lower = and-from (reserve_of t b) (λ (q : Quota). IsNotAbove q quota) now is (not-above now quota never);
-  taken = λ can. never (and-at (reserve_of t b) (λ (q : Quota). IsAbove q quota × HasRoomFor b q quota) now is can).0;
-  much = λ much. never (and-at (reserve_of t b) (λ (q : Quota). IsAbove q quota × IsBeyond b q quota) now is much).0;
+  lower = and-from (reserve_of t b) (λ (q : ReserveOf). IsNotAbove q quota) now is (not-above now quota never);
+  taken = λ can. never (and-at (reserve_of t b) (λ (q : ReserveOf). IsAbove q quota × HasRoomFor b q quota) now is can).0;
+  much = λ much. never (and-at (reserve_of t b) (λ (q : ReserveOf). IsAbove q quota × IsBeyond b q quota) now is much).0;
 }
 
 -- a total doesn't allow what is asked
-record IsRefused (b : Reservations) (t : ℕ) (quota : Quota) : Type 0 where
+record IsRefused (b : Reservations) (t : ℕ) (quota : ReserveOf) : Type 0 where
   much : IsTooMuch b t quota
   taken : CanRaise b t quota → ⊥
   little : IsLower b t quota → ⊥
 
-refused : (b : Reservations) (t : ℕ) (quota now : Quota) → reserve_of t b ≡ Some now → IsAbove now quota → IsBeyond b now quota → IsRefused b t quota
+refused : (b : Reservations) (t : ℕ) (quota now : ReserveOf) → reserve_of t b ≡ Some now → IsAbove now quota → IsBeyond b now quota → IsRefused b t quota
 refused b t quota now is above beyond = record {
-  much = and-from (reserve_of t b) (λ (q : Quota). IsAbove q quota × IsBeyond b q quota) now is (above, beyond);
-  taken = λ can. let room = (and-at (reserve_of t b) (λ (q : Quota). IsAbove q quota × HasRoomFor b q quota) now is can).1 in elim beyond [ inl more ↦ omega (arith, room.segments) | inr more ↦ omega (arith, room.nodes) ];
-  little = λ lower. not-both now quota above (and-at (reserve_of t b) (λ (q : Quota). IsNotAbove q quota) now is lower);
+  much = and-from (reserve_of t b) (λ (q : ReserveOf). IsAbove q quota × IsBeyond b q quota) now is (above, beyond);
+  taken = λ can. let room = (and-at (reserve_of t b) (λ (q : ReserveOf). IsAbove q quota × HasRoomFor b q quota) now is can).1 in elim beyond [ inl more ↦ omega (arith, room.segments) | inr more ↦ omega (arith, room.nodes) ];
+  little = λ lower. not-both now quota above (and-at (reserve_of t b) (λ (q : ReserveOf). IsNotAbove q quota) now is lower);
 }
 
-module _ (b : Reservations) (quota now : Quota) (r : Rest) (segments nodes : ℕ) (sound : IsSoundBook b) (rest : r ≡ unreserved_of b) where
+module _ (b : Reservations) (quota now : ReserveOf) (r : Rest) (segments nodes : ℕ) (sound : IsSoundBook b) (rest : r ≡ unreserved_of b) where
   beyond-rest : IsAbove now quota → segments ≡ quota.segments - now.segments → nodes ≡ quota.nodes - now.nodes → (r.segments < segments) ⊎ (r.nodes < nodes) → IsBeyond b now quota
   beyond-rest above segments_are nodes_are (inl less) = let e = ap (λ (x : Rest). x.segments) rest in inl (omega (arith, sound.segments_reserved, above.segments))
   beyond-rest above segments_are nodes_are (inr less) = let e = ap (λ (x : Rest). x.nodes) rest in inr (omega (arith, sound.nodes_reserved, above.nodes))
@@ -56,29 +56,29 @@ module _ (b : Reservations) (quota now : Quota) (r : Rest) (segments nodes : ℕ
       record { segments = omega (arith, sound.segments_reserved, above.segments); nodes = omega (arith, sound.nodes_reserved, above.nodes) }
 
 -- the reservation is raised
-record IsRaised (b new : Reservations) (t : ℕ) (quota now : Quota) : Type 0 where
+record IsRaised (b new : Reservations) (t : ℕ) (quota now : ReserveOf) : Type 0 where
   can : CanRaise b t quota
   little : IsLower b t quota → ⊥
   much : IsTooMuch b t quota → ⊥
   raise : IsRaise b new t quota now
 
-raised : (b new : Reservations) (t : ℕ) (quota now : Quota) → reserve_of t b ≡ Some now → IsAbove now quota → HasRoomFor b now quota → IsRaise b new t quota now → IsRaised b new t quota now
+raised : (b new : Reservations) (t : ℕ) (quota now : ReserveOf) → reserve_of t b ≡ Some now → IsAbove now quota → HasRoomFor b now quota → IsRaise b new t quota now → IsRaised b new t quota now
 raised b new t quota now is above room raise = record {
-  can = and-from (reserve_of t b) (λ (q : Quota). IsAbove q quota × HasRoomFor b q quota) now is (above, room);
-  little = λ lower. not-both now quota above (and-at (reserve_of t b) (λ (q : Quota). IsNotAbove q quota) now is lower);
-  much = λ much. let beyond = (and-at (reserve_of t b) (λ (q : Quota). IsAbove q quota × IsBeyond b q quota) now is much).1 in elim beyond [ inl more ↦ omega (arith, room.segments) | inr more ↦ omega (arith, room.nodes) ];
+  can = and-from (reserve_of t b) (λ (q : ReserveOf). IsAbove q quota × HasRoomFor b q quota) now is (above, room);
+  little = λ lower. not-both now quota above (and-at (reserve_of t b) (λ (q : ReserveOf). IsNotAbove q quota) now is lower);
+  much = λ much. let beyond = (and-at (reserve_of t b) (λ (q : ReserveOf). IsAbove q quota × IsBeyond b q quota) now is much).1 in elim beyond [ inl more ↦ omega (arith, room.segments) | inr more ↦ omega (arith, room.nodes) ];
   raise = raise;
 }
 
 -- a reservation that the rest of a total doesn't allow, and one that both allow, as the code compares them
 module _ (b : Reservations) (t : ℕ) where
-  too-much : (quota now : Quota) (r : Rest) (s s_now n n_now : ℕ) → IsSoundBook b → reserve_of t b ≡ Some now → r ≡ unreserved_of b → IsAbove now quota →
+  too-much : (quota now : ReserveOf) (r : Rest) (s s_now n n_now : ℕ) → IsSoundBook b → reserve_of t b ≡ Some now → r ≡ unreserved_of b → IsAbove now quota →
       s ≡ quota.segments → s_now ≡ now.segments → n ≡ quota.nodes → n_now ≡ now.nodes →
       (r.segments < s - s_now) ⊎ ((s - s_now ≤ r.segments) × (r.nodes < n - n_now)) → IsRefused b t quota
   too-much quota now r s s_now n n_now sound is rest above s_is s_now_is n_is n_now_is less =
       refused b t quota now is above (beyond-rest b quota now r (s - s_now) (n - n_now) sound rest above (cc) (cc) (one-less _ _ _ _ less))
 
-  allowed : (e : ℕ × Account) (quota : Quota) (r : Rest) (s s_now n n_now : ℕ) → IsSoundBook b → find_by_number owner_of_account t b.accounts ≡ Some e →
+  allowed : (e : ℕ × Account) (quota : ReserveOf) (r : Rest) (s s_now n n_now : ℕ) → IsSoundBook b → find_by_number owner_of_account t b.accounts ≡ Some e →
       IsWithinLimits quota → r ≡ unreserved_of b → IsAbove e.1.reserve quota → s ≡ quota.segments → s_now ≡ e.1.reserve.segments → n ≡ quota.nodes →
       n_now ≡ e.1.reserve.nodes → s - s_now ≤ r.segments → n - n_now ≤ r.nodes → IsRaised b (written b t e (raised_to quota)) t quota e.1.reserve
   allowed e quota r s s_now n n_now sound found limits rest above s_is s_now_is n_is n_now_is enough many =

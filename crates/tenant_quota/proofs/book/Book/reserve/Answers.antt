@@ -1,11 +1,11 @@
 -- A tenant comes to the book of reservations (`Book::reserve`): it has an entry then.
-use Rattle.tenant_quota.proofs.Common.{◌≡◌, ◌≢◌, ℕ, ◌≤◌, ap, arith, Rest, Quota, fresh, with_new, Reservations, unreserved_of, HasRoom, IsSoundBook, held_by}
+use Rattle.tenant_quota.proofs.Common.{◌≡◌, ◌≢◌, ℕ, ◌≤◌, ap, arith, Rest, ReserveOf, fresh, with_new, Reservations, unreserved_of, HasRoom, IsSoundBook, held_by}
 use Rattle.tenant_quota.proofs.Standing.{Admits-admitted, KeepsOtherAccounts-admitted, IsSoundBook-admitted}
 use Rattle.tenant_quota.proofs.book.Book.reserve.Given.{Over}
 use Rattle.tenant_quota.proofs.book.Book.reserve.Goals.{After-insert}
 use Rattle.tenant_quota.proofs.book.Book.reserve.Goals as goal
 
-has-room : (b : Reservations) (quota : Quota) (r : Rest) (segments nodes : ℕ) → IsSoundBook b → r ≡ unreserved_of b → r.tenants ≢ 0 →
+has-room : (b : Reservations) (quota : ReserveOf) (r : Rest) (segments nodes : ℕ) → IsSoundBook b → r ≡ unreserved_of b → r.tenants ≢ 0 →
     segments ≡ quota.segments → nodes ≡ quota.nodes → segments ≤ r.segments → nodes ≤ r.nodes → HasRoom b quota
 has-room b quota r segments nodes sound rest some segments_are nodes_are enough_segments enough_nodes =
     let tenants_are = ap (λ (x : Rest). x.tenants) rest in
