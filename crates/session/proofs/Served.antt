@@ -1,5 +1,5 @@
 -- The lines of a client, answered one after another, make a session.
-use Rattle.session.proofs.Common.{◌≡◌, ℕ, List, [], ◌∷◌, ◌++◌, map, Bool, true, false, refl, sym, ap, ap₂, ◌∙◌, subst, Result, Ok, Err, append-nil, concat, WriteFailed, LineText, Leads, Answers, ReadAnswer, WriteAnswer, IsAnswered, written_texts, bytes_due, write_result, Talk, End, Bye, EndOfInput, SessionFault, Read, Write, Call, OfficeReply, is_bye, Request, Fault, Makes, Tabulates, Ends, request, LineTurn, Faulted, Made, Tabulated, Closed, turns, turn_text, calls_in, leaving, by_request, next_reply, later_replies, seated_after, Called, LeavesIf, Turned, handler_of, Session, IsAnsweredOf, IsWrittenOf, session_lines, talk_result, texts_for, calls_for, between, answering}
+use Rattle.session.proofs.Common.{◌≡◌, ℕ, List, [], ◌∷◌, ◌++◌, map, Bool, true, false, refl, sym, ap, ap₂, ◌∙◌, subst, Result, Ok, Err, append-nil, concat, WriteFailed, LineText, Leads, Answers, ReadAnswer, WriteAnswer, IsAnswered, written_texts, bytes_due, write_result, Talk, End, Bye, EndOfInput, SessionFault, Read, Write, Call, OfficeReply, is_bye, Request, Fault, Makes, Tabulates, Ends, request, LineTurn, Faulted, Made, Tabulated, Closed, turns, turn_text, calls_in, leaving, by_request, next_reply, later_replies, seated_after, Called, LeavesIf, Turned, handler_of, Session, LineFault, TalkEnd, IsAnsweredOf, IsWrittenOf, session_lines, talk_result, texts_for, calls_for, between, answering}
 
 -- the turns of a line that asks for this, and of the lines after it
 abbrev pub next_turns : Request → Bool → List LineText → List OfficeReply → List LineTurn
@@ -20,6 +20,35 @@ module _ {A N : Type 0} (answers : Answering A) (name : A → N)
   chain-keeps a [] [] b h = sym (ap name h)
   chain-keeps a (l ∷ ls) (t ∷ ts) b h = chain-keeps h.0 ls ts b h.2 ∙ keeps a l t h.0 h.1
   chain-keeps a ls ts b h = absurd h
+
+-- what a state shows of itself is led through the same answers
+module _ {A H : Type 0} (answers : Answering A) (comes : Answering H) (see : A → H)
+    (sees : (a : A) (line : LineText) (text : List ℕ) (b : A) → answers a line text b → comes (see a) line text (see b)) where
+  chain-seen : (a : A) (lines : List LineText) (texts : List (List ℕ)) (b : A) → Answers answers a lines texts b → Answers comes (see a) lines texts (see b)
+  chain-seen a [] [] b h = ap see h
+  chain-seen a (l ∷ ls) (t ∷ ts) b h = (see h.0, sees a l t h.0 h.1, chain-seen h.0 ls ts b h.2)
+  chain-seen a ls ts b h = absurd h
+
+  pub talk-seen : {S K : Type 0} {gives : S → ReadAnswer → S → Type 0} {takes : K → WriteAnswer → K → Type 0} {s s' : S} {k k' : K} (a b : A) (from : H) {ends : LineText → Bool} {r : Result TalkEnd LineFault} → see a ≡ from
+      → Talk (between gives s s') (between takes k k') (answering answers a b) ends r → Talk (between gives s s') (between takes k k') (answering comes from (see b)) ends r
+  talk-seen a b from start talk =
+      let y = talk.lines in
+      record {
+        blocks = talk.blocks;
+        last = talk.last;
+        reads = talk.reads;
+        ending = talk.ending;
+        lines = record {
+          answered = y.answered;
+          texts = y.texts;
+          pieces = y.pieces;
+          rest = y.rest;
+          answers_lead = subst (λ h. Answers comes h y.answered y.texts (see b)) start (chain-seen a y.answered y.texts b y.answers_lead);
+          writes = y.writes;
+          taken = y.taken;
+          ends = y.ends;
+        };
+      }
 
 -- what was answered and written, by how it ended
 module _ (lines answered : List LineText) (texts : List (List ℕ)) (rest : List ℕ) where

@@ -54,7 +54,7 @@ pub use laws::each_done_line_is_true;
 pub use office::Office;
 pub use protocol::Question;
 pub use requests::{Request, read_request};
-pub use serving::serve_lines;
+pub use serving::{LineProtocol, ServerLines, serve_lines, serve_talk};
 pub use standings::{Analysis, Live, Standing};
 pub use texts::SessionText;
 pub use turns::{answer_request, leave_if_seated};

@@ -1,30 +1,63 @@
 //! Serving a session with a client from its first line to its last.
 ghost use Rattle.std.specs.Prelude.{◌≡◌, ◌≢◌, Err, true, false};
-ghost use Rattle.line_io.specs.Leads.{between};
-ghost use Rattle.line_io.specs.Views.{text_of};
+ghost use Rattle.line_io.specs.Leads.{between, answering};
+ghost use Rattle.line_io.specs.Talks.{Talk};
 ghost use Rattle.session.specs.Requests.{is_bye};
-ghost use Rattle.session.specs.Requests.{request};
-ghost use Rattle.session.specs.Sessions.{Turned, Session, talk_result, handler_of, Called};
+ghost use Rattle.session.specs.Sessions.{HandlerOf, LeavesIf, Session, talk_result, handler_of, Called};
 
 use crate::faults::{End, SessionFault};
 use crate::office::Office;
 use crate::texts::SessionText;
 use crate::turns::{leave_if_seated, take_turn};
 use line_io::{Ends, LF, Line, LineAnswerer, LineFault, Sink, Source, TalkEnd, talk_lines};
+use std::marker::PhantomData;
 use std::sync::Wait;
+
+/// How the lines of a session are answered by an office.
+pub trait LineProtocol<O: Office> {
+    ghost use Rattle.std.specs.Prelude.{◌≤◌, ℕ, List, true, length};
+    ghost use Rattle.line_io.specs.Lines.{LineText};
+    ghost use Rattle.line_io.specs.Views.{text_of};
+    ghost use Rattle.session.specs.Sessions.{HandlerOf, handler_of};
+
+    /// What comes of a line, by the handler before it, the text of the answer and the handler after it.
+    ghost comes: { HandlerOf O → LineText → List ℕ → HandlerOf O → Type 0 };
+
+    /// Answers a line over the last answer, and keeps in `seated` whether the session has a tenant.
+    fn take(office: &mut O, seated: &mut bool, text: &mut SessionText, line: Line<'_>)
+        requires { O.ready ≡ true }
+        ensures turn { comes (handler_of office.old seated.old) (text_of line.entry) text.new.items (handler_of office.new seated.new) }
+        ensures short { length text.new.items ≤ 1114 };
+}
+
+/// The lines of a server's session, which its office alone answers.
+pub struct ServerLines;
+
+impl<O: Office> LineProtocol<O> for ServerLines {
+    ghost use Rattle.session.specs.Requests.{request};
+    ghost use Rattle.session.specs.Sessions.{Turned};
+
+    ghost comes = { λ from line text to. Turned O.does (request from.seated line) from text to };
+
+    /// Answers a line by a call of the office at most.
+    fn take(office: &mut O, seated: &mut bool, text: &mut SessionText, line: Line<'_>) {
+        take_turn(office, seated, text, line);
+    }
+}
 
 /// Answers the lines of one session, and knows whether its tenant is there. Its text is the last answer, over which the
 /// next one is written.
-struct Handler<'a, O: Office> {
+struct Handler<'a, O: Office, T: LineProtocol<O>> {
     office: &'a mut O,
     seated: bool,
     text: SessionText,
+    lines: PhantomData<T>,
     ghost ready: { O.ready ≡ true },
 }
 
-impl<'a, O: Office> Handler<'a, O> {
+impl<'a, O: Office, T: LineProtocol<O>> Handler<'a, O, T> {
     /// A handler that has no tenant and hasn't answered yet.
-    fn new(office: &'a mut O) -> Handler<'a, O>
+    fn new(office: &'a mut O) -> Handler<'a, O, T>
         requires { O.ready ≡ true }
         ensures same_office { result.office.ghost_name ≡ office.entry.ghost_name }
         ensures office { result.office.now ≡ office.old }
@@ -34,19 +67,20 @@ impl<'a, O: Office> Handler<'a, O> {
             office,
             seated: false,
             text: SessionText::new(),
+            lines: PhantomData,
         }
     }
 }
 
-impl<O: Office> LineAnswerer for Handler<'_, O> {
+impl<O: Office, T: LineProtocol<O>> LineAnswerer for Handler<'_, O, T> {
     ghost answers = { λ s line text t. (t.office.ghost_name ≡ s.office.ghost_name)
-        × Turned O.does (request s.seated line) (handler_of s.office.now s.seated) text (handler_of t.office.now t.seated) };
+        × T.comes (handler_of s.office.now s.seated) line text (handler_of t.office.now t.seated) };
 
     ghost kept = { λ handler. handler.text.items };
 
     /// Answers a line, over the last answer, and ends the answer by LF.
     fn answer(&mut self, line: Line<'_>) {
-        take_turn(self.office, &mut self.seated, &mut self.text, line);
+        T::take(self.office, &mut self.seated, &mut self.text, line);
         self.text.push(LF);
     }
 
@@ -56,7 +90,7 @@ impl<O: Office> LineAnswerer for Handler<'_, O> {
     }
 }
 
-impl<O: Office> Ends for Handler<'_, O> {
+impl<O: Office, T: LineProtocol<O>> Ends for Handler<'_, O, T> {
     ghost ends = { is_bye };
 
     /// Whether a line ends the session: it is just BYE.
@@ -66,6 +100,32 @@ impl<O: Office> Ends for Handler<'_, O> {
             Line::TooLong => false,
         }
     }
+}
+
+/// Answers each line of the source on the sink as `T` says, as soon as it is complete, up to a line `BYE`, the end of the input, or a
+/// failure of source or sink. In each case the tenant has left when it returns, and before its `BYE` is answered. It may wait, as the
+/// office may.
+pub fn serve_talk<T: LineProtocol<O>, S: Source, K: Sink, O: Office, R: Wait>(
+    rt: &R,
+    source: &mut S,
+    sink: &mut K,
+    office: &mut O,
+) -> Result<TalkEnd, LineFault>
+    requires { O.ready ≡ true }
+    ensures { (to : HandlerOf O)
+        × Talk (between S.gives source.old source.new) (between K.takes sink.old sink.new) (answering T.comes (handler_of office.old false) to) is_bye result
+        × LeavesIf O.does to.seated to.office office.new }
+{
+    let mut handler = Handler::<'_, O, T>::new(office);
+    let talk = talk_lines(rt, source, sink, &mut handler);
+    let Handler {
+        office,
+        seated,
+        text: _text,
+        lines: _lines,
+    } = handler;
+    leave_if_seated(office, seated);
+    talk
 }
 
 /// How a session ended, by how the exchange of lines and answers did.
@@ -99,13 +159,5 @@ pub fn serve_lines<S: Source, K: Sink, O: Office, R: Wait>(
     requires { O.ready ≡ true }
     ensures { Session (between S.gives source.old source.new) (between K.takes sink.old sink.new) (between (Called O.does) office.old office.new) result }
 {
-    let mut handler = Handler::new(office);
-    let talk = talk_lines(rt, source, sink, &mut handler);
-    let Handler {
-        office,
-        seated,
-        text: _text,
-    } = handler;
-    leave_if_seated(office, seated);
-    session_end(talk)
+    session_end(serve_talk::<ServerLines, S, K, O, R>(rt, source, sink, office))
 }

@@ -38,7 +38,7 @@ pub use Rattle.session.proofs.TrueCalls.{all-true}
 pub use Rattle.session.specs.Calls.{Alive, AskLive, AskQuota, Call, Cancel, Ended, Get, Gone, Hello, Job, Leave, OfficeReply, Refused, Rest, Reserve, Reserved, Told, Wait, Welcome, reply_of}
 pub use Rattle.session.specs.Requests.{is_bye}
 pub use Rattle.session.specs.Requests.{Ends, Fault, Makes, Request, Tabulates, request}
-pub use Rattle.session.specs.Sessions.{Called, LeavesIf, Turned, calls_for, handler_of, session_lines}
+pub use Rattle.session.specs.Sessions.{Called, HandlerOf, LeavesIf, Turned, calls_for, handler_of, session_lines}
 pub use Rattle.session.specs.Turns.{Closed, Faulted, LineTurn, Made, Tabulated, calls_in, leaving, reply_text, seated_after, turn_text, turns}
 pub use Rattle.session.specs.declared.faults.End.TheVariants.{Bye}
 pub use Rattle.session.specs.declared.faults.SessionFault.TheVariants.{Write}
@@ -52,11 +52,10 @@ pub use Rattle.site_office.specs.Offices.{IsSameSeat, SiteOfficeOf, at_site, off
 pub use Rattle.site_office.specs.Refusing.{comer_refusals, live_answer, raise_refusal}
 pub use Rattle.site_office.specs.Sessions.{AnyText, AreMixed, IsBeside, IsTenantAt, MayBeOwn, SeenSiteSession, tokenless, seated_by}
 pub use Rattle.site_office.specs.Tokens.{is_token, last_word, less_token, token_after, token_by, token_of, without_token, word_after, word_after_two}
-pub use Rattle.site_office.specs.Turns.{IfPaid, IsRefused, IsWelcomed, SiteTurned, site_relations}
+pub use Rattle.site_office.specs.Turns.{IfPaid, IsRefused, IsWelcomed, SiteComes, SiteTurned, site_relations}
 pub use Rattle.site_office.specs.declared.access.Greeted.{Greeted}
 pub use Rattle.site_office.specs.declared.access.Greeted.TheVariants.{Crowded, Known, Unknown}
 pub use Rattle.site_office.specs.declared.access.Info.{Info}
-pub use Rattle.site_office.specs.declared.handler.SiteHandler.{SiteHandler}
 pub use Rattle.std.proofs.Common.{Bool, Err, List, None, Ok, Option, Result, Some, [], ap, arith, codes, cond, eqb, false, if◌then◌else◌, inl, inr, length, map}
 pub use Rattle.std.proofs.Common.{refl, rules, subst, suc, sym, take, true, zero, ℕ, ◌++◌, ◌<◌, ◌∙◌, ◌∷◌, ◌≡◌, ◌≤◌, ◌⊎◌}
 pub use Rattle.std.proofs.lemmas.Bool.Decides.{nat_tests}

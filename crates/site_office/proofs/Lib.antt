@@ -1,6 +1,5 @@
 mod Common
 mod TokenLemmas
-mod ChainLemmas
 mod HandlerLemmas
 pub mod SeatLemmas
 mod BareLines

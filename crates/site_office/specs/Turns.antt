@@ -1,5 +1,6 @@
 -- Meaning: what comes of one line of a site's session: what is asked of its office and of its access control, and the text of the answer.
 use Rattle.std.specs.Prelude.{◌≡◌, ℕ, List, ◌++◌, Bool, true, false, Option, codes, decimal}
+use Rattle.line_io.specs.Lines.{LineText}
 use Rattle.protocol.specs.Texts.{error_text}
 use Rattle.session.specs.Calls.{Call, Hello, Reserve, OfficeReply}
 use Rattle.session.specs.Requests.{Makes}
@@ -8,7 +9,7 @@ use Rattle.tenant_quota.specs.Reserves.{ReserveOf}
 use Rattle.site_office.specs.declared.access.Greeted.{Greeted}
 use Rattle.site_office.specs.declared.access.Greeted.TheVariants.{Known, Unknown, Crowded}
 use Rattle.site_office.specs.declared.access.Info.{Info}
-use Rattle.site_office.specs.Lines.{SiteRequest, Greets, Raises, Informs, Pings, Plain}
+use Rattle.site_office.specs.Lines.{SiteRequest, Greets, Raises, Informs, Pings, Plain, site_request}
 
 -- the text of a space and a number
 abbrev pub spaced_number : ℕ → List ℕ
@@ -60,3 +61,7 @@ SiteTurned {O} site (Raises quota) from text to =
 SiteTurned site Informs from text to = (info : Info) × site.informs from.office info to.office × (to.seated ≡ from.seated) × (text ≡ info_text info)
 SiteTurned site Pings from text to = (from.office ≡ to.office) × (to.seated ≡ from.seated) × (text ≡ codes "PONG")
 SiteTurned site (Plain asked) from text to = Turned site.does asked from text to
+
+-- what comes of a line of a site's session
+abbrev pub SiteComes : {O : Type 0} → SiteRelations O → HandlerOf O → LineText → List ℕ → HandlerOf O → Type 0
+SiteComes site from line text to = SiteTurned site (site_request from.seated line) from text to

@@ -4,15 +4,16 @@
 //! after HELLO, which says whose session it is to be. INFO tells the customer what it may have and has. PING is answered PONG, also before
 //! HELLO, by this thread alone: no lock is taken. And lines that ask for a reservation are paid for by a rate. [`take_site_turn`] answers
 //! one line: who says HELLO, the rate and INFO are asked of an [`AccessControl`], all else of the session's office, by the session's own
-//! code. So a line is read once, by one grammar.
+//! code. So a line is read once, by one grammar; and all lines are served by the loop of any session (`serve_talk`), which is told
+//! that they are [`SiteLines`].
 //!
-//! A `SiteOffice` is what a [`SiteHandler`] asks for a connection (`session::Office` and [`AccessControl`]). It has the desk by
+//! A `SiteOffice` is what a session asks for a connection (`session::Office` and [`AccessControl`]). It has the desk by
 //! reference, the seat of its session once HELLO was welcomed, whose the next session is to be, and an [`Environment`]: the clock, the
 //! keys, the rates, and who can shut another's connection. Whoever is told that there is room once others have left waits for one of them,
 //! 2 seconds at most.
 //!
 //! What stands for what: an [`AccessControl`] is a state with relations of its own, as an `Office` is; what comes of a line is `SiteTurned`
-//! of `specs/Turns.antt`. A [`SiteHandler`] is an office with its access control, whether its tenant is there, and the last answer. A
+//! of `specs/Turns.antt`. A
 //! `SiteOffice` is its desk's number, its seat, and what that knew when its tenant left (`specs/Offices.antt`): each call is one of an
 //! office at that desk (`IsTurnAt` of `desk_office`), or a raise that the book refuses (`specs/Moments.antt`). Its invariant is that the
 //! seat is that of the customer who was greeted, and at the office's desk.
@@ -50,7 +51,6 @@
 mod access;
 mod entering;
 mod environment;
-mod handler;
 mod laws;
 mod office;
 mod requests;
@@ -61,9 +61,8 @@ mod turns;
 
 pub use access::{AccessControl, Greeted, Info};
 pub use environment::{Cause, Environment, Identity, Note};
-pub use handler::{SiteHandler, serve_site};
 pub use laws::nobody_stays;
 pub use requests::{SiteRequest, read_site_request};
 pub use serving::{Connection, serve_connection};
 pub use tokens::{token_of, without_token};
-pub use turns::take_site_turn;
+pub use turns::{SiteLines, take_site_turn};

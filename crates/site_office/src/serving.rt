@@ -4,10 +4,11 @@ ghost use Rattle.line_io.specs.Leads.{between};
 ghost use Rattle.site_office.specs.Sessions.{SeenSiteSession};
 
 use crate::environment::Environment;
-use crate::handler::serve_site;
 use crate::laws::nobody_stays;
 use crate::office::SiteOffice;
+use crate::turns::SiteLines;
 use line_io::{LineFault, Sink, Source, TalkEnd};
+use session::serve_talk;
 use site_book::Who;
 use site_desk::{SiteDesk, SiteNaming, SiteTrace};
 use std::alloc::{Allocator, Global};
@@ -80,7 +81,9 @@ where
     ensures nobody { office.new.seat ≡ None }
     ensures seen { office.old.knew ≡ None → SeenSiteSession J.begun (between S.gives source.old source.new) (between K.takes sink.old sink.new) result office.new.knew }
 {
-    let end = serve_site(rt, source, sink, office);
+    let end = serve_talk::<SiteLines, S, K, SiteOffice<'_, J, H, R, A>, R>(
+        rt, source, sink, office,
+    );
     nobody_stays::<S, K, SiteOffice<'_, J, H, R, A>>();
     end
 }

@@ -12,7 +12,7 @@ use crate::access::{AccessControl, Greeted, Info};
 use crate::requests::{SiteRequest, read_site_request};
 use line_io::Line;
 use protocol::{push_error, push_number};
-use session::{Office, Request, SessionText, answer_request};
+use session::{LineProtocol, Office, Request, SessionText, answer_request};
 use tenant_quota::Reserve;
 
 /// The number of the refusal where a budget has no room.
@@ -148,5 +148,19 @@ pub fn take_site_turn<O: Office + AccessControl>(
         }
         SiteRequest::Pings => write_pong(text),
         SiteRequest::Plain(asked) => answer_request(office, seated, text, asked),
+    }
+}
+
+/// The lines of a site's session, which its office and its access control answer.
+pub struct SiteLines;
+
+impl<O: Office + AccessControl> LineProtocol<O> for SiteLines {
+    ghost use Rattle.site_office.specs.Turns.{SiteComes};
+
+    ghost comes = { SiteComes (site_relations O.does O.greets O.pays O.informs) };
+
+    /// Answers a line by what it asks of the office and the access control.
+    fn take(office: &mut O, seated: &mut bool, text: &mut SessionText, line: Line<'_>) {
+        take_site_turn(office, seated, text, line);
     }
 }
