@@ -1,8 +1,8 @@
 //! A site's log: one line a session, on the standard error, written by a thread of its own, so that no session waits
 //! for it.
-use crate::register::is_same_address;
 use site_file::Address;
 use site_rules::is_said;
+use site_rules::sessions::is_same_address;
 use std::alloc::Global;
 use std::sync::{Condvar, Mutex, Wait};
 

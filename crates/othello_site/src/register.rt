@@ -3,25 +3,18 @@ use crate::counts::{Counts, RefusedCustomers};
 use crate::rates::Rates;
 use site_book::{Group, Told, Who};
 use site_file::{Address, SiteConfig};
+use site_rules::sessions::{LinkedSession, hall_with, many_of, names_from, session_place};
 use site_rules::{Arrival, ClientState, Connections, HallRoom, Watch, hall_of_guest};
 use std::alloc::{AllocError, Global};
 use std::io::ErrorKind;
 use std::net::{Shutdown, TcpStream};
 use std::sync::Arc;
 
-/// A session that is there, and its connection.
+/// The way to a session's connection, and what is known of its client.
 #[derive(Drop)]
 pub(crate) struct SessionLink {
-    /// Its hall, from 0.
-    pub(crate) hall: usize,
-    /// Its number.
-    pub(crate) session: u64,
-    /// Whose it is.
-    who: Who,
-    /// Where its connection comes from.
-    pub(crate) address: Address,
     stream: Arc<TcpStream, Global>,
-    /// Whether it waits for a job, so that its thread doesn't read.
+    /// Whether the session waits for a job, so that its thread doesn't read.
     waits: bool,
     watch: Watch,
     /// Why it was shut, if it was.
@@ -34,7 +27,7 @@ pub(crate) struct Register {
     pub(crate) config: Arc<SiteConfig, Global>,
     pub(crate) rates: Rates,
     pub(crate) connections: Connections,
-    pub(crate) links: Vec<SessionLink>,
+    pub(crate) links: Vec<LinkedSession<SessionLink>>,
     pub(crate) counts: Counts,
     pub(crate) refused: RefusedCustomers,
     /// Until when those stay who are there, where nobody else may come.
@@ -101,23 +94,13 @@ impl Register {
         if !who.is_guest() {
             return self.first_hall(who);
         }
-        let mut home = self.home_of(who);
+        let mut home = hall_with(self.links.as_slice(), who);
         if home.is_none() && self.connections.of(who) > 1 {
             home = self.connections.home(who);
         }
         let hall = hall_of_guest(rooms, home);
         self.connections.settle(who, hall);
         hall
-    }
-
-    /// The hall in which a customer has a session; None where it has none.
-    fn home_of(&self, who: Who) -> Option<usize> {
-        for link in &self.links {
-            if link.who.is(who) {
-                return Some(link.hall);
-            }
-        }
-        None
     }
 
     /// Whether the guests of a guest's wider network have as many sessions in all halls as they may.
@@ -127,12 +110,7 @@ impl Register {
         };
         let network = Group::Network(who.network());
         let most = plan.limit(network).sessions;
-        let has = self
-            .links
-            .iter()
-            .filter(|link| network.has(link.who))
-            .count();
-        who.is_guest() && has >= most as usize
+        who.is_guest() && many_of(self.links.as_slice(), network) >= most as usize
     }
 
     /// Keeps the connection of a session, so that it can be shut later; false where there is no memory.
@@ -145,64 +123,53 @@ impl Register {
         stream: Arc<TcpStream, Global>,
     ) -> bool {
         self.links
-            .push(SessionLink {
+            .push(LinkedSession {
                 hall,
                 session,
                 who,
                 address,
-                stream,
-                waits: false,
-                watch: Watch::NOTHING,
-                told: None,
+                link: SessionLink {
+                    stream,
+                    waits: false,
+                    watch: Watch::NOTHING,
+                    told: None,
+                },
             })
             .is_ok()
     }
 
-    /// The place in the register of the connection of a session.
-    fn place_of(&self, hall: usize, session: u64) -> Option<usize> {
-        for (place, link) in self.links.iter().enumerate() {
-            if link.hall == hall && link.session == session {
-                return Some(place);
-            }
-        }
-        None
+    /// The way to the connection of a session, for writing.
+    fn link_of(&mut self, hall: usize, session: u64) -> Option<&mut SessionLink> {
+        let place = session_place(self.links.as_slice(), hall, session)?;
+        Some(&mut self.links[place].link)
     }
 
     /// Forgets the connection of a session that has ended. Returns why it was shut, if it was.
     pub(crate) fn unlink(&mut self, hall: usize, session: u64) -> Option<Told> {
-        let place = self.place_of(hall, session)?;
-        if place < self.links.len() {
-            let link = self.links.swap_remove(place);
-            return link.told;
-        }
-        None
+        let place = session_place(self.links.as_slice(), hall, session)?;
+        self.links.swap_remove(place).link.told
     }
 
     /// Shuts the connection of a session that was told to end, and notes why.
     pub(crate) fn shut(&mut self, hall: usize, session: u64, why: Told) {
-        if let Some(place) = self.place_of(hall, session) {
-            if let Some(link) = self.links.get_mut(place) {
-                link.told = Some(why);
-                let _ = link.stream.shutdown(Shutdown::Both);
-            }
+        if let Some(link) = self.link_of(hall, session) {
+            link.told = Some(why);
+            let _ = link.stream.shutdown(Shutdown::Both);
         }
     }
 
     /// Notes whether a session waits for a job from now on.
     pub(crate) fn set_waiting(&mut self, hall: usize, session: u64, waits: bool) {
-        if let Some(place) = self.place_of(hall, session) {
-            if let Some(link) = self.links.get_mut(place) {
-                link.waits = waits;
-                link.watch = Watch::NOTHING;
-            }
+        if let Some(link) = self.link_of(hall, session) {
+            link.waits = waits;
+            link.watch = Watch::NOTHING;
         }
     }
 
     /// The address from which the connection of a session comes.
     pub(crate) fn address_of(&self, hall: usize, session: u64) -> Option<Address> {
-        let place = self.place_of(hall, session)?;
-        let link = self.links.get(place)?;
-        Some(link.address)
+        let place = session_place(self.links.as_slice(), hall, session)?;
+        Some(self.links[place].address)
     }
 
     /// The halls and numbers of the sessions whose connections come from an address.
@@ -211,39 +178,24 @@ impl Register {
         alloc: Global,
         address: Address,
     ) -> Result<Vec<(usize, u64)>, AllocError> {
-        let mut found = Vec::new(alloc);
-        for link in &self.links {
-            if is_same_address(link.address, address) {
-                found.push((link.hall, link.session))?;
-            }
-        }
-        Ok(found)
+        names_from(alloc, self.links.as_slice(), address)
     }
 
     /// Looks at the connection at a place, if its session waits for a job. Returns hall and session where the client is
     /// gone.
     pub(crate) fn look(&mut self, place: usize, now: u64) -> Option<(usize, u64)> {
         let hangup = u64::from(self.config.limits.hangup).saturating_mul(1_000);
-        let link = self.links.get_mut(place)?;
-        if !link.waits {
+        let there = self.links.get_mut(place)?;
+        if !there.link.waits {
             return None;
         }
-        let seen = seen_of(&link.stream);
-        link.watch = link.watch.after(seen, now);
-        if link.watch.is_gone(seen, now, hangup) {
-            Some((link.hall, link.session))
+        let seen = seen_of(&there.link.stream);
+        there.link.watch = there.link.watch.after(seen, now);
+        if there.link.watch.is_gone(seen, now, hangup) {
+            Some((there.hall, there.session))
         } else {
             None
         }
-    }
-}
-
-/// Whether two addresses are the same.
-pub(crate) fn is_same_address(a: Address, b: Address) -> bool {
-    match (a, b) {
-        (Address::V4(a), Address::V4(b)) => a == b,
-        (Address::V6(a, low), Address::V6(b, other)) => a == b && low == other,
-        _ => false,
     }
 }
 

@@ -13,3 +13,4 @@ pub mod Descriptors
 pub mod Reloads
 pub mod Halls
 pub mod Flows
+pub mod Sessions

@@ -8,6 +8,7 @@
 //! - [`arrival_of`]: whether a connection counts as its customer's, is heard for its first line though its customer has too many, or is closed.
 //! - [`Connections`]: how many there are and as whose each counts, also once a token makes it another customer's.
 //! - [`connections_within`]: how many connections a process has descriptors for. [`plan_of_both`]: how a site changes from one file to another.
+//! - [`sessions`]: which of the sessions that are there a hall and a number mean, and which are a customer's, a part's or an address's.
 //! - [`pause`]: how long a session sleeps whose lines come too fast.
 //! - [`Pace`]: until when a connection may be silent. [`Watch`]: when a client that can't be seen to speak is gone.
 //! - [`read_command`]: what a line of the operator asks.
@@ -36,6 +37,7 @@ mod logs;
 mod paces;
 mod reloads;
 pub mod rows;
+pub mod sessions;
 mod texts;
 mod watches;
 

@@ -15,6 +15,9 @@ ghost use Rattle.site_rules.specs.declared.watches.ClientState.TheVariants.{Sile
 ghost use Rattle.site_rules.specs.Commands.{command_of, Customer, Address, Session, Stats, End, Drain, Reload, Unknown as not_known};
 ghost use Rattle.site_rules.specs.Fields.{field_of};
 ghost use Rattle.site_rules.specs.Headers.{signature, local_header, reading};
+ghost use Rattle.site_book.specs.declared.held.Group.TheVariants.{Guests, Own};
+ghost use Rattle.site_file.specs.declared.address.Address.TheVariants.{V4 as AddressV4, V6 as AddressV6};
+ghost use Rattle.site_rules.specs.Sessions.{hall_with, is_same_address, many_of, names_from, session_place, three_sessions};
 ghost use Rattle.site_rules.specs.Texts.{Told, Unknown, text_reading, IsReading};
 ghost use Rattle.site_rules.specs.declared.faults.HeaderFault.TheVariants.{NoHeader, Version, Command, LongHeader, Family, ShortAddress, WrongText};
 ghost use Rattle.site_rules.specs.declared.headers.Origin.TheVariants.{Local, V4, V6};
@@ -134,6 +137,18 @@ pub fn fields_are_found()
     ensures none { field_of 6 (4 ∷ 0 ∷ 0 ∷ 5 ∷ 0 ∷ 2 ∷ 97 ∷ 98 ∷ []) ≡ None }
     ensures cut_short { field_of 5 (5 ∷ 0 ∷ 3 ∷ 97 ∷ 98 ∷ []) ≡ None }
     ensures no_size { field_of 5 (5 ∷ 0 ∷ []) ≡ None }
+{}
+
+/// Which of three sessions are meant by hall and number, and which are a customer's, a part's and an address's.
+pub fn sessions_are_found()
+    ensures second { session_place 1 7 0 three_sessions ≡ Some 1 }
+    ensures nowhere { session_place 0 8 0 three_sessions ≡ None }
+    ensures hall { hall_with (V4Who 8) three_sessions ≡ Some 1 }
+    ensures no_hall { hall_with (V4Who 7) three_sessions ≡ None }
+    ensures guests { many_of Guests three_sessions ≡ 2 }
+    ensures own { many_of (Own (NamedWho 3)) three_sessions ≡ 1 }
+    ensures address { names_from (AddressV4 9) three_sessions ≡ (0, 7) ∷ (1, 7) ∷ [] }
+    ensures other_half { is_same_address (AddressV6 1 2) (AddressV6 1 3) ≡ false }
 {}
 
 /// What is read of proxies' headers of version 1, which are lines of text.
