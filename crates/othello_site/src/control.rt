@@ -1,21 +1,19 @@
 //! The socket of a site's operator: STATS, END, DRAIN and RELOAD.
-use crate::links::{MOST_BYTES, Received, first_line, is_interrupted};
+use crate::links::first_line;
 use crate::paths::Paths;
 use crate::reloading::{Unread, reload};
 use crate::shared::Shared;
 use crate::telling::stats_of;
-use crate::visits::{PAUSE_MILLIS, Shut};
+use crate::visits::Host;
 use crate::watching::{shut_told, tell};
 use site_book::{Group, Told, Who, Whom};
 use site_desk::SiteNaming;
 use site_file::Address;
 use site_rules::{Command, Whose, read_command};
 use std::alloc::{AllocError, Global};
-use std::io::{Read, Write};
 use std::net::{Ipv4Addr, Ipv6Addr};
-use std::os::unix::net::{UnixListener, UnixStream};
+use std::os::unix::net::UnixListener;
 use std::sync::{Arc, Wait};
-use std::thread;
 use std::time::{Clock, Duration};
 
 /// Seconds in which a command is whole, and in which its answer is taken.
@@ -162,34 +160,26 @@ fn answer<J: SiteNaming, R: Paths + AllocGlobal + Clock + Wait>(
     }
 }
 
-/// Reads the operator's command from a connection, and answers it.
-fn converse<J: SiteNaming, R: Paths + AllocGlobal + Clock + Wait>(
-    rt: &R,
-    shared: &Shared<J>,
-    stream: &UnixStream,
-) -> Option<()> {
-    let limit = Some(Duration::from_secs(COMMAND_SECS));
-    if stream.set_read_timeout(limit).is_err() || stream.set_write_timeout(limit).is_err() {
-        return None;
+/// Who answers the operator.
+#[derive(Drop)]
+struct ControlHost<'a, J: SiteNaming, R> {
+    rt: &'a R,
+    shared: &'a Shared<J>,
+}
+
+impl<J: SiteNaming, R: Paths + AllocGlobal + Clock + Wait> Host for ControlHost<'_, J, R> {
+    /// In which time a command is whole, and in which its answer is taken.
+    fn limit(&self) -> Duration {
+        Duration::from_secs(COMMAND_SECS)
     }
-    let mut received = Received::new();
-    for _ in 0..MOST_BYTES {
-        if let Some(line) = first_line(received.bytes()) {
-            let line = line.trim_ascii();
-            let command = read_command(line);
-            log_command(rt, shared, line);
-            return match answer(rt, shared, command) {
-                Ok(text) => (&*stream).write_all(text.as_bytes()).ok(),
-                Err(_) => None,
-            };
-        }
-        match (&*stream).read(received.room()) {
-            Ok(count) if count > 0 => received.grow(count),
-            Err(error) if is_interrupted(&error) => {}
-            _ => return None,
-        }
+
+    /// The answer to a command, which the log has too.
+    fn answer(&self, bytes: &[u8]) -> Option<Result<String, AllocError>> {
+        let line = first_line(bytes)?.trim_ascii();
+        let command = read_command(line);
+        log_command(self.rt, self.shared, line);
+        Some(answer(self.rt, self.shared, command))
     }
-    None
 }
 
 /// Logs a command: `?` stands for a quote, a backslash, and each byte that isn't printable ASCII.
@@ -220,13 +210,8 @@ pub(crate) fn serve_control<J: SiteNaming, R: Clock + AllocGlobal + Wait>(
     shared: &Shared<J>,
     listener: UnixListener,
 ) {
-    for stream in listener.incoming() {
-        match stream {
-            Ok(stream) => {
-                let _ = shared.operators.admit(rt, rt.alloc(), stream);
-            }
-            Err(_) => thread::sleep(rt, Duration::from_millis(PAUSE_MILLIS)),
-        }
+    for came in listener.incoming() {
+        shared.operators.take(rt, rt.alloc(), came);
     }
 }
 
@@ -235,10 +220,5 @@ pub(crate) fn answer_control<J: SiteNaming, R: Clock + Paths + AllocGlobal + Wai
     rt: &R,
     shared: &Shared<J>,
 ) {
-    for _ in rt.forever() {
-        if let Some(stream) = shared.operators.next(rt) {
-            let _ = converse(rt, shared, &stream);
-            stream.shut();
-        }
-    }
+    shared.operators.answer_all(rt, &ControlHost { rt, shared });
 }

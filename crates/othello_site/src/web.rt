@@ -1,14 +1,12 @@
 //! A site's health and metrics by HTTP.
-use crate::links::{MOST_BYTES, Received, first_line, is_interrupted};
+use crate::links::first_line;
 use crate::shared::Shared;
 use crate::telling::metrics_of;
-use crate::visits::{PAUSE_MILLIS, Shut};
+use crate::visits::Host;
 use site_desk::SiteNaming;
 use std::alloc::AllocError;
-use std::io::{Read, Write};
-use std::net::{TcpListener, TcpStream};
+use std::net::TcpListener;
 use std::sync::Wait;
-use std::thread;
 use std::time::{Clock, Duration};
 
 /// Seconds in which a request is whole, and in which its answer is taken.
@@ -66,31 +64,24 @@ fn answer<J: SiteNaming, R: AllocGlobal + Clock + Wait>(
     }
 }
 
-/// Reads a request by HTTP from one connection, and answers it.
-fn converse<J: SiteNaming, R: AllocGlobal + Clock + Wait>(
-    rt: &R,
-    shared: &Shared<J>,
-    stream: &TcpStream,
-) -> Option<()> {
-    let limit = Some(Duration::from_secs(REQUEST_SECS));
-    if stream.set_read_timeout(limit).is_err() || stream.set_write_timeout(limit).is_err() {
-        return None;
+/// Who answers requests by HTTP.
+#[derive(Drop)]
+struct WebHost<'a, J: SiteNaming, R> {
+    rt: &'a R,
+    shared: &'a Shared<J>,
+}
+
+impl<J: SiteNaming, R: AllocGlobal + Clock + Wait> Host for WebHost<'_, J, R> {
+    /// In which time a request is whole, and in which its answer is taken.
+    fn limit(&self) -> Duration {
+        Duration::from_secs(REQUEST_SECS)
     }
-    let mut received = Received::new();
-    for _ in 0..MOST_BYTES {
-        if let Some(asked) = asked_by(received.bytes()) {
-            return match answer(rt, shared, asked) {
-                Ok(text) => (&*stream).write_all(text.as_bytes()).ok(),
-                Err(_) => None,
-            };
-        }
-        match (&*stream).read(received.room()) {
-            Ok(count) if count > 0 => received.grow(count),
-            Err(error) if is_interrupted(&error) => {}
-            _ => return None,
-        }
+
+    /// The answer to a request.
+    fn answer(&self, bytes: &[u8]) -> Option<Result<String, AllocError>> {
+        let asked = asked_by(bytes)?;
+        Some(answer(self.rt, self.shared, asked))
     }
-    None
 }
 
 /// Takes the connections by HTTP, which other threads answer ([`answer_web`]).
@@ -99,22 +90,12 @@ pub(crate) fn serve_web<J: SiteNaming, R: Clock + AllocGlobal + Wait>(
     shared: &Shared<J>,
     listener: TcpListener,
 ) {
-    for stream in listener.incoming() {
-        match stream {
-            Ok(stream) => {
-                let _ = shared.web.admit(rt, rt.alloc(), stream);
-            }
-            Err(_) => thread::sleep(rt, Duration::from_millis(PAUSE_MILLIS)),
-        }
+    for came in listener.incoming() {
+        shared.web.take(rt, rt.alloc(), came);
     }
 }
 
 /// Answers one connection by HTTP after another, for ever.
 pub(crate) fn answer_web<J: SiteNaming, R: Clock + AllocGlobal + Wait>(rt: &R, shared: &Shared<J>) {
-    for _ in rt.forever() {
-        if let Some(stream) = shared.web.next(rt) {
-            let _ = converse(rt, shared, &stream);
-            stream.shut();
-        }
-    }
+    shared.web.answer_all(rt, &WebHost { rt, shared });
 }
