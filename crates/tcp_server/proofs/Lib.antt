@@ -1,2 +1,3 @@
 pub mod TapeLemmas
+pub mod AheadLemmas
 pub mod OnTapes

@@ -50,4 +50,7 @@ pub mod tcp_door;
 
 pub use faults::ServeFault;
 pub use server::{Passed, ServerConfig, Sessions, converse, serve, serve_announced, serve_taped};
-pub use taped::{Tape, TapedSink, TapedSource, calls_are_taped, each_call_is_on_its_tape};
+pub use taped::{
+    ClosedTape, MOST_AHEAD, Tape, TapedReader, TapedSink, TapedSource, TapedWriter,
+    calls_are_taped, calls_move_their_bytes, each_byte_is_handed_on, each_call_is_on_its_tape,
+};

@@ -4,11 +4,12 @@
 //! be one over any bytes. A [`Tape`] is a list of what each call did, which exists in proofs alone; contracts see it, and of which
 //! socket it is. A [`TapedSource`] is a source with the tape of what it gave, and a [`TapedSink`] a sink with that of what it took:
 //! each read and each write is noted as it is made, and what the source and the sink themselves say of it stays said. Only they note
-//! anything: nobody else can make a tape, or change one. So a session over them is a session of the bytes on their tapes.
+//! anything: nobody else can make a tape, or change one. So a session over them is a session of the bytes on their tapes. A caller
+//! who has to see each call's error, and to say how long a call may wait, has a [`TapedReader`] and a [`TapedWriter`] instead, whose
+//! reads and writes are those of the socket itself.
 //!
 //! At run time nothing is stored of a tape. Its list is what the one pass of an `atomic_table` knows, of one word under no rule: a
-//! call costs one load of that word, [`TapedSource::of_socket`] and [`TapedSink::of_socket`] an allocation of 8 bytes each. The word
-//! is shared with nobody.
+//! call costs one load of that word, each function `of_socket` an allocation of 8 bytes. The word is shared with nobody.
 //!
 //! ```text
 //! let mut source = TapedSource::of_socket(alloc, &stream)?;      // []
@@ -21,10 +22,14 @@ ghost use Rattle.std.specs.Net.Tcp.{stream_raw_fd};
 ghost use Rattle.tcp_server.specs.Tapes.{blank_tape, taped, HearsFrom, SendsTo};
 
 mod rows;
+mod socket;
 
 use atomic_table::{Play, Seat as Pass, Table, TableRule};
 use line_io::{FromReader, FromWriter, ReadFailed, Sink, Source, WriteFailed};
-pub use rows::{calls_are_taped, each_call_is_on_its_tape};
+pub use rows::{
+    calls_are_taped, calls_move_their_bytes, each_byte_is_handed_on, each_call_is_on_its_tape,
+};
+pub use socket::{MOST_AHEAD, TapedReader, TapedWriter};
 use std::alloc::{AllocError, Global};
 use std::collections::LinkedList;
 use std::marker::{Brand, Model, PhantomData};
@@ -111,6 +116,30 @@ impl Tape {
     {
         note_call::<Brand>(self, &[]);
     }
+
+    /// Closes the tape, and gives its memory back.
+    fn close(self) -> ClosedTape
+        ensures { result ≡ self }
+    {
+        let Tape { table, pass } = self;
+        drop(table);
+        ClosedTape { pass }
+    }
+}
+
+/// A tape on which nothing is noted any more. It takes no memory, and nothing has to be dropped of it: it may be what a thread returns
+/// whom nobody joins. Contracts see what the tape was.
+#[derive(Drop)]
+pub struct ClosedTape {
+    pass: Pass<(), Calls>,
+}
+
+impl Model for ClosedTape {
+    ghost use Rattle.tcp_server.specs.Tapes.{TapeOf};
+
+    ghost Value = { TapeOf };
+
+    ghost view = { λ t. record { socket = t.pass.me.0.0; calls = t.pass.me.0.1 } };
 }
 
 /// Notes the call that `C` stands for. Nothing is done with the bytes: they are there for a proof to name.
