@@ -4,7 +4,7 @@
 //! crates below it, whose contracts say what is written of what is read. Here is what is done with the words: [`run`] goes from them and
 //! three streams to the exit status. [`words_of`] gets the words, [`answer`] answers the lines of `solve`, [`Explained`] says what their
 //! faults mean, `serving` where a server listens and when it has ended, [`refuse`] why words are refused, and [`say`] what the program has to
-//! say of itself. An [`Audit`] is given what a server's desk leaves: only then a server's status is 0.
+//! say of itself. An [`Audit`] is given what a server's desk and its sessions leave: only then a server's status is 0.
 //!
 //! ```text
 //! run(rt, alloc, &["othello", "solve", "--visited"], &mut streams, &mut Unaudited)    // "-4 d3 15\n", and status 0

@@ -27,7 +27,7 @@ use tcp_server::desk::{Opened, PARTS};
 /// version and a server's two lines go to the output, and all else that there is to say to the errors. The status stays
 /// the same where a text of help or of refusal can't be written. A server's status is 0 only where `audit` was given the hall that
 /// its desk left, with the share that has all parts of the desk's ledger: every step was made by a session or a worker that gave its
-/// share back.
+/// share back. With it come the sessions: what passed on each connection, whose part is in the one history of that desk.
 pub fn run<R, T: AsStr, S: ProgramInput, K: ProgramOutput, E: Sink, A: Audit>(
     rt: &R,
     alloc: Global,

@@ -3,8 +3,10 @@
 //!
 //! When the last session has ended, the hall is taken out of the desk with the badge that the pool ended with. If that
 //! gives the share with all parts of the desk's ledger, every step in the hall is one that a seat or a badge counted:
-//! no accepted step was lost, and nobody else took one. Nobody can make such a share up. An [`Audit`] is given it with the
-//! hall, and only where it was the status is 0: what that means to it is the audit's own, so nothing else gives the status.
+//! no accepted step was lost, and nobody else took one. Nobody can make such a share up. The desk's whole history is shown to what
+//! each session's seat knew, so that the part of each is in that one history. An [`Audit`] is given the share with the hall
+//! and the sessions, and only where it was the status is 0: what that means to it is the audit's own, so nothing else gives the
+//! status.
 ghost use Rattle.std.specs.Prelude.{◌≡◌, ◌≤◌, true, IfErr, IfOk, Ok, OnOk};
 ghost use Rattle.line_io.specs.Writes.{IsWritten};
 ghost use Rattle.hall.specs.Halls.{empty_hall};
@@ -24,9 +26,9 @@ use std::net::{Ipv4Addr, Net, OpenListener, SocketAddr, TcpListener, TcpStream};
 use std::sync::Wait;
 use std::sync::ledger::Blank;
 use std::thread::Threads;
-use tcp_server::desk::{Badge, Config, Desk, DeskLedger, Hall, Jamboree, Opened, PARTS, Step};
+use tcp_server::desk::{Config, Desk, DeskLedger, Hall, Jamboree, Opened, PARTS, Step};
 use tcp_server::steal_pool::{Announce, OpenGate};
-use tcp_server::{ServeFault, ServerConfig, serve_announced};
+use tcp_server::{ServeFault, Served, ServerConfig, serve_announced, show_all};
 use thiserror::Error;
 
 /// Why the command `serve` failed.
@@ -121,8 +123,8 @@ impl<K: Sink> Announce for Listening<'_, K> {
 /// Runs the server that is asked for, and returns the exit status when all its sessions have ended or it has failed.
 /// The output gets `listening 127.0.0.1:port` once the listener listens and all workers were started, and `ended k`
 /// after the last of the k sessions. At status 0 both lines were written, and nothing else, and every step of the hall is
-/// accounted for: `audit` was given the hall, and the share that has all parts of the desk's ledger. Else the status is 1, and the
-/// reason is written on the errors.
+/// accounted for: `audit` was given the hall, the share that has all parts of the desk's ledger, and the sessions, whose parts are in one
+/// history. Else the status is 1, and the reason is written on the errors.
 pub fn serve_as_asked<L, R, K: Sink, E: Sink, A: Audit>(
     rt: &R,
     alloc: Global,
@@ -209,25 +211,28 @@ where
     ensures told { IfOk result (λ _. IsServed K.takes sink.old asked.sessions sink.new) }
     ensures audited { OnOk result (IsAudited A.given audit.old L.begun audit.new) }
 {
-    let badge = serve_from(rt, alloc, &desk, listener, asked, sink)?;
-    account(desk, badge, audit)
+    let served = serve_from(rt, alloc, &desk, listener, asked, sink)?;
+    account(desk, served, audit)
 }
 
-/// Takes the hall out of the desk, and gives it to `audit` with the share that has all parts of the desk's ledger, where this badge
-/// has all that no seat and no other badge gave back: then every step of the hall is accounted for. Else `Uncounted`.
+/// Takes the hall out of the desk, and gives it to `audit` with the share that has all parts of the desk's ledger, where the pool's badge
+/// has all that no seat and no other badge gave back: then every step of the hall is accounted for. Else `Uncounted`. With them go
+/// the sessions, to each of which the desk's history was shown.
 fn account<L: DeskLedger, A: Audit>(
     desk: Desk<L>,
-    badge: Badge<L>,
+    served: Served<L>,
     audit: &mut A,
 ) -> Result<(), Unserved>
     requires { L.all ≡ L.parts }
     ensures audited { OnOk result (IsAudited A.given audit.old L.begun audit.new) }
     ensures uncounted { IfErr result (λ why. why ≡ Uncounted) }
 {
-    let (hall, whole) = desk.into_hall(badge);
+    let Served { end, sessions } = served;
+    let (hall, whole, mut history) = desk.into_hall_seen(end.badge);
     match whole {
         Some(whole) => {
-            audit.give(hall, whole);
+            let sessions = show_all(&mut history, sessions);
+            audit.give(hall, whole, sessions);
             Ok(())
         }
         None => Err(Unserved::Uncounted),
@@ -236,7 +241,7 @@ fn account<L: DeskLedger, A: Audit>(
 
 /// Serves the sessions that are asked for at this desk, and returns when they have ended or the server has failed.
 /// Writes the line `listening` once all workers were started, and `ended` after the last session. `Ok` where both were
-/// written: then the badge of all workers is returned.
+/// written: then what the server ended with is returned.
 fn serve_from<L, R, N, K: Sink>(
     rt: &R,
     alloc: Global,
@@ -244,7 +249,7 @@ fn serve_from<L, R, N, K: Sink>(
     listener: N,
     asked: Service,
     sink: &mut K,
-) -> Result<Badge<L>, Unserved>
+) -> Result<Served<L>, Unserved>
 where
     L: DeskLedger + Send + Sync,
     R: Net + Threads + Wait + Sync,
@@ -262,10 +267,10 @@ where
         address,
     };
     let config = ServerConfig::new(asked.sessions, asked.workers);
-    let (told, end) = serve_announced(rt, alloc, desk, listener, config, &OpenGate, call)?;
+    let (told, served) = serve_announced(rt, alloc, desk, listener, config, &OpenGate, call)?;
     let Listening { sink: told, .. } = told;
     if is_ended(alloc, told, asked.sessions) {
-        Ok(end.badge)
+        Ok(served)
     } else {
         Err(Unserved::Unwritten)
     }

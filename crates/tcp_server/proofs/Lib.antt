@@ -1,3 +1,4 @@
 pub mod TapeLemmas
 pub mod AheadLemmas
 pub mod OnTapes
+pub mod Partings

@@ -1,5 +1,5 @@
 -- A session over a source and a sink with tapes is one of the tapes.
-use Rattle.std.proofs.Common.{◌≡◌, ℤ, map, subst, ◌++◌, Option, Result}
+use Rattle.std.proofs.Common.{◌≡◌, ℤ, map, subst, sym, ap, ◌++◌, Option, Result}
 use Rattle.sched_rules.specs.declared.step.StepOf.{StepOf}
 use Rattle.line_io.specs.Leads.{between}
 use Rattle.line_io.specs.Runs.{write_result}
@@ -14,7 +14,7 @@ use Rattle.session.specs.declared.faults.SessionFault.{SessionFault}
 use Rattle.desk_office.specs.Answers.{SeenSession}
 use Rattle.tcp_server.specs.Connections.{IsSessionOn}
 use Rattle.tcp_server.specs.Tapes.{TapeOf, TapedOf, blank_tape, Hears, Sends, HearsFrom, SendsTo}
-use Rattle.tcp_server.proofs.TapeLemmas.{heard-on-tape, sent-on-tape}
+use Rattle.tcp_server.proofs.TapeLemmas.{heard-in-order, heard-on-tape, sent-on-tape}
 
 pub on-tapes : {S K : Type 0} (begun : HallOf) (gives : S → ReadAnswer → S → Type 0) (takes : K → WriteAnswer → K → Type 0) (s s' : TapedOf S) (k k' : TapedOf K) (ended : Result End SessionFault) (knew : Option (Known (StepOf LeafAnswer)))
     → SeenSession begun (between (HearsFrom gives) s s') (between (SendsTo takes) k k') ended knew → SeenSession begun (between Hears s.tape s'.tape) (between Sends k.tape k'.tape) ended knew
@@ -45,3 +45,11 @@ pub from-blank : (begun : HallOf) (socket : ℤ) (s k read written : TapeOf) (en
 from-blank begun socket s k read written ended knew s_new k_new seen =
     subst (λ (t : TapeOf). SeenSession begun (between Hears t read) (between Sends (blank_tape socket) written) ended knew) s_new
     (subst (λ (t : TapeOf). SeenSession begun (between Hears s read) (between Sends t written) ended knew) k_new seen)
+
+-- the socket of a session is that of its tapes
+pub on-own-socket : (begun : HallOf) (socket : ℤ) (read written : TapeOf) (ended : Result End SessionFault) (knew : Option (Known (StepOf LeafAnswer)))
+    → IsSessionOn begun socket read written ended knew → IsSessionOn begun read.socket read written ended knew
+on-own-socket begun socket read written ended knew seen =
+    let x = seen.session in
+    let same : read.socket ≡ socket = ap (λ (t : TapeOf). t.socket) (heard-in-order (blank_tape socket) read (map Gave x.blocks ++ x.last) x.reads) in
+    subst (λ s. IsSessionOn begun s read written ended knew) (sym same) seen

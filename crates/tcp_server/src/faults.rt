@@ -9,7 +9,7 @@ pub enum ServeFault {
     /// The listener has failed: no more connections can be taken, or its address can't be had.
     #[error("no connection could be taken: {0}")]
     Listener(io::Error),
-    /// There was no memory for the pool's deques, or for its threads' handles.
+    /// There was no memory for the pool's deques, for its threads' handles, or for what passes on the connections.
     #[error("no memory for the workers")]
     OutOfMemory,
     /// A thread couldn't be had, for a worker or for taking the connections, or a badge for a worker.

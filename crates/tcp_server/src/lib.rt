@@ -2,7 +2,7 @@
 //!
 //! [`serve`] is handed a listener that is bound, and a desk. It takes so many connections and no more, each in a
 //! thread of its own, in which `desk_office` answers its lines; the pool of `steal_pool` works beside them. When all
-//! sessions have ended it closes the desk, joins all, and gives what the pool ended with.
+//! sessions have ended it closes the desk, joins all, and gives what the pool ended with and what passed on all connections.
 //!
 //! A connection that is lost is a session that ended: its tenant leaves. A connection for which no thread, no
 //! descriptor or no memory can be had is closed, and counts too. The listener is closed with the last connection that is taken, so
@@ -20,8 +20,9 @@
 //! What a session answers is the contract of `desk_office::serve_desk_seen`, whatever the threads do: a socket is a source
 //! and a sink of bytes. What a socket gives no contract can say beforehand; a session's thread reads and writes it with a tape of
 //! each direction ([`TapedSource`], [`TapedSink`]), a list in proofs alone of what each call did. So [`converse`] can say that what
-//! passed on its connection is a session in the desk's history, and each thread's closure says it. Nothing is proved of when a
-//! thread runs.
+//! passed on its connection is a session in the desk's history, and the type of what it returns, [`Passed`], carries that out of
+//! its thread: once the desk gives its whole history, [`show_all`] says that each session's part is in that one. Nothing is proved of
+//! when a thread runs, or that a session's thread leaves what passed: that is tested.
 //!
 //! Why it is so:
 //!
@@ -36,7 +37,9 @@
 //! ```text
 //! let listener = TcpListener::bind(&rt, "127.0.0.1:0")?;
 //! let config = ServerConfig::new(2, Worker::new(4)?);
-//! let end = serve(&rt, alloc, &desk, listener, config, &OpenGate)?;   // after two sessions
+//! let served = serve(&rt, alloc, &desk, listener, config, &OpenGate)?;    // after two sessions
+//! let (hall, whole, mut history) = desk.into_hall_seen(served.end.badge);
+//! let sessions = show_all(&mut history, served.sessions);             // the parts of both are in one history
 //! ```
 #![tactic(auto)]
 
@@ -44,12 +47,14 @@ pub use steal_pool;
 pub use steal_pool::desk;
 
 mod faults;
+mod passed;
 mod server;
 mod taped;
 pub mod tcp_door;
 
 pub use faults::ServeFault;
-pub use server::{Passed, ServerConfig, Sessions, converse, serve, serve_announced, serve_taped};
+pub use passed::{Passed, Taped, show_all};
+pub use server::{Served, ServerConfig, Sessions, converse, serve, serve_announced, serve_taped};
 pub use taped::{
     ClosedTape, MOST_AHEAD, Tape, TapedReader, TapedSink, TapedSource, TapedWriter,
     calls_are_taped, calls_move_their_bytes, each_byte_is_handed_on, each_call_is_on_its_tape,

@@ -8,19 +8,19 @@ ghost use Rattle.tcp_server.specs.Connections.{IsSessionOn};
 ghost use Rattle.tcp_server.specs.Tapes.{Hears, Sends};
 
 use crate::faults::ServeFault;
-use crate::taped::{Tape, TapedSink, TapedSource};
+use crate::passed::{Passed, Taped};
+use crate::taped::{TapedSink, TapedSource};
 use crate::tcp_door::Door;
 use desk_office::serve_desk_seen;
 use line_io::{Sink, Source};
 use sched_rules::Worker;
-use session::{End, SessionFault};
 use std::alloc::{AllocError, Global};
 use std::io;
 use std::net::{Net, OpenListener, SocketAddr, TcpStream};
-use std::sync::Wait;
 use std::sync::atomic::{AtomicBool, Ordering};
+use std::sync::{Mutex, Wait};
 use std::thread::{self, Builder, Scope, Threads};
-use steal_pool::desk::{Badge, Desk, DeskLedger, Jamboree, Step, Trace};
+use steal_pool::desk::{Badge, Desk, DeskLedger};
 use steal_pool::{Announce, BeginFault, Gate, PoolConfig, PoolEnd, Quiet, run_pool_announced};
 
 /// What a server is given.
@@ -59,13 +59,24 @@ impl ServerConfig {
     }
 }
 
+/// What a server ends with.
+#[derive(Drop)]
+pub struct Served<L: DeskLedger> {
+    /// What its pool ended with.
+    pub end: PoolEnd<Badge<L>>,
+    /// What passed on each connection, in the order in which the sessions ended: by its type a session in the desk's
+    /// history. A connection isn't among them that was closed unserved, or for whose tapes there was no memory.
+    pub sessions: Vec<Passed<L>>,
+}
+
 /// Takes as many connections as `config` has sessions and serves each in a thread of its own, while a pool of workers
-/// runs. When all sessions have ended it closes the desk, waits for the workers, and returns what the pool ends with.
+/// runs. When all sessions have ended it closes the desk, waits for the workers, and returns what the pool ends with
+/// and what passed on the connections.
 ///
 /// At Ok so many connections were taken (each for which no thread, descriptor or memory could be had was closed, unserved), and
 /// each tenant has left. At an error the sessions that were begun have ended too, and the desk is closed: `Listener`
 /// where no more connections could be taken, or the listener's address couldn't be had; `OutOfMemory` where there was
-/// no memory for the pool; `NoThread` where no thread could be had for a worker or for taking the connections, or no
+/// no memory for the pool, or no room for what passes on so many connections; `NoThread` where no thread could be had for a worker or for taking the connections, or no
 /// badge for a worker.
 pub fn serve<
     L: DeskLedger + Send + Sync,
@@ -79,13 +90,13 @@ pub fn serve<
     listener: N,
     config: ServerConfig,
     gate: &G,
-) -> Result<PoolEnd<Badge<L>>, ServeFault>
+) -> Result<Served<L>, ServeFault>
     requires { L.all ≡ L.parts }
-    ensures workers { IfOk result (λ end. end.workers ≡ config.pool.workers) }
-    ensures tasks { IfOk result (λ end. AreTasksOf end.ends.value end.workers end.pushed end.taken) }
+    ensures workers { IfOk result (λ served. served.end.workers ≡ config.pool.workers) }
+    ensures tasks { IfOk result (λ served. AreTasksOf served.end.ends.value served.end.workers served.end.pushed served.end.taken) }
 {
     match serve_announced(rt, alloc, desk, listener, config, gate, Quiet) {
-        Ok((_quiet, end)) => Ok(end),
+        Ok((_quiet, served)) => Ok(served),
         Err(fault) => Err(fault),
     }
 }
@@ -107,25 +118,32 @@ pub fn serve_announced<
     config: ServerConfig,
     gate: &G,
     call: A,
-) -> Result<(A, PoolEnd<Badge<L>>), ServeFault>
+) -> Result<(A, Served<L>), ServeFault>
     requires { L.all ≡ L.parts }
     ensures said { IfOk result (λ served. A.says call true served.0) }
-    ensures workers { IfOk result (λ served. served.1.workers ≡ config.pool.workers) }
-    ensures tasks { IfOk result (λ served. AreTasksOf served.1.ends.value served.1.workers served.1.pushed served.1.taken) }
+    ensures workers { IfOk result (λ served. served.1.end.workers ≡ config.pool.workers) }
+    ensures tasks { IfOk result (λ served. AreTasksOf served.1.end.ends.value served.1.end.workers served.1.end.pushed served.1.end.taken) }
 {
-    serve_beside(
+    let served = serve_beside(
         rt,
         alloc,
         desk,
         listener,
         config.sessions,
-        move ||
+        move || -> Result<(A, PoolEnd<Badge<L>>), ServeFault>
             requires { L.all ≡ L.parts }
+            ensures said { IfOk result (λ ended. A.says call true ended.0) }
+            ensures workers { IfOk result (λ ended. ended.1.workers ≡ config.pool.workers) }
+            ensures tasks { IfOk result (λ ended. AreTasksOf ended.1.ends.value ended.1.workers ended.1.pushed ended.1.taken) }
         { ended_as(run_pool_announced(rt, alloc, desk, config.pool, gate, call)) },
-    )
+    );
+    match served {
+        Ok(((call, end), sessions)) => Ok((call, Served { end, sessions })),
+        Err(fault) => Err(fault),
+    }
 }
 
-/// The result of `run_pool_announced` as that of `serve_announced`; at an error the announcer is dropped.
+/// The result of `run_pool_announced` as that of its part of `serve_announced`; at an error the announcer is dropped.
 fn ended_as<A: Drop, L: DeskLedger>(
     came: (A, Result<PoolEnd<Badge<L>>, BeginFault>),
 ) -> Result<(A, PoolEnd<Badge<L>>), ServeFault>
@@ -140,9 +158,10 @@ fn ended_as<A: Drop, L: DeskLedger>(
 }
 
 /// Serves sessions as `serve` does, beside any pool: `pool` runs in this thread until the desk is closed, and its value
-/// is returned when all sessions have ended. If it couldn't run it closes the desk and returns an error; no more
-/// connections are taken then. The other errors are `Listener`, which is returned in place of the pool's result, and
-/// `NoThread` where the thread that takes the connections can't be had; then the desk is closed and `pool` isn't run.
+/// is returned when all sessions have ended, with what passed on the connections. If it couldn't run it closes the desk and
+/// returns an error; no more connections are taken then. The other errors are `Listener`, which is returned in place of the
+/// pool's result; and `NoThread` where the thread that takes the connections can't be had, and `OutOfMemory` where there is
+/// no room for what passes on so many: then the desk is closed and `pool` isn't run.
 fn serve_beside<
     L: DeskLedger + Send + Sync,
     R: Net + Threads + Wait + Sync,
@@ -156,14 +175,17 @@ fn serve_beside<
     listener: N,
     sessions: Sessions,
     pool: P,
-) -> Result<T, ServeFault>
+) -> Result<(T, Vec<Passed<L>>), ServeFault>
     requires all { L.all ≡ L.parts }
     requires pool { P.pre pool }
-    ensures { IfOk result (λ served. P.post pool (Ok served)) }
+    ensures { IfOk result (λ served. P.post pool (Ok served.0)) }
 {
     let address = match listener.local_addr() {
         Ok(address) => address,
         Err(error) => return Err(closing(rt, desk, ServeFault::Listener(error))),
+    };
+    let Ok(room) = Vec::with_capacity(alloc, usize::from(sessions.count)) else {
+        return Err(closing(rt, desk, ServeFault::OutOfMemory));
     };
     let given_up = AtomicBool::new(false);
     let stop = &given_up;
@@ -173,12 +195,12 @@ fn serve_beside<
         |scope|
             requires all { L.all ≡ L.parts }
             requires pool { P.pre pool }
-            ensures { IfOk result (λ served. P.post pool (Ok served)) }
+            ensures { IfOk result (λ served. P.post pool (Ok served.0)) }
         {
             let started = scope.spawn(
-                move || -> io::Result<()>
+                move || -> io::Result<Vec<Passed<L>>>
                     requires { L.all ≡ L.parts }
-                { serve_and_close(rt, alloc, desk, listener, sessions, stop) },
+                { serve_and_close(rt, alloc, desk, listener, sessions, stop, room) },
             );
             let Ok(taking) = started else {
                 return Err(closing(rt, desk, ServeFault::NoThread));
@@ -206,18 +228,23 @@ fn wake<R: Net>(rt: &R, address: SocketAddr, stop: &AtomicBool) {
 }
 
 /// The result of a server, by how the taking of connections ended and by the pool's result: `Listener` where the first
-/// failed, else the pool's result.
-fn ended_with<T: Drop>(taken: io::Result<()>, ended: Result<T, ServeFault>) -> Result<T, ServeFault>
-    ensures { IfOk result (λ served. ended ≡ Ok served) }
+/// failed, else the pool's result, with what passed on the connections.
+fn ended_with<T: Drop, S: Drop>(
+    taken: io::Result<S>,
+    ended: Result<T, ServeFault>,
+) -> Result<(T, S), ServeFault>
+    ensures { IfOk result (λ served. (ended ≡ Ok served.0) × (taken ≡ Ok served.1)) }
 {
-    match taken {
-        Ok(()) => ended,
-        Err(error) => Err(ServeFault::Listener(error)),
+    match (taken, ended) {
+        (Ok(sessions), Ok(end)) => Ok((end, sessions)),
+        (Ok(_), Err(fault)) => Err(fault),
+        (Err(error), _) => Err(ServeFault::Listener(error)),
     }
 }
 
 /// Takes connections and serves them (`take_all`), waits until all their sessions have ended, and closes the desk. It
-/// does so at an error of the listener too, which it returns at the end.
+/// does so at an error of the listener too, which it returns at the end. Else it returns what passed on the connections,
+/// for which there is `room`.
 fn serve_and_close<
     L: DeskLedger + Send + Sync,
     R: Threads + Wait + Sync,
@@ -229,18 +256,45 @@ fn serve_and_close<
     listener: N,
     sessions: Sessions,
     stop: &AtomicBool,
-) -> io::Result<()>
+    room: Vec<Passed<L>>,
+) -> io::Result<Vec<Passed<L>>>
     requires { L.all ≡ L.parts }
 {
+    let all = Mutex::new(room);
+    let passed = &all;
     let taken = thread::scope(
         thread::scope_env(),
         rt,
         |scope|
             requires { L.all ≡ L.parts }
-        { take_all(scope, rt, alloc, desk, listener, sessions, stop) },
+        {
+            let host = SessionHost {
+                rt,
+                alloc,
+                desk,
+                passed,
+            };
+            take_all(scope, &host, listener, sessions, stop)
+        },
     );
     desk.close(rt);
-    taken
+    match taken {
+        Ok(()) => Ok(all.into_inner()),
+        Err(error) => Err(error),
+    }
+}
+
+/// What all sessions of a server are served with.
+///
+/// What passed on a connection is left under a lock when its session ends, and not with the session's thread: a thread keeps its
+/// stack until it is joined, so a thread that nobody joins before the end would take that of each of 65,535 sessions.
+#[derive(Drop)]
+struct SessionHost<'s, L: DeskLedger, R> {
+    rt: &'s R,
+    alloc: Global,
+    desk: &'s Desk<L>,
+    /// What passed on each connection whose session has ended, with room for all.
+    passed: &'s Mutex<Vec<Passed<L>>>,
 }
 
 /// Takes so many connections, starts a session for each in a thread of `scope`, and closes the listener; it doesn't
@@ -255,9 +309,7 @@ fn take_all<
     N: OpenListener<Stream = TcpStream> + Drop,
 >(
     scope: &'s Scope<'s, E>,
-    rt: &'s R,
-    alloc: Global,
-    desk: &'s Desk<L>,
+    host: &SessionHost<'s, L, R>,
     listener: N,
     sessions: Sessions,
     stop: &AtomicBool,
@@ -266,54 +318,62 @@ fn take_all<
 {
     let mut door = Door::new(listener);
     for _ in 0..sessions.count {
-        let taken = door.next(rt)?;
+        let taken = door.next(host.rt)?;
         if stop.load(Ordering::SeqCst) {
             break;
         }
         if let Some(stream) = taken {
-            start(scope, rt, alloc, desk, sessions.stack, stream);
+            start(scope, host, sessions.stack, stream);
         }
     }
     Ok(())
 }
 
 /// Starts a session on this connection in a thread of its own, with a stack of this size, or of the usual one at
-/// `None`. Where no thread can be had the connection is closed. What passes on the connection is a session in the desk's history
-/// (`converse`).
+/// `None`. Where no thread can be had the connection is closed.
 fn start<'s, E, L: DeskLedger + Send + Sync, R: Wait + Sync>(
     scope: &'s Scope<'s, E>,
-    rt: &'s R,
-    alloc: Global,
-    desk: &'s Desk<L>,
+    host: &SessionHost<'s, L, R>,
     stack: Option<usize>,
     stream: TcpStream,
 )
     requires { L.all ≡ L.parts }
 {
+    let SessionHost {
+        rt,
+        alloc,
+        desk,
+        passed,
+    } = *host;
     let thread = match stack {
         Some(size) => Builder::new().stack_size(size),
         None => Builder::new(),
     };
     let _ = thread.spawn_scoped(
         scope,
-        move || -> Result<Passed<L>, AllocError>
+        move ||
             requires { L.all ≡ L.parts }
-            ensures { IfOk result (λ passed. IsSessionOn L.begun (stream_raw_fd stream) passed.read passed.written passed.ended passed.knew) }
-        { converse(rt, alloc, desk, &stream) },
+        { serve_one(rt, alloc, desk, passed, stream) },
     );
 }
 
-/// What passed on a connection, and what its session came to.
-#[derive(Drop)]
-pub struct Passed<L: DeskLedger> {
-    /// What each read gave, in proofs alone.
-    pub read: Tape,
-    /// What each write took, in proofs alone.
-    pub written: Tape,
-    /// How the session ended.
-    pub ended: Result<End, SessionFault>,
-    /// What the tenant's seat knew of the desk's history when it left; `None` where no tenant came.
-    pub knew: Option<Trace<Step<Jamboree>, L>>,
+/// Serves one session on this connection (`converse`), closes it, and leaves what passed on it with that of the others. Nothing is
+/// left where there was no memory for its tapes.
+fn serve_one<L: DeskLedger, R: Wait>(
+    rt: &R,
+    alloc: Global,
+    desk: &Desk<L>,
+    passed: &Mutex<Vec<Passed<L>>>,
+    stream: TcpStream,
+)
+    requires { L.all ≡ L.parts }
+{
+    let conversed = converse(rt, alloc, desk, &stream);
+    drop(stream);
+    if let Ok(one) = conversed {
+        // There is room for all, so that this takes no memory.
+        let _ = passed.lock(rt).push(one);
+    }
 }
 
 /// Serves one session on a connection, up to a line BYE, the end of the input, or a failure of the connection. In each
@@ -333,7 +393,7 @@ pub fn converse<L: DeskLedger, R: Wait>(
     let _ = stream.set_nodelay(true);
     let source = TapedSource::of_socket(alloc, stream)?;
     let sink = TapedSink::of_socket(alloc, stream)?;
-    Ok(serve_taped(rt, desk, source, sink))
+    Ok(Passed::of(serve_taped(rt, desk, source, sink)))
 }
 
 /// Serves one session over a source and a sink with tapes. It can reach them by their tapes alone, so each read and each write is
@@ -343,12 +403,12 @@ pub fn serve_taped<L: DeskLedger, R: Wait, S: Source + Drop, K: Sink + Drop>(
     desk: &Desk<L>,
     mut source: TapedSource<S>,
     mut sink: TapedSink<K>,
-) -> Passed<L>
+) -> Taped<L>
     requires { L.all ≡ L.parts }
     ensures { SeenSession L.begun (between Hears source.tape result.read) (between Sends sink.tape result.written) result.ended result.knew }
 {
     let (ended, knew) = serve_desk_seen(rt, &mut source, &mut sink, desk);
-    Passed {
+    Taped {
         read: source.into_tape(),
         written: sink.into_tape(),
         ended,

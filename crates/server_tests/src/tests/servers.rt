@@ -21,9 +21,9 @@ use std::sync::atomic::{AtomicU32, Ordering};
 use std::sync::ledger::Blank;
 use std::thread::Threads;
 use std::time::{Clock, CpuClock, Duration};
-use tcp_server::desk::{Badge, Desk, DeskLedger, Hall, Jamboree, Opened, PARTS, Step};
-use tcp_server::steal_pool::{Announce, OpenGate, PoolEnd};
-use tcp_server::{ServeFault, ServerConfig, serve, serve_announced};
+use tcp_server::desk::{Desk, DeskLedger, Hall, Jamboree, Opened, PARTS, Step};
+use tcp_server::steal_pool::{Announce, OpenGate};
+use tcp_server::{ServeFault, Served, ServerConfig, serve, serve_announced, show_all};
 
 /// A line, and its answer.
 type Row = (&'static str, &'static str);
@@ -319,14 +319,21 @@ fn visitors<R: Net<Stream = TcpStream> + Host>(
     streams
 }
 
-/// Whether a server has ended well, and all steps are accounted for.
-fn is_whole<L: DeskLedger>(desk: Desk<L>, served: Result<PoolEnd<Badge<L>>, ServeFault>) -> bool
+/// Whether a server has ended well, what passed in so many sessions was left, each of which is a part of the desk's history, and all
+/// steps are accounted for.
+fn is_whole<L: DeskLedger>(
+    desk: Desk<L>,
+    served: Result<Served<L>, ServeFault>,
+    many: usize,
+) -> bool
     requires { L.all ≡ L.parts }
 {
-    match served {
-        Ok(end) => desk.into_hall(end.badge).1.is_some(),
-        Err(_) => false,
-    }
+    let Ok(Served { end, sessions }) = served else {
+        return false;
+    };
+    let (_hall, whole, mut history) = desk.into_hall_seen(end.badge);
+    let sessions = show_all(&mut history, sessions);
+    whole.is_some() && sessions.len() == many
 }
 
 /// The fault with which a server ends that is started so; None where it ends well.

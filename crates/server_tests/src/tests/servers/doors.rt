@@ -83,6 +83,14 @@ impl Visit {
         }
     }
 
+    /// How many sessions there are at a server for so many: two who come in a crowd are turned away.
+    fn sessions(self, count: u16) -> usize {
+        match self {
+            Visit::Crowd => 2,
+            _ => usize::from(count),
+        }
+    }
+
     /// How many are there before any computation of its server ends.
     fn at_once(self) -> u32 {
         match self {
@@ -321,6 +329,7 @@ where
     let (many, most) = visit.before(server.sessions.count);
     let streams = visitors(rt, address, many);
     let taken = taken_up(rt, &listener, most);
+    let sessions = visit.sessions(server.sessions.count);
     let gate = Together::new(visit.at_once());
     let there = &gate;
     let (content, served) = thread::join(
@@ -330,7 +339,7 @@ where
             requires { L.all ≡ L.parts }
         { serve(rt, rt.alloc(), &desk, listener, server, there) },
     );
-    content && is_whole(desk, served) && !gate.late.load(Ordering::SeqCst)
+    content && is_whole(desk, served, sessions) && !gate.late.load(Ordering::SeqCst)
 }
 
 /// A server for 1 session closes its listener with the first connection, while that session lives: who comes then is

@@ -83,7 +83,7 @@ where
             requires { L.all ≡ L.parts }
         { serve(rt, rt.alloc(), &desk, keeping, server_of(1, 1), &OpenGate) },
     );
-    prompt && is_whole(desk, served)
+    prompt && is_whole(desk, served, 1)
 }
 
 /// Nagle's delay is switched off, so that an answer never waits until its peer has acknowledged the one before.

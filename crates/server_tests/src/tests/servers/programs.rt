@@ -8,13 +8,16 @@ mod words;
 
 use super::{Host, holds};
 use crate::tests::spell;
-use commands::{Explained, ProgramInput, ProgramOutput, Streams, Unaudited, run};
+use commands::{Audit, Explained, ProgramInput, ProgramOutput, Streams, Unaudited, run};
 use line_io::{FromReader, FromWriter, Sink};
 use std::alloc::Global;
 use std::io::{self, Error, ErrorKind, IsTerminal, Read, Write};
 use std::net::{Net, TcpListener, TcpStream};
 use std::sync::Wait;
+use std::sync::ledger::Share;
 use std::thread::Threads;
+use tcp_server::Passed;
+use tcp_server::desk::{DeskLedger, Hall};
 
 /// The opening two plies deep.
 const LINE: &[u8] = b"2 ---------------------------OX------XO--------------------------- X\n";
@@ -86,6 +89,56 @@ impl Write for Broken {
     fn flush(&mut self) -> io::Result<()> {
         Ok(())
     }
+}
+
+/// An audit that counts the sessions that it is given, and is told of which desk they are.
+#[derive(Drop)]
+struct Counting {
+    sessions: usize,
+    /// Whether none of them failed.
+    are_well: bool,
+}
+
+impl Audit for Counting {
+    ghost use Rattle.std.specs.Prelude.{◌≡◌, length};
+    ghost use Rattle.tcp_server.specs.Connections.{IsLeftBy};
+
+    ghost given = { λ _ begun hall sessions after. IsLeftBy begun hall sessions × (after.sessions ≡ length sessions) };
+
+    /// Counts the sessions.
+    fn give<L: DeskLedger>(&mut self, _hall: Hall, _whole: Share<L>, sessions: Vec<Passed<L>>) {
+        self.sessions = sessions.len();
+        self.are_well = are_well(&sessions);
+    }
+}
+
+/// Whether none of these sessions failed.
+fn are_well<L: DeskLedger>(sessions: &[Passed<L>]) -> bool {
+    for passed in sessions {
+        if passed.ended().is_err() {
+            return false;
+        }
+    }
+    true
+}
+
+/// Does what the words ask for: the exit status, how many sessions an audit was given, and whether none of them failed.
+fn audited<S: ProgramInput, K: ProgramOutput, E: Sink, R>(
+    rt: &R,
+    alloc: Global,
+    words: &[&str],
+    streams: &mut Streams<S, K, E>,
+) -> (u8, usize, bool)
+where
+    R: Net<Stream = TcpStream> + Threads + Wait + Sync,
+    R::Listener: Send,
+{
+    let mut counting = Counting {
+        sessions: 0,
+        are_well: false,
+    };
+    let status = run(rt, alloc, words, streams, &mut counting);
+    (status, counting.sessions, counting.are_well)
 }
 
 /// Does what the words ask for: the exit status. It says nothing of what `run` promises, so that a call is cheap to prove.

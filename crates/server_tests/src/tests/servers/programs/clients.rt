@@ -1,10 +1,10 @@
 //! Tests of servers of the program `othello`, and of callers that come once they are told where a server listens.
 use super::grains::is_served;
 use super::served::has_many_sessions;
-use super::{followed, typed, written};
+use super::{audited, memory, typed, written};
 use crate::tests::servers::{ASK_2, LAST, Row, SPENT, are_told, are_told_before_last, is_answered};
 use crate::tests::{Host, holds};
-use commands::ProgramOutput;
+use commands::{ProgramOutput, Streams};
 use line_io::{Sink, WriteFailed};
 use std::fs::Files;
 use std::net::{Net, TcpListener, TcpStream};
@@ -22,6 +22,17 @@ pub(super) enum Caller {
     Asker(&'static str, &'static str),
     /// Sessions one after another.
     Many,
+}
+
+impl Caller {
+    /// How many sessions come.
+    fn sessions(self) -> usize {
+        match self {
+            Caller::Two => 2,
+            Caller::Asker(..) => 1,
+            Caller::Many => 1_000,
+        }
+    }
 }
 
 /// An output that keeps what it is told, and lets a caller come.
@@ -88,7 +99,8 @@ fn address_in(line: &[u8]) -> Option<&str> {
     Some(line.strip_prefix("listening ")?.trim_end())
 }
 
-/// Whether a server that these words ask for ends well, has said where it listens and this at the end, and its caller is content.
+/// Whether a server that these words ask for ends well, has said where it listens and this at the end, its caller is content, and an
+/// audit was given all of the caller's sessions, none of which failed.
 pub(super) fn is_called<R>(rt: &R, words: &[&str], caller: Caller, end: &[u8]) -> bool
 where
     R: Net<Listener = TcpListener, Stream = TcpStream> + Host + Files + Sync,
@@ -101,20 +113,27 @@ where
         is_content: false,
         thread: None,
     };
-    let (status, told, errors) = followed(rt, rt.alloc(), words, typed(b"", false), told);
+    let mut streams = Streams {
+        source: typed(b"", false),
+        sink: told,
+        errors: memory(rt.alloc()),
+    };
+    let (status, sessions, are_well) = audited(rt, rt.alloc(), words, &mut streams);
+    let Streams { sink, errors, .. } = streams;
     let Told {
         text,
         is_content,
         thread,
         ..
-    } = told;
+    } = sink;
     let is_content = match thread {
         Some(thread) => thread.join(rt),
         None => is_content,
     };
     let text = text.as_slice();
     let has_said = text.starts_with(b"listening 127.0.0.1:") && text.ends_with(end);
-    status == 0 && is_content && has_said && errors.is_empty()
+    let is_audited = sessions == caller.sessions() && are_well;
+    status == 0 && is_content && has_said && is_audited && errors.writer.is_empty()
 }
 
 /// What can't be reserved at a server of 8 segments and 1 node.
