@@ -1,21 +1,44 @@
 //! One connection of a site (a server for customers), from its first byte to its last.
-ghost use Rattle.std.specs.Prelude.{◌≤◌, length};
+//!
+//! What passes on it is a session in its desk's history, behind its proxy's header (`specs/Connections.antt`): its socket is read and written
+//! with a tape of each direction, and nowhere else.
+ghost use Rattle.std.specs.Prelude.{◌≡◌, [], IfSome};
+ghost use Rattle.std.specs.Net.Tcp.{stream_raw_fd};
+ghost use Rattle.line_io.specs.Leads.{between};
+ghost use Rattle.tcp_server.specs.Tapes.{AheadOf, HandsOn, Fills, Puts};
+ghost use Rattle.site_office.specs.Sessions.{SeenSiteSession};
+ghost use Rattle.othello_site.specs.Connections.{IsHeaderIn, IsRecognized, IsSiteSessionOn};
 
 use crate::counts::{FULL, HEADER, SILENCE};
-use crate::links::{Incoming, MOST_BYTES, Outgoing, Reading, Received, TalkState};
+use crate::links::{Incoming, Outgoing, Reading, TalkState};
 use crate::shared::Shared;
 use crate::site_environment::SiteEnvironment;
 use crate::telling::{address_text, log_refusal};
 use line_io::{LineFault, TalkEnd};
 use site_book::{Told, Who};
-use site_desk::SiteNaming;
+use site_desk::{SiteNaming, SiteTrace};
 use site_file::Address;
 use site_office::{Connection, serve_connection};
 use site_rules::{Arrival, KnownClient, Port, Recognized, Times, recognize};
-use std::alloc::{AllocError, Global};
+use std::alloc::Global;
 use std::net::TcpStream;
 use std::sync::{Arc, Wait};
 use std::time::{Clock, Duration};
+use tcp_server::{ClosedTape, MOST_AHEAD, TapedReader, TapedWriter};
+
+/// What passed on a connection, and what its session came to. It holds no memory, as the threads that return it are joined by nobody, so
+/// that nothing of it is ever dropped.
+#[derive(Drop)]
+pub(crate) struct SitePassed<J: SiteNaming> {
+    /// What each read gave, in proofs alone.
+    pub(crate) read: ClosedTape,
+    /// What each write took, in proofs alone.
+    pub(crate) written: ClosedTape,
+    /// How the session ended.
+    pub(crate) ended: Result<TalkEnd, LineFault>,
+    /// What the tenant's seat knew of its desk's history when it left; `None` where no tenant came.
+    pub(crate) knew: Option<SiteTrace<J>>,
+}
 
 /// Milliseconds of so many seconds.
 fn millis(seconds: u32) -> u64 {
@@ -29,7 +52,9 @@ fn recognized<J: SiteNaming, R: Wait>(
     port: Port,
     bytes: &[u8],
     peer: Address,
-) -> Recognized {
+) -> Recognized
+    ensures { IsRecognized port bytes.now peer result }
+{
     let register = shared.register(rt);
     recognize(port, bytes, peer, &register.config.directory.keys)
 }
@@ -40,11 +65,14 @@ fn greet<J: SiteNaming, R: Clock + Wait>(
     alloc: Global,
     shared: &Shared<J>,
     port: Port,
-    source: &mut Incoming<'_, J, R>,
+    source: &mut Incoming<'_, R>,
     peer: Address,
-) -> Option<KnownClient> {
-    for _ in 0..MOST_BYTES {
-        match recognized(rt, shared, port, source.ahead.bytes(), peer) {
+) -> Option<KnownClient>
+    ensures kept { HandsOn source.old.reader [] source.new.reader }
+    ensures header { IfSome result (λ known. IsHeaderIn port source.new.reader.ahead peer known.used) }
+{
+    for _ in 0..MOST_AHEAD {
+        match recognized(rt, shared, port, source.reader.bytes(), peer) {
             Recognized::Known(known) => return Some(known),
             Recognized::Foreign => {
                 refuse(rt, alloc, shared, peer, None, HEADER);
@@ -52,15 +80,10 @@ fn greet<J: SiteNaming, R: Clock + Wait>(
             }
             Recognized::Unfinished => {}
         }
-        let mut block = [0; 512];
-        let most = source.ahead.left().min(block.len());
-        let Some(count) = source.read(&mut block[..most]) else {
-            return None;
-        };
-        if count == 0 {
-            return None;
+        match source.read() {
+            Some(count) if count > 0 => {}
+            _ => return None,
         }
-        source.ahead.keep(&block[..count.min(most)]);
     }
     None
 }
@@ -95,76 +118,87 @@ fn times_of<J: SiteNaming, R: Wait>(rt: &R, shared: &Shared<J>) -> (Times, u64) 
     (times, millis(limits.write.max(1)))
 }
 
-/// Both names of a connection: one to read from and one to write to.
-fn names_of(
-    alloc: Global,
-    stream: TcpStream,
-) -> Result<(Arc<TcpStream, Global>, Arc<TcpStream, Global>), AllocError> {
-    let stream = Arc::new(alloc, stream)?;
-    let other = Arc::try_clone(&stream)?;
-    Ok((stream, other))
-}
-
-/// Serves one connection to the site, from its first byte to its last.
+/// Serves one connection to the site, from its first byte to its last. What passed on it is a session in its desk's history, behind its
+/// header. `None` where there was no session: then nothing was written.
 pub(crate) fn serve_client<J: SiteNaming, R: Clock + Wait>(
     rt: &R,
     alloc: Global,
     shared: &Shared<J>,
     stream: TcpStream,
     port: Port,
-) -> Option<()> {
-    let Ok(peer) = stream.peer_addr() else {
+) -> Option<SitePassed<J>>
+    ensures { IfSome result (λ passed. IsSiteSessionOn J.begun port (stream_raw_fd stream) passed.read passed.written passed.ended passed.knew) }
+{
+    let Ok(own) = Arc::new(alloc, stream) else {
         return None;
     };
-    let (times, write) = times_of(rt, shared);
-    let _ = stream.set_nodelay(true);
-    let _ = stream.set_write_timeout(Some(Duration::from_millis(write)));
-    let Ok((incoming, outgoing)) = names_of(alloc, stream) else {
-        return None;
-    };
-    let Ok(own) = Arc::try_clone(&outgoing) else {
+    let Ok(other) = Arc::try_clone(&own) else {
         return None;
     };
     let talk = TalkState::new(shared.now(rt), false);
-    let mut source = Incoming {
-        rt,
-        shared,
-        stream: incoming,
-        talk: &talk,
-        times,
-        ahead: Received::new(),
-        given: 0,
-    };
-    let known = greet(
-        rt,
-        alloc,
-        shared,
-        port,
-        &mut source,
-        Address::of_ip(peer.ip()),
-    )?;
-    source.given = known.used;
-    let mut sink = Outgoing {
-        rt,
-        shared,
-        stream: outgoing,
-        limit: write,
-    };
-    receive(rt, alloc, shared, &talk, &mut source, &mut sink, own, known);
-    Some(())
+    let socket: &TcpStream = &own;
+    converse(&*rt, alloc, shared, &talk, socket, other, port)
 }
 
-/// Takes a connection in whose customer is known, if there is a place for it, and serves it.
+/// Serves the connection of this socket, which has another name too, by which others shut it.
+fn converse<'a, J: SiteNaming, R: Clock + Wait>(
+    rt: &'a R,
+    alloc: Global,
+    shared: &Shared<J>,
+    talk: &'a TalkState,
+    stream: &'a TcpStream,
+    other: Arc<TcpStream, Global>,
+    port: Port,
+) -> Option<SitePassed<J>>
+    ensures { IfSome result (λ passed. IsSiteSessionOn J.begun port (stream_raw_fd stream.now) passed.read passed.written passed.ended passed.knew) }
+{
+    let Ok(peer) = stream.peer_addr() else {
+        return None;
+    };
+    let (times, limit) = times_of(rt, shared);
+    let _ = stream.set_nodelay(true);
+    let _ = stream.set_write_timeout(Some(Duration::from_millis(limit)));
+    let Ok(reader) = TapedReader::of_socket(alloc, stream) else {
+        return None;
+    };
+    let Ok(writer) = TapedWriter::of_socket(alloc, stream) else {
+        return None;
+    };
+    let clock = shared.clock;
+    let mut source = Incoming {
+        rt,
+        clock,
+        talk,
+        times,
+        reader,
+    };
+    let sink = Outgoing {
+        rt,
+        clock,
+        writer,
+        limit,
+        is_late: false,
+    };
+    let peer = Address::of_ip(peer.ip());
+    let known = greet(rt, alloc, shared, port, &mut source, peer)?;
+    source.reader.skip(known.used);
+    receive(rt, alloc, shared, talk, source, sink, other, known)
+}
+
+/// Takes a connection in whose customer is known, if there is a place for it, and serves it. Its source and its sink are reached by their
+/// tapes alone.
 fn receive<J: SiteNaming, R: Clock + Wait>(
     rt: &R,
     alloc: Global,
     shared: &Shared<J>,
     talk: &TalkState,
-    source: &mut Incoming<'_, J, R>,
-    sink: &mut Outgoing<'_, J, R>,
+    mut source: Incoming<'_, R>,
+    mut sink: Outgoing<'_, R>,
     stream: Arc<TcpStream, Global>,
     known: KnownClient,
-) {
+) -> Option<SitePassed<J>>
+    ensures { IfSome result (λ passed. (to : AheadOf) × SeenSiteSession J.begun (between Fills source.entry.reader to) (between Puts sink.entry.writer passed.written) passed.ended passed.knew × (to.tape ≡ passed.read)) }
+{
     let (arrival, hall) = {
         let mut register = shared.register(rt);
         (register.arrive(known.who), register.first_hall(known.who))
@@ -177,7 +211,7 @@ fn receive<J: SiteNaming, R: Clock + Wait>(
         }
         Arrival::Closed => {
             refuse(rt, alloc, shared, known.address, Some(known.who), FULL);
-            return;
+            return None;
         }
     };
     let environment = SiteEnvironment {
@@ -197,7 +231,7 @@ fn receive<J: SiteNaming, R: Clock + Wait>(
     };
     let Some(desk) = shared.desks.get(hall) else {
         environment.leave();
-        return;
+        return None;
     };
     let connection = Connection {
         desks: shared.desks.as_slice(),
@@ -206,18 +240,20 @@ fn receive<J: SiteNaming, R: Clock + Wait>(
         own: known.who,
         grain: shared.grain,
     };
-    let (end, _knew, environment) = serve_connection(rt, source, sink, connection);
+    let (ended, knew, environment) = serve_connection(rt, &mut source, &mut sink, connection);
     environment.leave();
-    tell_end(
-        rt,
-        alloc,
-        shared,
-        &environment,
-        word_of(end, talk.reading.get(), environment.told),
-    );
-    if talk.reading.get() == Reading::Late && !talk.pace.get().welcomed {
+    let reading = talk.reading.get();
+    let word = word_of(ended, reading, environment.told);
+    tell_end(rt, alloc, shared, &environment, word);
+    if reading == Reading::Late && !talk.pace.get().welcomed {
         refuse(rt, alloc, shared, known.address, Some(known.who), SILENCE);
     }
+    Some(SitePassed {
+        read: source.into_tape(),
+        written: sink.into_tape(),
+        ended,
+        knew,
+    })
 }
 
 /// What ended a connection, in a word.

@@ -1,22 +1,23 @@
-//! A site's connections as sources and sinks of bytes, with limits in time.
-ghost use Rattle.std.specs.Prelude.{◌≤◌, length, IfSome};
+//! A site's connections as sources and sinks of bytes, with limits in time and a tape of each direction.
+//!
+//! An [`Incoming`] gives a session just the bytes that came on its socket, in order, and an [`Outgoing`] moves just what it took: their
+//! relations say it of the tapes of all reads and writes (`tcp_server`'s `Fills` and `Puts`).
+ghost use Rattle.std.specs.Prelude.{◌≡◌, ◌≤◌, [], length};
+ghost use Rattle.tcp_server.specs.Tapes.{HandsOn, Fills, Puts};
 
-use crate::shared::Shared;
+use crate::clock::SiteClock;
 use line_io::{LF, ReadFailed, Sink, Source, WriteFailed};
-use site_desk::SiteNaming;
 use site_rules::{Pace, Times, paid_with, pause};
-use std::alloc::Global;
 use std::cell::Cell;
-use std::io::{Error, ErrorKind, Read, Write};
-use std::net::TcpStream;
-use std::sync::Arc;
+use std::io::{Error, ErrorKind};
 use std::thread;
 use std::time::{Clock, Duration};
+use tcp_server::{ClosedTape, TapedReader, TapedWriter};
 
 /// How often a read or a write that a signal interrupts is made again.
 const TRIES: u32 = 65_536;
 
-/// The most bytes that are kept of a connection's beginning: a PROXY header, a command, a request.
+/// The most bytes that are kept of a command or of a request.
 pub(crate) const MOST_BYTES: usize = 4_096;
 
 /// How a connection's reads ended.
@@ -104,41 +105,27 @@ pub(crate) fn is_interrupted(error: &Error) -> bool {
     error.kind() == ErrorKind::Interrupted
 }
 
-/// The bytes of a connection.
+/// The bytes that come on a connection.
 #[derive(Drop)]
-pub(crate) struct Incoming<'a, J: SiteNaming, R> {
+pub(crate) struct Incoming<'a, R> {
     pub(crate) rt: &'a R,
-    pub(crate) shared: &'a Shared<J>,
-    pub(crate) stream: Arc<TcpStream, Global>,
+    pub(crate) clock: SiteClock,
     pub(crate) talk: &'a TalkState,
     pub(crate) times: Times,
-    /// The bytes that were read with the header.
-    pub(crate) ahead: Received,
-    /// How many of them were given.
-    pub(crate) given: usize,
+    pub(crate) reader: TapedReader<'a>,
 }
 
-impl<J: SiteNaming, R: Clock> Incoming<'_, J, R> {
-    /// Reads the next bytes of a connection into a block, and waits for them as long as the connection may be silent.
-    /// None at a failure, and where that time is over.
-    pub(crate) fn read(&mut self, block: &mut [u8]) -> Option<usize>
-        ensures { IfSome result (λ n. n ≤ length block.new) }
+impl<R: Clock> Incoming<'_, R> {
+    /// Reads further bytes of a connection, and waits for them as long as the connection may be silent. Returns how many came: 0 where
+    /// the input has ended. None at a failure, and where that time is over.
+    pub(crate) fn read(&mut self) -> Option<usize>
+        ensures { HandsOn self.old.reader [] self.new.reader }
     {
         for _ in 0..TRIES {
-            let now = self.shared.now(self.rt);
-            let Some(left) = self.talk.pace.get().left(&self.times, now) else {
-                self.talk.reading.set(Reading::Late);
-                return None;
-            };
-            if self
-                .stream
-                .set_read_timeout(Some(Duration::from_millis(left.max(1))))
-                .is_err()
-            {
-                self.talk.reading.set(Reading::Failed);
+            if !self.may_wait() {
                 return None;
             }
-            match (&*self.stream).read(block) {
+            match self.reader.read() {
                 Ok(count) => return Some(count),
                 Err(error) => {
                     if !self.goes_on(error.kind()) {
@@ -148,6 +135,22 @@ impl<J: SiteNaming, R: Clock> Incoming<'_, J, R> {
             }
         }
         None
+    }
+
+    /// Sets how long the next read may wait, by how long the connection may be silent. Where it may be no longer, or that can't be set,
+    /// it is noted why the talk ends.
+    fn may_wait(&self) -> bool {
+        let now = self.clock.now(self.rt);
+        let Some(left) = self.talk.pace.get().left(&self.times, now) else {
+            self.talk.reading.set(Reading::Late);
+            return false;
+        };
+        let limit = Duration::from_millis(left.max(1));
+        if self.reader.set_timeout(limit).is_err() {
+            self.talk.reading.set(Reading::Failed);
+            return false;
+        }
+        true
     }
 
     /// Whether a read that failed by an error of this kind is tried again; else it is noted why the talk ends.
@@ -165,10 +168,32 @@ impl<J: SiteNaming, R: Clock> Incoming<'_, J, R> {
         }
     }
 
+    /// Reads further bytes where all were given, unless the talk is over.
+    fn read_if_empty(&mut self) -> Result<(), ReadFailed>
+        ensures { HandsOn self.old.reader [] self.new.reader }
+    {
+        if !self.reader.bytes().is_empty() {
+            return Ok(());
+        }
+        self.talk.answered(self.clock.now(self.rt));
+        if self.talk.is_over() {
+            return Ok(());
+        }
+        match self.read() {
+            Some(count) => {
+                if count == 0 {
+                    self.talk.reading.set(Reading::Ended);
+                }
+                Ok(())
+            }
+            None => Err(ReadFailed),
+        }
+    }
+
     /// Counts so many lines that came on the connection; where they come too fast the thread sleeps, and holds nothing
     /// meanwhile.
     fn slow_down(&self, lines: u64) {
-        let now = self.shared.micros(self.rt);
+        let now = self.clock.micros(self.rt);
         let paid = paid_with(self.talk.paid.get(), lines, now);
         self.talk.paid.set(paid);
         let wait = pause(paid, now);
@@ -177,72 +202,75 @@ impl<J: SiteNaming, R: Clock> Incoming<'_, J, R> {
         }
     }
 
-    /// Puts the session's first bytes, which came together with the proxy's header, into the block, as many as have
-    /// room.
-    fn take_ahead(&mut self, block: &mut [u8]) -> usize
-        ensures { result ≤ length block.new }
+    /// The tape of what was read.
+    pub(crate) fn into_tape(self) -> ClosedTape
+        ensures { result ≡ self.entry.reader.tape }
     {
-        let bytes = self.ahead.bytes();
-        let from = self.given.min(bytes.len());
-        let count = (bytes.len() - from).min(block.len());
-        block[..count].copy_from_slice(&bytes[from..from + count]);
-        self.given = from + count;
-        count
+        self.reader.into_tape()
     }
 }
 
-impl<J: SiteNaming, R: Clock> Source for Incoming<'_, J, R> {
-    ghost gives = { λ _ _ _. Unit {0} };
+impl<R: Clock> Source for Incoming<'_, R> {
+    ghost gives = { λ from answer to. Fills from.reader answer to.reader };
 
     /// Gives the session the connection's next bytes, as fast as its lines may be answered; 0 where the input has
     /// ended, or the talk is over.
     fn fill(&mut self, block: &mut [u8]) -> Result<usize, ReadFailed> {
-        let ahead = self.take_ahead(block);
-        if ahead > 0 {
-            self.slow_down(self.talk.hear(&block[..ahead]));
-            return Ok(ahead);
-        }
-        self.talk.answered(self.shared.now(self.rt));
-        if self.talk.is_over() {
-            return Ok(0);
-        }
-        match self.read(block) {
-            Some(count) => {
-                if count == 0 {
-                    self.talk.reading.set(Reading::Ended);
-                }
-                self.slow_down(self.talk.hear(&block[..count]));
-                Ok(count)
-            }
-            None => Err(ReadFailed),
-        }
+        self.read_if_empty()?;
+        let count = self.reader.give(block);
+        self.slow_down(self.talk.hear(&block[..count]));
+        Ok(count)
     }
 }
 
 /// What goes to a connection.
 #[derive(Drop)]
-pub(crate) struct Outgoing<'a, J: SiteNaming, R> {
+pub(crate) struct Outgoing<'a, R> {
     pub(crate) rt: &'a R,
-    pub(crate) shared: &'a Shared<J>,
-    pub(crate) stream: Arc<TcpStream, Global>,
+    pub(crate) clock: SiteClock,
+    pub(crate) writer: TapedWriter<'a>,
     /// Milliseconds in which an answer is taken.
     pub(crate) limit: u64,
+    /// Whether a write took that long and only a part of its answer: then the rest isn't written.
+    pub(crate) is_late: bool,
 }
 
-impl<J: SiteNaming, R: Clock> Sink for Outgoing<'_, J, R> {
-    ghost takes = { λ _ _ _. Unit {0} };
+impl<R: Clock> Outgoing<'_, R> {
+    /// Whether it is at least so late, in milliseconds of the site's clock.
+    fn is_past(&self, until: u64) -> bool {
+        until <= self.clock.now(self.rt)
+    }
+
+    /// The tape of what was written.
+    pub(crate) fn into_tape(self) -> ClosedTape
+        ensures { result ≡ self.entry.writer }
+    {
+        self.writer.into_tape()
+    }
+}
+
+impl<R: Clock> Sink for Outgoing<'_, R> {
+    ghost takes = { λ from answer to. Puts from.writer answer to.writer };
 
     /// Writes an answer to the connection; an error where the client doesn't take it in time.
     fn put(&mut self, bytes: &[u8]) -> Result<usize, WriteFailed> {
-        let until = self.shared.now(self.rt).saturating_add(self.limit);
+        if self.is_late {
+            return Err(WriteFailed);
+        }
+        let until = self.clock.now(self.rt).saturating_add(self.limit);
         for _ in 0..TRIES {
-            let put = (&*self.stream).write(bytes);
-            let is_late = until <= self.shared.now(self.rt);
-            match put {
-                // (one that takes a part alone has waited for its whole time, or a signal came: then the rest is put next)
-                Ok(count) if count > 0 && (count == bytes.len() || !is_late) => return Ok(count),
-                Err(error) if is_interrupted(&error) && !is_late => {}
-                _ => return Err(WriteFailed),
+            match self.writer.write(bytes) {
+                Ok(0) => return Err(WriteFailed),
+                Ok(count) => {
+                    // (one that takes a part alone has waited for its whole time, or a signal came: then the rest is put next)
+                    self.is_late = count < bytes.len() && self.is_past(until);
+                    return Ok(count);
+                }
+                Err(error) => {
+                    if !is_interrupted(&error) || self.is_past(until) {
+                        return Err(WriteFailed);
+                    }
+                }
             }
         }
         Err(WriteFailed)
@@ -281,21 +309,6 @@ impl Received {
     /// Notes that so many bytes more came on the connection.
     pub(crate) fn grow(&mut self, count: usize) {
         self.size = self.size.saturating_add(count).min(MOST_BYTES);
-    }
-
-    /// Adds these bytes to those that came on the connection, as many as there is room for.
-    pub(crate) fn keep(&mut self, bytes: &[u8]) {
-        for byte in bytes {
-            if self.size < MOST_BYTES {
-                self.block[self.size] = *byte;
-                self.size += 1;
-            }
-        }
-    }
-
-    /// How many more bytes of the connection there is room for.
-    pub(crate) fn left(&self) -> usize {
-        MOST_BYTES.saturating_sub(self.size)
     }
 }
 

@@ -1,5 +1,9 @@
 //! A site's connections taken, each in a thread of its own.
-use crate::client::serve_client;
+ghost use Rattle.std.specs.Prelude.{IfSome};
+ghost use Rattle.std.specs.Net.Tcp.{stream_raw_fd};
+ghost use Rattle.othello_site.specs.Connections.{IsSiteSessionOn};
+
+use crate::client::{SitePassed, serve_client};
 use crate::counts::{DESCRIPTOR, FULL, THREAD};
 use crate::ending::Why;
 use crate::shared::Shared;
@@ -18,7 +22,8 @@ use tcp_server::tcp_door::Door;
 /// The stack of a session's thread.
 const STACK: usize = 256 << 10;
 
-/// Serves this connection in a thread of its own. Where there are too many, or no thread can be had, it is closed.
+/// Serves this connection in a thread of its own. Where there are too many, or no thread can be had, it is closed. What passes on the
+/// connection is a session in its desk's history (`serve_client`).
 fn start<'s, J: SiteNaming + Send + Sync, E, R>(
     scope: &'s Scope<'s, E>,
     rt: &'s R,
@@ -36,12 +41,16 @@ where
         turn_away(rt, alloc, shared, peer, FULL);
         return;
     }
-    let started = Builder::new()
-        .stack_size(STACK)
-        .spawn_scoped(scope, move || {
-            let _ = serve_client(rt, alloc, shared, stream, port);
+    let started = Builder::new().stack_size(STACK).spawn_scoped(
+        scope,
+        move || -> Option<SitePassed<J>>
+            ensures { IfSome result (λ passed. IsSiteSessionOn J.begun port (stream_raw_fd stream) passed.read passed.written passed.ended passed.knew) }
+        {
+            let passed = serve_client(rt, alloc, shared, stream, port);
             shared.register(rt).go();
-        });
+            passed
+        },
+    );
     if started.is_err() {
         shared.register(rt).go();
         turn_away(rt, alloc, shared, peer, THREAD);

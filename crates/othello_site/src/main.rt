@@ -1,8 +1,9 @@
 //! `othello_site [FILE]`: serves the sessions of a site, each customer within its budget.
 //!
 //! What a session does is the work of `site_office` and the crates below it, whose contracts say it; whose a connection is and what
-//! everybody may have is that of `site_file`; what else is decided that of `site_rules`. Here is what no clause can
-//! say: threads, sockets, the clock, the control socket, the metrics and the log. A [`register::Register`] is what all connections share
+//! everybody may have is that of `site_file`; what else is decided that of `site_rules`. That what passed on a connection's socket is such a
+//! session, behind its proxy's header, the contract of its thread says (`client`, `specs/Connections.antt`). Else here is what no clause can
+//! say: threads, the clock, the control socket, the metrics and the log. A [`register::Register`] is what all connections share
 //! beside the desks, under a lock of its own: the file's words, rates, connections, who can be shut, and the counts. Whoever holds it may
 //! call a desk, and nobody the other way round.
 //!
@@ -19,6 +20,7 @@
 #![tactic(auto)]
 
 mod client;
+mod clock;
 mod control;
 mod counts;
 mod ending;

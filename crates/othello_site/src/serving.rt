@@ -6,6 +6,7 @@
 ghost use Rattle.std.specs.Prelude.{◌≡◌, IfSome};
 ghost use Rattle.site_desk.specs.Stocks.{AreStocked};
 
+use crate::clock::SiteClock;
 use crate::control::{answer_control, serve_control};
 use crate::ending::{Ending, Unheard, Why};
 use crate::listening::take_all;
@@ -30,7 +31,7 @@ use std::net::{Net, SocketAddr, TcpListener, TcpStream};
 use std::os::unix::net::UnixListener;
 use std::sync::{Arc, Mutex, Wait};
 use std::thread::{self, Builder, Scope, Threads};
-use std::time::{Clock, Instant};
+use std::time::Clock;
 use steal_pool::desk::Opened;
 use steal_pool::{OpenGate, Order, PoolConfig, Quiet, run_pool_announced};
 
@@ -178,7 +179,7 @@ fn shared_of<J: SiteNaming, R: Clock + Paths + AllocGlobal>(
     ending: Arc<Ending, Global>,
 ) -> io::Result<Shared<J>> {
     let alloc = rt.alloc();
-    let start = Some(Instant::now(rt)?);
+    let clock = SiteClock::begin(rt)?;
     let grain = config.workers.grain;
     let config = Arc::new(alloc, config)?;
     Ok(Shared {
@@ -186,7 +187,7 @@ fn shared_of<J: SiteNaming, R: Clock + Paths + AllocGlobal>(
         grain,
         lock: Mutex::new(Register::new(alloc, config)),
         log: Log::new(alloc),
-        start,
+        clock,
         path,
         reloads: Mutex::new(()),
         descriptors: rt.descriptors(),

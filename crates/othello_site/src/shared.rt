@@ -1,4 +1,5 @@
 //! What all threads of a site share.
+use crate::clock::SiteClock;
 use crate::ending::Ending;
 use crate::logging::Log;
 use crate::register::Register;
@@ -9,7 +10,7 @@ use std::net::TcpStream;
 use std::os::unix::net::UnixStream;
 use std::sync::atomic::AtomicU64;
 use std::sync::{Arc, Mutex, MutexGuard, Wait};
-use std::time::{Clock, Duration, Instant};
+use std::time::{Clock, Duration};
 
 /// What all threads share.
 #[derive(Drop)]
@@ -22,8 +23,8 @@ pub(crate) struct Shared<J: SiteNaming> {
     pub(crate) lock: Mutex<Register>,
     /// The log.
     pub(crate) log: Log,
-    /// When the site began.
-    pub(crate) start: Option<Instant>,
+    /// The site's clock.
+    pub(crate) clock: SiteClock,
     /// The file; empty where there is none.
     pub(crate) path: String,
     /// Held while the file is read again.
@@ -57,21 +58,13 @@ impl<J: SiteNaming> Shared<J> {
         unreachable!()
     }
 
-    /// How long ago the site began, by its clock.
-    fn age(&self, clock: &impl Clock) -> Duration {
-        match (self.start, Instant::now(clock)) {
-            (Some(start), Ok(now)) => now.duration_since(start),
-            _ => Duration::from_secs(0),
-        }
-    }
-
     /// Microseconds since the site began, by its clock.
     pub(crate) fn micros(&self, clock: &impl Clock) -> u64 {
-        u64::try_from(self.age(clock).as_micros()).unwrap_or(u64::MAX)
+        self.clock.micros(clock)
     }
 
     /// Milliseconds since the site began, by its clock.
     pub(crate) fn now(&self, clock: &impl Clock) -> u64 {
-        u64::try_from(self.age(clock).as_millis()).unwrap_or(u64::MAX)
+        self.clock.now(clock)
     }
 }
