@@ -76,8 +76,8 @@ pub struct Served<L: DeskLedger> {
 /// At Ok so many connections were taken (each for which no thread, descriptor or memory could be had was closed, unserved), and
 /// each tenant has left. At an error the sessions that were begun have ended too, and the desk is closed: `Listener`
 /// where no more connections could be taken, or the listener's address couldn't be had; `OutOfMemory` where there was
-/// no memory for the pool, or no room for what passes on so many connections; `NoThread` where no thread could be had for a worker or for taking the connections, or no
-/// badge for a worker.
+/// no memory for the pool, or no room for what passes on so many connections; `NoThread` where no thread could be had for a
+/// worker or for taking the connections, or no badge for a worker.
 pub fn serve<
     L: DeskLedger + Send + Sync,
     G: Gate + Sync,
@@ -286,8 +286,8 @@ fn serve_and_close<
 
 /// What all sessions of a server are served with.
 ///
-/// What passed on a connection is left under a lock when its session ends, and not with the session's thread: a thread keeps its
-/// stack until it is joined, so a thread that nobody joins before the end would take that of each of 65,535 sessions.
+/// What passed on a connection is left under a lock when its session ends, and not with the session's thread: that may keep its stack
+/// until somebody joins it, and nobody does before the end of up to 65,535 sessions.
 #[derive(Drop)]
 struct SessionHost<'s, L: DeskLedger, R> {
     rt: &'s R,
