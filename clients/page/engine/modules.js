@@ -4,7 +4,7 @@ export const MODULES = {
   "binaryen": "wasm-opt version 108",
   "verdict": "logic=proved functions=15 target=wasm64-unknown-unknown sum=dac8208d650f15bf native=nat,char,string logic-built=trusted libraries-built=trusted statements=trusted incremental=trusted",
   "integrity": {
-    "page64.wasm": "sha256-SS6r+80Rxd7SpQPTq1YEJre7eM+Cs3ghF+EhYtrDjF8=",
-    "page32.wasm": "sha256-k59wfPKOn6QVNfpB9rwRC/XSDxj0zdH7drJtt2v+wxA="
+    "page64.wasm": "sha256-mRbT1MVlKTdHpwBONwV70WD6gWGe9sdXa82tslXvMrY=",
+    "page32.wasm": "sha256-c5WngTL2ec7kPxJjobQ1e0FRdr86JYbaA/8Lf2zCOKQ="
   }
 };

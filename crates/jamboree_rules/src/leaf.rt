@@ -48,6 +48,7 @@ impl LeafAnswer {
     ghost use Rattle.jamboree_rules.specs.Leaves.{leaf_of_answer, score_of_answer, choice_of_answer};
 
     /// Searches a leaf, by [`search_ordered`]. No other function makes an answer. It takes no memory and no lock.
+    #[inline(always)]
     pub fn compute(leaf: Leaf) -> LeafAnswer
         ensures { leaf_of_answer result ≡ leaf }
     {

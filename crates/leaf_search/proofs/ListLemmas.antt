@@ -1,5 +1,5 @@
 -- For the ordered serial search: the list of the choices of a board, made one choice after another.
-use Rattle.leaf_search.proofs.Common.{append-nil, append_assoc, ◌≡◌, ◌<◌, ◌≤◌, ◌+◌, ℕ, suc, length, List, [], ◌∷◌, ◌++◌, map, refl, sym, ◌∙◌, ap, ap₂, subst, arith, Contains, Contains-append_right, length-append, length-map, map-append, choices, Choice, Cell, Ranked, numbered, numbered_choice, IsPermutation, IsPermutation-map, length_permutation, take, drop, refill, take-append_seam, drop-cons, get_or, length-drop, eqb, Bool, false, pos, Square}
+use Rattle.leaf_search.proofs.Common.{append_assoc, ◌≡◌, ◌<◌, ◌≤◌, ◌+◌, ℕ, suc, length, List, [], ◌∷◌, ◌++◌, map, refl, sym, ◌∙◌, ap, ap₂, subst, arith, Contains, Contains-append_right, length-append, length-map, map-append, choices, Choice, Cell, Ranked, numbered, numbered_choice, IsPermutation, IsPermutation-map, length_permutation, take, drop, refill, take-append_seam, drop-cons, get_or, length-drop, eqb, Bool, false, pos, Square}
 use Rattle.leaf_search.proofs.RankingLemmas.{length-numbered, numbered-push}
 
 -- the items are the choices taken so far, numbered
@@ -7,9 +7,6 @@ pub record IsListed (board : List Cell) (items : List Ranked) (left : List Choic
   pub taken : List Choice
   pub split : taken ++ left ≡ choices board
   pub numbers : map numbered_choice items ≡ numbered 0 taken
-
-pub IsListed-start : (board : List Cell) (left : List Choice) → left ≡ choices board → IsListed board [] left
-IsListed-start board left all = record { taken = []; split = all; numbers = refl }
 
 module _ {board : List Cell} {items : List Ranked} {left : List Choice} (s : IsListed board items left) where
   as-many : length items ≡ length s.taken
@@ -33,9 +30,6 @@ module _ {board : List Cell} {items : List Ranked} {left : List Choice} (s : IsL
       numbers = map-append numbered_choice items (r ∷ []) ∙ ap₂ (λ a b. a ++ b ∷ []) s.numbers (ap₂ (λ (k : ℕ) (d : Choice). (k, d)) (place ∙ as-many) choice)
           ∙ sym (numbered-push 0 s.taken c ∙ ap (λ n. numbered 0 s.taken ++ (n, c) ∷ []) (omega arith));
     }
-
-  pub IsListed-end : left ≡ [] → map numbered_choice items ≡ numbered 0 (choices board)
-  IsListed-end none = s.numbers ∙ ap (numbered 0) (sym (append-nil s.taken) ∙ ap (λ l. s.taken ++ l) (sym none) ∙ s.split)
 
 -- after the list was sorted in place
 module _ (board : List Cell) (items old sorted : List Ranked) (is : old ≡ items) (perm : IsPermutation old sorted) where

@@ -177,24 +177,6 @@ pub record IsRanking {X : Type 0} (alpha beta : ℤ) (first : Bool) (v : X → �
   pub greatest : best ≤ℤ pos 128000
   pub chosen : IfSome choice (Contains xs)
 
--- before the first turn
-pub IsRanking-start : {X : Type 0} (alpha beta : ℤ) (first : Bool) (v : X → ℤ) (xs : List X) (all : List (ℕ × X)) (choice : Option X) (place : ℕ) →
-    negsuc 199999 ≤ℤ alpha → alpha <ℤ beta → IfSome choice (Contains xs) → IsRanking alpha beta first v xs all all (negsuc 199999) choice place
-IsRanking-start {X} alpha beta first v xs all choice place low window none = record {
-  taken = [];
-  split = refl;
-  so_far = record {
-    above = All-nil (λ (t : ℕ × X). v t.1 ≤ℤ negsuc 199999);
-    attained = λ (higher : alpha <ℤ negsuc 199999). absurd (omega (arith, ints));
-    earliest = λ _ _. All-nil (λ (t : ℕ × X). t.0 < place → v t.1 <ℤ negsuc 199999);
-  };
-  below = omega (arith, ints);
-  least = omega (arith, ints);
-  real = λ (some : 0 < 0). absurd (omega arith);
-  greatest = omega (arith, ints);
-  chosen = none;
-}
-
 greatest_or-under : {X : Type 0} (v : X → ℤ) (other : ℤ) (xs : List X) (top : ℤ) → 0 < length xs → All (λ c. v c ≤ℤ top) xs → greatest_or other (map v xs) ≤ℤ top
 greatest_or-under v other [] top some all = absurd (omega arith)
 greatest_or-under v other (c ∷ cs) top some all = greatest_or-upper v other c cs top all

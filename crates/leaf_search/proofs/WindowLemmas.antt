@@ -272,13 +272,6 @@ module _ {low high alpha beta score value : ℤ} (test : IsBound low high score 
     exact = λ (higher : alpha <ℤ score) _. absurd (omega (arith, ints));
   }
 
-  pub test-high : beta ≤ℤ score → IsBound alpha beta score value
-  test-high over = record {
-    upper = λ (small : score ≤ℤ alpha). absurd (omega (arith, ints));
-    lower = λ _. test.lower (omega (arith, ints));
-    exact = λ _ (lower : score <ℤ beta). absurd (omega (arith, ints));
-  }
-
 -- the child, by the plies of the choice, the board after it and the window that it was searched with
 module _ {beta floor low high score : ℤ} (d : ℕ) {p : ℕ} {b : List Cell} (board : List Cell) (c : Choice) where
   pub child-of : p ≡ plies c → b ≡ after board c → low ≡ neg_ℤ beta → high ≡ neg_ℤ floor → IsBound low high score (minimax (d - p) b) →

@@ -7,6 +7,7 @@ ghost use Rattle.othello_eval.specs.Values.{IsWithin};
 ghost use Rattle.othello_eval.specs.Minimax.{minimax};
 ghost use Rattle.leaf_search.specs.Bounds.{IsBound};
 
+use super::classes::EDGES;
 use super::window::Window;
 use othello_board::Board;
 use othello_eval::othello_moves::{Mobility, moves};
@@ -97,14 +98,39 @@ pub(crate) fn entered_within(weighed: Weighed, window: Window) -> i32
     value_by(weighed, own, count_moves(board.swap()))
 }
 
-/// The score of a position at depth 0 through a window; `whole` says that it is to be the value outside the window too.
-#[inline(always)]
-pub(crate) fn leaf_score(weighed: Weighed, window: Window, whole: bool) -> i32
-    ensures bound { IsBound window.alpha window.beta result (minimax 0 (cells weighed.board)) }
-    ensures within { IsWithin 128000 result }
-{
-    if whole {
-        return entered(weighed);
+/// By which policy a search goes below its first position. By each it finds a bound; they differ in what is known beyond
+/// the window, and in how many positions are entered.
+pub(crate) trait Policy {
+    /// The squares that are taken after the corners and before the others.
+    const CLASS: u64;
+
+    /// A score of a position at depth 0 through a window.
+    fn leaf_score(weighed: Weighed, window: Window) -> i32
+        ensures bound { IsBound window.alpha window.beta result (minimax 0 (cells weighed.board)) }
+        ensures within { IsWithin 128000 result };
+}
+
+/// The specified search: the choices in the rules' order, and the value of each position at depth 0.
+pub(crate) struct Specified;
+
+impl Policy for Specified {
+    const CLASS: u64 = 0;
+
+    #[inline(always)]
+    fn leaf_score(weighed: Weighed, _window: Window) -> i32 {
+        entered(weighed)
     }
-    entered_within(weighed, window)
+}
+
+/// The fastest: squares of the edges are taken early, and a position at depth 0 is looked at only as far as the window
+/// asks.
+pub(crate) struct Fastest;
+
+impl Policy for Fastest {
+    const CLASS: u64 = EDGES;
+
+    #[inline(always)]
+    fn leaf_score(weighed: Weighed, window: Window) -> i32 {
+        entered_within(weighed, window)
+    }
 }

@@ -7,6 +7,7 @@ ghost use Rattle.othello_eval.specs.Values.{IsWithin};
 ghost use Rattle.othello_eval.specs.Minimax.{minimax, best_choice};
 ghost use Rattle.leaf_search.specs.Bounds.{IsBound};
 
+use super::leaf::Fastest;
 use super::ranking::{Ranked, rank};
 use super::scored::{Counted, Scored};
 use super::tree::{search, search_below};
@@ -22,6 +23,7 @@ const LEAST_ORDERED: u8 = 3;
 
 /// Searches a board through a window, as [`search`] does, but takes the choices of each position in the order of a key,
 /// by which far fewer positions are entered. Takes no memory and refuses nothing.
+#[inline(always)]
 pub fn search_ordered(board: Board, depth: u8, alpha: i32, beta: i32) -> Scored
     requires shallow { depth ≤ DEEPEST }
     requires least { neg_ℤ INF ≤ℤ alpha }
@@ -164,7 +166,7 @@ fn search_ranked(weighed: Weighed, depth: u8, window: Window) -> Counted
     ensures within { IsWithin 128000 result.score }
 {
     if depth < LEAST_ORDERED {
-        return search_below(weighed, depth, window, false);
+        return search_below::<Fastest>(weighed, depth, window);
     }
     best_ranked(weighed, depth, window, false).counted()
 }

@@ -6,8 +6,8 @@ ghost use Rattle.othello_eval.specs.Values.{IsWithin, discs_value, weights};
 ghost use Rattle.othello_eval.specs.Minimax.{minimax, best_choice};
 ghost use Rattle.leaf_search.specs.Bounds.{IsBound};
 
-use super::classes::{Classed, EDGES};
-use super::leaf::{entered, leaf_score};
+use super::classes::Classed;
+use super::leaf::{Policy, Specified, entered};
 use super::scored::{Counted, Scored};
 use super::window::{INF, Window};
 use othello_board::Board;
@@ -68,7 +68,7 @@ fn best_of(weighed: Weighed, depth: u8, window: Window) -> Scored
     while let Some(choice) = left.pop_first() {
         let rest = depth - plies(choice) as u8;
         let seen = window.of_child(best.score);
-        let child = search_below(weighed.after(choice), rest, seen, true);
+        let child = search_below::<Specified>(weighed.after(choice), rest, seen);
         best.take_in(choice, child);
         if best.score >= window.beta {
             return best;
@@ -78,31 +78,30 @@ fn best_of(weighed: Weighed, depth: u8, window: Window) -> Scored
 }
 
 /// Searches one position below the first, and all that has to be entered below it. It is inlined in `score_of`, so that a
-/// leaf costs no call: most positions are leaves, which have none below them. Where `whole` is true the search is the
-/// specified one: choices in the rules' order, and the value of each leaf. Else squares of the edges are taken early, and
-/// a leaf is looked at only as far as the window asks.
+/// leaf costs no call: most positions are leaves, which have none below them. The policy is a type, so that each search has
+/// its own code.
 #[cycle(search)]
 #[inline(always)]
-pub(crate) fn search_below(weighed: Weighed, depth: u8, window: Window, whole: bool) -> Counted
+pub(crate) fn search_below<P: Policy>(weighed: Weighed, depth: u8, window: Window) -> Counted
     ensures bound { IsBound window.alpha window.beta result.score (minimax depth (cells weighed.board)) }
     ensures within { IsWithin 128000 result.score }
 {
     if depth > 0 {
-        return score_of(weighed.board, weighed.discs, depth, window, whole);
+        return score_of::<P>(weighed.board, weighed.discs, depth, window);
     }
-    Counted::entered(leaf_score(weighed, window, whole))
+    Counted::entered(P::leaf_score(weighed, window))
 }
 
 /// The score of a position below the first and how many positions were entered, as `best_of` finds them, without the
 /// choice. The board and the value of its discs are handed on by themselves, in registers.
 #[cycle(search)]
-fn score_of(board: Board, discs: i32, depth: u8, window: Window, whole: bool) -> Counted
+fn score_of<P: Policy>(board: Board, discs: i32, depth: u8, window: Window) -> Counted
     requires weighed { discs ≡ discs_value (cells board) weights }
     requires deep { 0 < depth }
     ensures bound { IsBound window.alpha window.beta result.score (minimax depth (cells board)) }
     ensures within { IsWithin 128000 result.score }
 {
-    let mut left = Classed::new(board, if whole { 0 } else { EDGES });
+    let mut left = Classed::new(board, P::CLASS);
     if left.is_empty() {
         return Counted::entered(final_value(board));
     }
@@ -111,7 +110,7 @@ fn score_of(board: Board, discs: i32, depth: u8, window: Window, whole: bool) ->
     while let Some(choice) = left.pop_first() {
         let below = depth - plies(choice) as u8;
         let seen = window.of_child(best.score);
-        let child = search_below(weighed.after(choice), below, seen, whole);
+        let child = search_below::<P>(weighed.after(choice), below, seen);
         best = best.with(child);
         if best.score >= window.beta {
             return best;

@@ -5,7 +5,7 @@ use Rattle.leaf_search.proofs.WindowLemmas.{child-of, Searched-start, Searched-n
 use Rattle.leaf_search.proofs.tree.+search.Goals as goal
 
 pub score_of-search_below-child-requires : goal.score_of-search_below-child-requires
-score_of-search_below-child-requires t c =
+score_of-search_below-child-requires g t c =
     let here = Searched-next c.loop-choice.invariant c.in-Some.ensures in
     let deep = ap (λ p. c.args.depth - p) c.plies.ensures.value in
     let below = c.args.depth - c.plies.result in
@@ -13,10 +13,10 @@ score_of-search_below-child-requires t c =
     search rules
 
 pub score_of-after-requires : goal.score_of-after-requires
-score_of-after-requires t c = Searched-next c.loop-choice.invariant c.in-Some.ensures
+score_of-after-requires g t c = Searched-next c.loop-choice.invariant c.in-Some.ensures
 
 pub score_of-returns-then-best-window : goal.score_of-returns-then-best-window
-score_of-returns-then-best-window t c =
+score_of-returns-then-best-window g t c =
     let board = cells c.args.board in
     let searching = c.loop-choice.invariant.searching in
     let e = c.search_below-child.ensures in
@@ -29,7 +29,7 @@ score_of-returns-then-best-window t c =
     }
 
 pub score_of-loop-choice-preserved : goal.score_of-loop-choice-preserved
-score_of-loop-choice-preserved t c =
+score_of-loop-choice-preserved g t c =
     let searching = c.loop-choice.invariant.searching in
     let beta_is : c.of_child-seen.result.beta ≡ neg_ℤ (int_max c.args.window.alpha c.loop-choice.best.score) =
     c.of_child-seen.ensures.beta ∙ ap (λ b. neg_ℤ (int_max c.args.window.alpha b)) (omega (arith, ints, searching.least, searching.greatest)) in
@@ -39,7 +39,7 @@ score_of-loop-choice-preserved t c =
     c.with-best.ensures.score (omega (arith, ints))
 
 pub score_of-returns : goal.score_of-returns
-score_of-returns t c =
+score_of-returns g t c =
     let board = cells c.args.board in
     let searching = c.loop-choice.invariant.searching in
     let some = some-rearranged board c.new-left.ensures c.is_empty.ensures c.if-is_empty.false in
@@ -50,20 +50,20 @@ score_of-returns t c =
 
 -- where the game is over
 pub score_of-returns-then-is_empty-clause-bound : goal.score_of-returns-then-is_empty-clause-bound
-score_of-returns-then-is_empty-clause-bound t c =
+score_of-returns-then-is_empty-clause-bound g t c =
     let board = cells c.args.board in
     let score_is : final_value board ≡ c.entered.result.score = omega (arith, ints, ap (λ (s : Counted). s.score) c.entered.ensures, c.final_value.ensures.value) in
     exact-bound _ _ _ _ (minimax-over c.args.depth board (none-rearranged board c.new-left.ensures c.is_empty.ensures c.if-is_empty.true) ∙ score_is)
 
 -- a leaf
 pub search_below-returns-clause-bound : goal.search_below-returns-clause-bound
-search_below-returns-clause-bound t c =
+search_below-returns-clause-bound g t c =
     let none : c.args.depth ≡ 0 = omega arith in
     let score_is : c.leaf_score.result ≡ c.entered.result.score =
     omega (arith, ints, ap (λ (s : Counted). s.score) c.entered.ensures, c.leaf_score.ensures.within.0, c.leaf_score.ensures.within.1) in
     rw (none) (subst (λ s. IsBound c.args.window.alpha c.args.window.beta s (minimax 0 (cells c.args.weighed.board))) score_is c.leaf_score.ensures.bound)
 
 pub score_of-loop-choice-init : goal.score_of-loop-choice-init
-score_of-loop-choice-init t c =
+score_of-loop-choice-init g t c =
     Searched-start c.args.window.alpha c.args.window.beta (choice_value c.args.depth (cells c.args.board)) (choices (cells c.args.board)) _ _ (omega (arith, ints, ap (λ (s : Counted). s.score) c.entered-best.ensures))
     c.args.window.least c.args.window.open c.new-left.ensures

@@ -5,15 +5,15 @@ use Rattle.leaf_search.proofs.WindowLemmas.{Searched}
 use Rattle.leaf_search.proofs.tree.+search.Given as goal
 
 abbrev pub decreases-score_of : goal.decreases-score_of
-decreases-score_of l = 2 * (2 * l.depth + passing (cells l.board))
+decreases-score_of g l = 2 * (2 * l.depth + passing (cells l.board))
 
 abbrev pub decreases-search_below : goal.decreases-search_below
-decreases-search_below l = 2 * (2 * l.depth + passing (cells l.weighed.board)) + 1
+decreases-search_below g l = 2 * (2 * l.depth + passing (cells l.weighed.board)) + 1
 
 abbrev pub invariant-score_of-loop-choice : goal.invariant-score_of-loop-choice
-invariant-score_of-loop-choice l =
+invariant-score_of-loop-choice g l =
     let board = cells l.fn.board in
     Searched l.window.alpha l.window.beta (choice_value l.depth board) (choices board) l.left l.best.score
 
 abbrev pub decreases-score_of-loop-choice : goal.decreases-score_of-loop-choice
-decreases-score_of-loop-choice l = length l.left
+decreases-score_of-loop-choice g l = length l.left
