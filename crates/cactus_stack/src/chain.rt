@@ -34,8 +34,25 @@ fn fresh_segment<A: Allocator>(region: &mut Region<A>, words: &[u64], link: Opti
 }
 
 /// Takes a chain of `count` segments that holds these words, then zeros, and returns the first; None where `count` is
-/// 0.
+/// 0. Most nodes have one segment: no call is made for these.
+#[inline(always)]
 pub fn fresh_chain<A: Allocator>(
+    region: &mut Region<A>,
+    words: &[u64],
+    count: usize,
+) -> Option<SegNo>
+    requires room { length words.now ≤ 16 * count }
+    requires some_free { taken_count region.old + count ≤ segment_count region.old }
+    ensures { IsFreshChain region.old region.new (chain count region.new result) words.now count }
+{
+    if count == 1 {
+        return Some(fresh_segment(region, words, None));
+    }
+    fresh_segments(region, words, count)
+}
+
+/// Takes a chain as [`fresh_chain`] does, from its end to its front.
+fn fresh_segments<A: Allocator>(
     region: &mut Region<A>,
     words: &[u64],
     count: usize,
@@ -47,12 +64,8 @@ pub fn fresh_chain<A: Allocator>(
     if count == 0 {
         return None;
     }
-    // Most nodes have one segment: no call for the rest, which has none.
-    if count == 1 {
-        return Some(fresh_segment(region, words, None));
-    }
     let (front, back) = words.split_at(words.len().min(16));
-    let rest = fresh_chain(region, back, count - 1);
+    let rest = fresh_segments(region, back, count - 1);
     Some(fresh_segment(region, front, rest))
 }
 

@@ -48,6 +48,7 @@ impl<'a> Words<'a> {
 
     /// The word at a place, counted from 0, or None where there is no such place. It follows
     /// a link for each sixteen places before it.
+    #[inline(always)]
     pub fn get(&self, at: usize) -> Option<u64>
         ensures { result ≡ slice_get self.now at }
     {

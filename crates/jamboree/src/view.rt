@@ -135,6 +135,7 @@ pub(crate) fn first_number(number: usize) -> usize
 }
 
 /// The entry of the choice of this number, from 0; `None` where there is none.
+#[inline(always)]
 pub(crate) fn entry(words: &Words, number: usize) -> Option<u64>
     requires { number ≤ 128 }
     ensures { result ≡ slice_get words.now (frame_size + number) }
