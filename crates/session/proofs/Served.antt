@@ -130,8 +130,3 @@ module _ {O : Type 0} (does : O → Call → OfficeReply → O → Type 0) where
           made = subst (λ z. Leads (Called does) z (calls_for y.answered came.replies) o') at (came.made o' left);
           written = answers-written lines y.answered y.texts y.rest (write_result (talk_result r)) (texts_for y.answered came.replies) y.pieces came.are y.taken y.ends;
         }
-
-  -- the office at the end by another name
-  pub Session-office : {S K : Type 0} {gives : S → ReadAnswer → S → Type 0} {takes : K → WriteAnswer → K → Type 0} {s s' : S} {k k' : K} {o o' o'' : O} {r : Result End SessionFault} →
-      o'' ≡ o' → Session (between gives s s') (between takes k k') (between (Called does) o o') r → Session (between gives s s') (between takes k k') (between (Called does) o o'') r
-  Session-office {gives = gives} {takes} {s} {s'} {k} {k'} {o} {r = r} e x = subst (λ z. Session (between gives s s') (between takes k k') (between (Called does) o z) r) (sym e) x

@@ -1,5 +1,5 @@
 -- At a site's desk: after each call the book's grants are still those of the hall's tenants, one to one.
-use Rattle.site_desk.proofs.Common.{◌≡◌, ◌≢◌, ℕ, ◌+◌, ◌<◌, ◌≤◌, length, OnErr, inl, inr, true, false, List, [], ◌∷◌, ◌++◌, Option, Some, None, Result, Ok, Err, refl, ap, sym, ◌∙◌, subst, arith, cases_Bool, is_some, AreRising, ReserveOf, Refusal, StepOf, Admit, AdmitMore, Leave, DidOf, Tenant, admitted_with, is_lower, tenant_of, tenant_in, with_outcome, reservations_in, is_full, is_beyond, AreNumbersGiven, AreNumbersTaken, tenant_in-new, IsTaken, Leaf, LeafAnswer, jamboree, HallOf, IsDecided, IsDone, Amount, Grant, All, Lower, Who, of_one, plus, IsAmountWithin, used, grant_of, grants_without, BookOf, Opens, Raises, Closes, taken, why_no_raise, why_over, BookedOf, IsBooked, IsRaise, IsRaiseTold, IsTurnedAway, TookInHall, is_within_seat, turned_by, BookedSeat, seats_in_book, seats_in_hall, number_of}
+use Rattle.site_desk.proofs.Common.{◌≡◌, ◌≢◌, ℕ, ◌+◌, ◌<◌, ◌≤◌, length, OnErr, inl, inr, true, false, List, [], ◌∷◌, ◌++◌, Option, Some, None, Result, Ok, Err, refl, ap, sym, ◌∙◌, subst, arith, cases_Bool, is_some, AreRising, ReserveOf, Refusal, StepOf, Admit, AdmitMore, Leave, DidOf, Tenant, admitted_with, is_lower, tenant_of, tenant_in, with_outcome, reservations_in, is_full, is_beyond, AreNumbersGiven, tenant_in-new, IsTaken, Leaf, LeafAnswer, jamboree, HallOf, IsDecided, IsDone, Amount, Grant, All, Lower, Who, of_one, plus, IsAmountWithin, used, grant_of, grants_without, BookOf, Opens, Raises, Closes, taken, why_no_raise, why_over, BookedOf, IsBooked, IsRaise, IsRaiseTold, IsTurnedAway, TookInHall, is_within_seat, turned_by, BookedSeat, seats_in_book, seats_in_hall, number_of}
 use Rattle.site_book.specs.declared.refusal.BookRefusal.{BookRefusal}
 use Rattle.sched_rules.specs.declared.refusal.Refusal.TheVariants.{NoJob, OutOfMemory as HallOutOfMemory}
 use Rattle.hall.specs.declared.desk_rules.asked.SeatAsked.{SeatAsked}
@@ -122,17 +122,6 @@ pub booked-cancel : (asked : Option SeatAsked) (noted noted' : NotedOf) (book : 
     → (asked ≢ None → IsDone noted.hall step answer noted'.hall) → OnErr answer (noted' ≡ noted) → IsBooked noted'.hall book
 booked-cancel asked noted noted' book step (Ok done) is within none step_done same = booked-went noted.hall noted'.hall book step is within (step_done (λ e. absurd (cc (none e))))
 booked-cancel asked noted noted' book step (Err refusal) is within none step_done same = subst (λ (n : NotedOf). IsBooked n.hall book) (sym same) is
-
--- nobody
-
-pub booked-new : (hall : HallOf) (book : BookOf) → hall.shared.tenants ≡ [] → book.grants ≡ [] → book.plan.totals.segments ≤ hall.shared.totals.segments → book.plan.totals.nodes ≤ hall.shared.totals.nodes → IsBooked hall book
-booked-new hall book nobody nothing segments nodes = record {
-  seated = ap seats_in_book nothing ∙ sym (ap seats_in_hall nobody);
-  rising = subst (λ es. AreRising number_of (seats_in_hall es)) (sym nobody) tt;
-  given = subst (λ es. AreNumbersTaken hall.shared.newest es) (sym nobody) tt;
-  segments = segments;
-  nodes = nodes;
-}
 
 -- room
 

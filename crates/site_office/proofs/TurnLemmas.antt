@@ -1,5 +1,5 @@
 -- What a call of the office of a site's session is, by what the desk's call has done.
-use Rattle.site_office.proofs.Common.{PlanOf, Who, IsNewSeat, Hello, Welcome, Refused, comer_refusals, live_answer, [], ◌∷◌, Contains, IfErr, MatchResult, map, Left, Tenant, NoTenant, refusal_number, left, tenant_in, core_at, lone_tenant, IsLook, IsTrueTo, Took, LeaveStep, left_in_core, live_in_core, found_or_no_tenant, live_in, seeing, refused-by, ask_of, asks_of, KeepsAsks, AskQuota, AskLive, Leave, Rest, Alive, Gone, OfficeOf, SiteOfficeOf, IsTurnOf, History, length, sum_by, ◌≡◌, ℕ, true, refl, sym, ap, subst, ◌∙◌, inl, inr, arith, Option, Some, None, Result, Ok, Err, is_some, option_map, ReserveOf, Refusal, HallOutOfMemory, HallOf, SeatOf, Call, Reserve, OfficeReply, Reserved, reply_of, seated_after, with_seat, IsTurnAt, reserve-turn, RaiseTurned, ByBook, NumbersOut, NoMemory, IsRaiseTold, SiteSeatOf, SiteTraceOf, at_site, office_of, IsSiteTurn, IsTracedAt, place_of, raise_refusal}
+use Rattle.site_office.proofs.Common.{live_answer, [], ◌∷◌, Contains, IfErr, MatchResult, map, Left, Tenant, NoTenant, refusal_number, left, tenant_in, core_at, lone_tenant, IsLook, IsTrueTo, Took, LeaveStep, left_in_core, live_in_core, found_or_no_tenant, live_in, seeing, refused-by, ask_of, asks_of, KeepsAsks, AskQuota, AskLive, Leave, Rest, Alive, Gone, OfficeOf, SiteOfficeOf, IsTurnOf, History, length, sum_by, ◌≡◌, ℕ, true, refl, sym, ap, subst, ◌∙◌, inl, inr, arith, Option, Some, None, Result, Ok, Err, is_some, option_map, ReserveOf, Refusal, HallOutOfMemory, HallOf, SeatOf, Call, Reserve, OfficeReply, Reserved, reply_of, seated_after, with_seat, IsTurnAt, reserve-turn, RaiseTurned, ByBook, NumbersOut, NoMemory, IsRaiseTold, SiteSeatOf, SiteTraceOf, at_site, office_of, IsSiteTurn, IsTracedAt, place_of, raise_refusal}
 
 -- how a raise is answered
 abbrev pub raised_answer : Result (Unit {0}) RaiseTurned → Result (Unit {0}) Refusal
@@ -104,11 +104,3 @@ left-turn begun at seat knew here trace is own told =
       there = refl;
       came = inl (subst (λ (o : Option SeatOf). IsTurnOf (begun at) o Leave Gone from to × KeepsAsks (asks_of o) Leave Gone []) (sym (seat-was seat here is)) ((trace.known, refl, told.1, subst (λ n. IsTrueTo (begun n) here.seat.tenant trace.known) own told.2, refl), (refl, tt, refl, refl)));
     }
-
--- a new tenant comes
-pub came_in : (begun : ℕ → HallOf) (plan : PlanOf) (at : ℕ) (who : Who) (quota : ReserveOf) (knew : Option SiteTraceOf) (here : SiteSeatOf) → IsNewSeat (begun at) plan at who quota here → IsSiteTurn begun (at_site at None knew) (Hello quota) (Welcome quota) (at_site at (Some here) knew)
-came_in begun plan at who quota knew here new = record { place = refl; knew = refl; there = refl; came = inl (inl (here.seat, refl, new.admitted, new.new, new.unasked, refl), (ap (map ask_of) new.unasked, tt, tt, refl)) }
-
--- it is turned away
-pub refused_in : (begun : ℕ → HallOf) (at : ℕ) (quota : ReserveOf) (knew : Option SiteTraceOf) (refusal : Refusal) → Contains comer_refusals refusal → IsSiteTurn begun (at_site at None knew) (Hello quota) (Refused (refusal_number refusal)) (at_site at None knew)
-refused_in begun at quota knew refusal h = record { place = refl; knew = refl; there = refl; came = inl (inr (refl, refusal_number refusal, refl), (refl, tt, refused-by comer_refusals refusal h, tt)) }
