@@ -24,6 +24,7 @@ mod clock;
 mod control;
 mod counts;
 mod ending;
+mod host;
 mod links;
 mod listening;
 mod logging;

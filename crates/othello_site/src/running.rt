@@ -1,5 +1,6 @@
 //! What the program `othello_site` does with the words of its command line.
 use crate::ending::{Unheard, Why};
+use crate::host::Host;
 use crate::paths::Paths;
 use crate::reloading::lower;
 use crate::serving::serve_config;
@@ -97,7 +98,8 @@ fn asked_by_one(word: &str) -> Asked<'_> {
     }
 }
 
-/// Does what the words ask for, and returns the exit status.
+/// Does what the words ask for, and returns the exit status. (What it needs is spelled out, as `main` can't be proved to call a
+/// function with the bound `Host`.)
 pub(crate) fn run<R>(rt: &R, words: &[String]) -> u8
 where
     R: Net<Listener = TcpListener, Stream = TcpStream>
@@ -227,21 +229,7 @@ fn push_customers(
 }
 
 /// Serves a site that has no file: it listens for this host alone, and everybody is a guest who may take what is free.
-fn alone<R>(rt: &R) -> u8
-where
-    R: Net<Listener = TcpListener, Stream = TcpStream>
-        + Threads
-        + Wait
-        + Clock
-        + Paths
-        + Print
-        + Eprint
-        + AllocGlobal
-        + Copy
-        + Send
-        + Sync
-        + 'static,
-{
+fn alone<R: Host>(rt: &R) -> u8 {
     match SiteConfig::without_file(rt.alloc(), PORT) {
         Ok(Some(config)) => serve(rt, "", config),
         _ => EXIT_FAILED,
@@ -270,21 +258,7 @@ fn fitting<R: Paths + Eprint>(rt: &R, config: SiteConfig) -> Result<SiteConfig, 
 }
 
 /// Serves by a file until it is told why the site ends, and says why.
-fn serve<R>(rt: &R, path: &str, config: SiteConfig) -> u8
-where
-    R: Net<Listener = TcpListener, Stream = TcpStream>
-        + Threads
-        + Wait
-        + Clock
-        + Paths
-        + Print
-        + Eprint
-        + AllocGlobal
-        + Copy
-        + Send
-        + Sync
-        + 'static,
-{
+fn serve<R: Host>(rt: &R, path: &str, config: SiteConfig) -> u8 {
     let config = match fitting(rt, config) {
         Ok(config) => config,
         Err(status) => return status,

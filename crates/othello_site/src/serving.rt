@@ -9,6 +9,7 @@ ghost use Rattle.site_desk.specs.Stocks.{AreStocked};
 use crate::clock::SiteClock;
 use crate::control::{answer_control, serve_control};
 use crate::ending::{Ending, Unheard, Why};
+use crate::host::Host;
 use crate::listening::take_all;
 use crate::logging::Log;
 use crate::paths::Paths;
@@ -198,21 +199,11 @@ fn shared_of<J: SiteNaming, R: Clock + Paths + AllocGlobal>(
 }
 
 /// Listens as a file says, and serves until it is told why the site ends; `None` where a hall's totals are beyond any hall's.
-pub(crate) fn serve_config<R>(rt: &R, path: &str, config: SiteConfig) -> io::Result<Option<Why>>
-where
-    R: Net<Listener = TcpListener, Stream = TcpStream>
-        + Threads
-        + Wait
-        + Clock
-        + Paths
-        + Print
-        + Eprint
-        + AllocGlobal
-        + Copy
-        + Send
-        + Sync
-        + 'static,
-{
+pub(crate) fn serve_config<R: Host>(
+    rt: &R,
+    path: &str,
+    config: SiteConfig,
+) -> io::Result<Option<Why>> {
     let listeners = match listeners_of(rt, &config) {
         Ok(listeners) => listeners,
         Err(fault) => return Ok(Some(Why::Unheard(fault))),
@@ -234,18 +225,7 @@ fn serve_halls<J, R>(
 ) -> io::Result<Option<Why>>
 where
     J: SiteNaming + Send + Sync + 'static,
-    R: Net<Listener = TcpListener, Stream = TcpStream>
-        + Threads
-        + Wait
-        + Clock
-        + Paths
-        + Print
-        + Eprint
-        + AllocGlobal
-        + Copy
-        + Send
-        + Sync
-        + 'static,
+    R: Host,
     requires { AreStocked (record { table = J.table; begun = J.begun; granted = J.granted; plan = J.plan }) 0 stocks.items }
 {
     let workers = workers_of(rt, &config);
@@ -370,18 +350,7 @@ fn start_web<'s, J: SiteNaming + Send + Sync, E, R: Threads + Wait + Clock + All
 }
 
 /// Starts all threads of a site, and waits until it ends.
-fn serve_site<J: SiteNaming + Send + Sync, R>(rt: &R, site: SiteService<J>)
-where
-    R: Net<Listener = TcpListener, Stream = TcpStream>
-        + Threads
-        + Wait
-        + Clock
-        + Paths
-        + Print
-        + Eprint
-        + AllocGlobal
-        + Sync,
-{
+fn serve_site<J: SiteNaming + Send + Sync, R: Host>(rt: &R, site: SiteService<J>) {
     let SiteService {
         shared,
         listeners,
@@ -391,23 +360,12 @@ where
 }
 
 /// Starts all threads of a site, and waits for them.
-fn serve_threads<J: SiteNaming + Send + Sync, R>(
+fn serve_threads<J: SiteNaming + Send + Sync, R: Host>(
     rt: &R,
     shared: &Shared<J>,
     listeners: Listeners,
     workers: u8,
-)
-where
-    R: Net<Listener = TcpListener, Stream = TcpStream>
-        + Threads
-        + Wait
-        + Clock
-        + Paths
-        + Print
-        + Eprint
-        + AllocGlobal
-        + Sync,
-{
+) {
     let Listeners {
         plain,
         proxied,
