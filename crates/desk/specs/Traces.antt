@@ -68,14 +68,14 @@ module _ {S : Type 0} where
       × ((m : ℕ) → made ≤ m → own m log ≡ [])
       × ((by : ℕ) (v : View S) → get_elem? s.views by ≡ some v → Fits keeps sits made log by v)
 
-  -- there is one more step, if one was said
+  -- there is one more step, if it is one
   abbrev pub noted_if : Option S → View S → View S
   noted_if (some step) v = noted step v
   noted_if none v = v
 
-  -- an exchange or a load told the keeper that the pass it holds is true, and noted the step that was said
-  abbrev pub Notes : Move S → Me S (View S) → ℕ → Me S (View S) → Type 0
-  Notes move before found after = (after ≡ (noted_if move.said before.0, before.1)) × IsTrue before.0.all before.0
+  -- a load told the keeper that the pass it holds is true, and noted this step, if it was one
+  abbrev pub Notes : Option S → Me S (View S) → ℕ → Me S (View S) → Type 0
+  Notes step before found after = (after ≡ (noted_if step before.0, before.1)) × IsTrue before.0.all before.0
 
   -- a load made the pass of a new maker
   abbrev pub Begins : Move S → Me S (View S) → ℕ → Me S (View S) → Type 0

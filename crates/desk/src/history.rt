@@ -12,8 +12,8 @@
 //! At run time nothing is stored of it. The facts are held by one word of an `atomic_table` and its passes: the history's,
 //! which knows all entries, and one for each maker. The rule that each step of a pass keeps (`Kept` of `specs/Traces.antt`):
 //! there is one history, what each maker has seen is a beginning of it, and all entries of a maker are those that its trace
-//! knows. The word is touched only while the caller's lock is held, so it orders nothing by itself. A step costs an
-//! uncontended `compare_exchange`, a look a load, and [`Opened::new`] the one allocation.
+//! knows. The word is touched only while the caller's lock is held, so it orders nothing by itself. A step and a look cost four
+//! loads of it, and [`Opened::new`] the one allocation.
 //!
 //! Contracts see of a log and of a token too which history it is, its `id`: they fit where that is one. A type that implements
 //! [`Naming`] names one history: a [`History`] and a [`Trace`] are a log and a token of just that, and always fit.

@@ -1,11 +1,11 @@
 //! The passes by which threads share a desk's history, kept in a table that exists in proofs alone, and what a step
 //! does to them.
 ghost use Rattle.std.specs.Prelude.{◌≡◌, ◌<◌, [], true, false, ℕ};
-ghost use Rattle.desk.specs.Traces.{own, keeper, sitter, holding, bare, given, noted, begun, IsTrue};
+ghost use Rattle.desk.specs.Traces.{own, keeper, sitter, holding, bare, given, noted, noted_if, begun, IsTrue};
 
 use atomic_table::{Join, Play, Seat as Pass, Shared, Split, TableRule};
 use std::collections::LinkedList;
-use std::marker::Brand;
+use std::marker::{Brand, PhantomData};
 
 /// A type that stands for one history.
 pub trait Naming {
@@ -47,13 +47,37 @@ impl<S> TableRule<S, View<S>, ()> for Law {
     ghost first = { λ _. keeper [] 0 };
 }
 
-/// A step of the history's pass by which an entry is noted, or only what it holds is seen to be true.
-struct Noting;
+/// A type that stands for what a step of the history's pass notes.
+trait Noted<S> {
+    ghost use mathlib.Core.Option.{Option};
 
-impl<S> Play<S, View<S>> for Noting {
+    // The maker's step; none where only what the pass holds is seen to be true.
+    ghost step: { Option S };
+}
+
+// So that a call of `note_as` may pass `Brand`. The proof of that call chooses the step that it stands for.
+impl<S> Noted<S> for Brand {
+    ghost use mathlib.Core.Option.{none};
+
+    ghost step = { none };
+}
+
+/// Stands for no step.
+struct Nothing;
+
+impl<S> Noted<S> for Nothing {
+    ghost use mathlib.Core.Option.{none};
+
+    ghost step = { none };
+}
+
+/// A step of the history's pass by which an entry is noted, or only what it holds is seen to be true.
+struct Noting<N>(PhantomData<N>);
+
+impl<S, N: Noted<S>> Play<S, View<S>> for Noting<N> {
     ghost use Rattle.desk.specs.Traces.{Notes};
 
-    ghost then = { Notes };
+    ghost then = { λ _. Notes N.step };
 }
 
 /// A step of the history's pass by which there is a new maker.
@@ -118,7 +142,18 @@ pub(crate) fn note<S>(cells: &Cells<S>, keeps: &mut Pass<S, View<S>>, step: &S)
     ensures keeps { keeps.new.me ≡ (noted step.now keeps.old.me.0, keeps.old.me.1) }
     ensures known { IsTrue keeps.old.me.0.all keeps.old.me.0 }
 {
-    cells.compare_exchange_with::<Noting>(keeps, 0, 0, 0, step);
+    note_as::<S, Brand>(cells, keeps, step);
+}
+
+/// Notes the step that `N` stands for. Nothing is done with the step that is handed on: it is there for a proof to name.
+fn note_as<S, N: Noted<S>>(cells: &Cells<S>, keeps: &mut Pass<S, View<S>>, _step: &S)
+    requires table { (keeps.old.table_id ≡ cells.now.table_id) × (0 < cells.now.table_id.words) }
+    requires keeps { (keeps.old.me.0.keeps ≡ true) × (keeps.old.me.0.sits ≡ true) }
+    ensures table { keeps.new.table_id ≡ keeps.old.table_id }
+    ensures keeps { keeps.new.me ≡ (noted_if N.step keeps.old.me.0, keeps.old.me.1) }
+    ensures known { IsTrue keeps.old.me.0.all keeps.old.me.0 }
+{
+    cells.load::<Noting<N>>(keeps, 0);
 }
 
 /// Tells that what the history's pass holds is true.
@@ -129,7 +164,7 @@ pub(crate) fn look<S>(cells: &Cells<S>, keeps: &mut Pass<S, View<S>>)
     ensures keeps { keeps.new.me ≡ keeps.old.me }
     ensures known { IsTrue keeps.old.me.0.all keeps.old.me.0 }
 {
-    cells.load::<Noting>(keeps, 0);
+    cells.load::<Noting<Nothing>>(keeps, 0);
 }
 
 /// There is one maker (a seat or a badge) more, whose pass the history's pass takes in.
