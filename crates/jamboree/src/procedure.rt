@@ -300,6 +300,16 @@ impl Procedure for Jamboree {
         plan_inlet_of(fitting, own, child).inlet()
     }
 
+    /// The stores of `accept`. Where `fitting` is true the words are known to fit (`AreFitting`), and their form isn't
+    /// checked.
+    #[inline(always)]
+    fn accept_of(&self, fitting: bool, own: &Words, answer: &LeafAnswer) -> Stores {
+        if !fitting {
+            return self.accept(own, answer);
+        }
+        answered(answer)
+    }
+
     ghost compares = { λ procedure. refl };
 
     ghost same_is_equal = { λ procedure. same-value };

@@ -8,6 +8,7 @@ ghost use Rattle.sched_rules.specs.Views.{named, frame_in_core};
 ghost use Rattle.sched_rules.specs.declared.refusal.Refusal.TheVariants.{BadAct, Busy};
 ghost use Rattle.sched_rules.specs.declared.step.StepOf.TheVariants.{Advance as AdvanceStep, Answer as AnswerStep, Inlet as InletStep};
 ghost use Rattle.sched_store.specs.Reads.{sight_of, words_under, frames_in_core, is_busy_among};
+ghost use Rattle.sched_core.specs.Keeping.{IsFitting};
 ghost use Rattle.sched_core.specs.Seeing.{IsSeen, IsRunning, IsReturnedUnder};
 
 use crate::decide::{first_of_four, is_computed_by, is_outside, is_returned, is_run_by, may_act};
@@ -50,18 +51,21 @@ impl<P: Procedure, A: Allocator> Engine<P, A> {
     }
 
     /// What the frame stores of an answer that this worker brings; else the Answer's refusal: NoTenant, NoFrame,
-    /// NotComputing, Mismatch, NoSteps or BadAct.
+    /// NotComputing, Mismatch, NoSteps or BadAct. `fitting` says that all frames are known to fit (the procedure's
+    /// invariant holds of them); the result is the same without.
     pub(crate) fn accepted(
         &self,
         worker: Worker,
         name: FrameId,
         answer: &P::Answer,
+        fitting: bool,
     ) -> Result<Stores, Refusal>
+        requires { fitting ≡ true → IsFitting (P.fits self.now.procedure) (P.rooted self.now.procedure) self.now.store }
         ensures refusal { refusal_in result ≡ shared_refusal (P.functions self.now.procedure) self.now.store (AnswerStep worker name answer.now) }
         ensures stores { IfOk result (λ stores. stores ≡ (P.functions self.now.procedure).accept (words_under self.now.store name) answer.now) }
     {
         let Found { seen, words, .. } = look_in(&self.store, name)?;
-        let stores = self.procedure.accept(&words, answer);
+        let stores = self.procedure.accept_of(fitting, &words, answer);
         first_of_four(
             (
                 !is_computed_by(seen.state, worker.number()),

@@ -11,7 +11,7 @@ ghost use Rattle.sched_rules.specs.Cores.{tenant_in};
 ghost use Rattle.sched_rules.specs.Changes.{on_tenant};
 ghost use Rattle.sched_rules.specs.declared.step.StepOf.TheVariants.{Advance as AdvanceStep, Answer as AnswerStep, Inlet as InletStep};
 ghost use Rattle.sched_store.specs.Reads.{frames_in_core};
-ghost use Rattle.sched_core.specs.Keeping.{IsKeptFitting};
+ghost use Rattle.sched_core.specs.Keeping.{IsFitting, IsKeptFitting};
 ghost use Rattle.sched_core.specs.Seeing.{GoesOn, MayBeTakenIn};
 ghost use Rattle.sched_core.specs.StepResults.{FollowsResult, IsCome, staying_with};
 
@@ -32,11 +32,13 @@ impl<P: Procedure, A: Allocator> Engine<P, A> {
         worker: Worker,
         name: FrameId,
         answer: &P::Answer,
+        fitting: bool,
     ) -> StepAnswer<P>
+        requires { fitting ≡ true → IsFitting (P.fits self.old.procedure) (P.rooted self.old.procedure) self.old.store }
         ensures step_result { FollowsResult (P.functions self.old.procedure) self.old.store (AnswerStep worker name answer.now) result self.new.store }
         ensures procedure { self.new.procedure ≡ self.old.procedure }
     {
-        let stores = self.accepted(worker, name, answer)?;
+        let stores = self.accepted(worker, name, answer, fitting)?;
         self.store.store_all(name, stores.as_slice());
         self.run(worker, name);
         Ok(DidOf::Answered)

@@ -30,7 +30,7 @@ impl<P: Procedure, A: Allocator> Engine<P, A> {
             StepOf::Take(worker, name) => self.take(*worker, *name),
             StepOf::Steal(worker, from, name) => self.steal(*worker, *from, *name),
             StepOf::Advance(worker, name) => self.advance(*worker, *name, fitting),
-            StepOf::Answer(worker, name, answer) => self.answer(*worker, *name, answer),
+            StepOf::Answer(worker, name, answer) => { self.answer(*worker, *name, answer, fitting) }
             StepOf::Inlet(worker, name) => self.inlet(*worker, *name, fitting),
             StepOf::Finish(worker, name) => self.finish(*worker, *name),
             StepOf::Spend(name) => self.spend(*name),
@@ -40,7 +40,7 @@ impl<P: Procedure, A: Allocator> Engine<P, A> {
     }
 
     /// Why a step would be refused now; None where it would be taken, if an admission gets its memory. Nothing
-    /// changes.
+    /// changes. The `false` for Answer: frames aren't assumed to fit, which changes no result.
     pub(crate) fn refusal(&self, step: &Step<P>) -> Option<Refusal>
         ensures { result ≡ shared_refusal (P.functions self.now.procedure) self.now.store step.now }
     {
@@ -53,7 +53,9 @@ impl<P: Procedure, A: Allocator> Engine<P, A> {
             StepOf::Take(worker, name) => self.may_take(*worker, *name).err(),
             StepOf::Steal(worker, from, name) => self.may_steal(*worker, *from, *name).err(),
             StepOf::Advance(worker, name) => self.may_advance(*worker, *name).err(),
-            StepOf::Answer(worker, name, answer) => { self.accepted(*worker, *name, answer).err() }
+            StepOf::Answer(worker, name, answer) => self
+                .accepted(*worker, *name, answer, false)
+                .err(),
             StepOf::Inlet(worker, name) => self.may_inlet(*worker, *name).err(),
             StepOf::Finish(worker, name) => self.may_finish(*worker, *name).err(),
             StepOf::Spend(name) => self.may_spend(*name).err(),

@@ -26,10 +26,9 @@
 //! - `StepOf<A>` and `DidOf<I>` are over a procedure's answers and inputs, so the definitions need no
 //!   procedure, whose five functions are one ghost member. Inputs that a procedure calls the same are equal
 //!   (`same_is_equal`), or an answer to another could be taken.
-//! - `Procedure` has three more methods (`is_fitting_root`, `next_of`, `inlet_of`), with defaults, for speed
-//!   alone: the five test whether words are a frame's, which they always are in a core whose roots fit. Two
-//!   answer as their namesakes and are told whether frames fit (without them a search at grain 4 takes 3 to 10 %
-//!   more instructions); `is_fitting_root` may always say no.
+//! - `Procedure` has four more methods (`is_fitting_root`, `next_of`, `inlet_of`, `accept_of`), with defaults,
+//!   for speed alone: the five test whether words are a frame's, which they always are in a core whose roots
+//!   fit. Three answer as their namesakes and are told whether frames fit; `is_fitting_root` may always say no.
 //! - `lone` refuses a second Admit by OldTenant, as the rule among several tenants does. NoTenant and Lower of
 //!   an AdmitMore are the tenant's own; Full needs all tenants, and is tested where the tenant alone would take
 //!   the step, by sums (`is_beyond`), as a difference would be cut off at 0. The text of `Refusal` is by hand,

@@ -80,6 +80,17 @@ pub trait Procedure {
         self.inlet(own, child)
     }
 
+    /// What `accept` gives. `fitting` says that the frame is known to fit, so that its words need not be
+    /// tested.
+    #[inline(always)]
+    fn accept_of(&self, fitting: bool, own: &Words, answer: &Self::Answer) -> Stores
+        requires { fitting ≡ true → AllFit (fits self.now) (own.now ∷ []) }
+        ensures { result ≡ (functions self.now).accept own.now answer.now }
+    {
+        let _ = fitting;
+        self.accept(own, answer)
+    }
+
     // `same` is the `==` of inputs, by which an Answer's input is compared with the frame's.
     ghost compares: { (p : Self) → (functions p).same ≡ Self.Input.PartialEq.eq };
 

@@ -3,7 +3,13 @@
 use Rattle.frame_table.proofs.TreeLaws.{missing}
 use Rattle.sched_core.proofs.Common.{not, ◌≡◌, arith, err_from_is_err_and, words_under}
 use Rattle.sched_core.proofs.Deciding.{answer-told}
+use Rattle.sched_core.proofs.Fitting.{own-fits}
 use Rattle.sched_core.proofs.engine.Engine.accepted.Goals as goal
+
+pub accept_of-stores-requires : goal.accept_of-stores-requires
+accept_of-stores-requires g c so =
+    let procedure = c.args.self.now.procedure in
+    rw c.in_ok-seen.ensures.words (own-fits (g.P.Procedure.fits procedure) (g.P.Procedure.rooted procedure) (c.requires so) c.in_ok-seen.ensures.frame.2)
 
 pub returns-in_err-seen-clause-refusal : goal.returns-in_err-seen-clause-refusal
 returns-in_err-seen-clause-refusal g c = grind (arith, missing)
