@@ -15,8 +15,14 @@ pub trait Gate {
         false
     }
 
+    /// Whether `inside` and `after` are told which of the pool's computations it is. Where they aren't, the pool doesn't count
+    /// them, which takes a lock that all workers share, and the number is 0. They are told unless a gate says otherwise.
+    fn is_numbered(&self) -> bool {
+        true
+    }
+
     /// Called at the start of a computation, before its search. `number` is that of the computation among those of the
-    /// pool, from 1 on; it doesn't rise beyond 2^64 - 1.
+    /// pool, from 1 on; it doesn't rise beyond 2^64 - 1. It is 0 where `is_numbered` says no.
     fn inside(&self, worker: Worker, number: u64);
 
     /// Called at the end of a computation, after its search, with the same number. Does nothing unless a gate says
@@ -35,6 +41,11 @@ impl Gate for OpenGate {
     /// Says that `before` returns at once, so that a worker may call it while it has the desk locked.
     fn is_brief(&self) -> bool {
         true
+    }
+
+    /// Says that no computation need be counted.
+    fn is_numbered(&self) -> bool {
+        false
     }
 
     /// Does nothing at a computation.

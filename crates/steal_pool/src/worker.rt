@@ -87,7 +87,12 @@ fn work_off<P: Workplace, G: Gate, R: Wait>(
             Holding::Nothing => break,
             Holding::Computing(frame, leaf) => {
                 tasks.cost = cost_of(leaf);
-                computed(worker, tasks.begin(rt), gate, frame, leaf)
+                let number = if gate.is_numbered() {
+                    tasks.begin(rt)
+                } else {
+                    0
+                };
+                computed(worker, number, gate, frame, leaf)
             }
             holding => place.work(rt, badge, tasks, gate, Round { worker, holding }),
         };
