@@ -110,14 +110,22 @@ def minimax(board, player, depth):
     return best
 
 
-def search(board, player, depth, alpha, beta):
-    """The serial window search: its score, which may lie outside the window (fail-soft), and how many positions it entered."""
-    moves = choices(board, player)
+def rank(choice):
+    """Where a choice's class comes: 0 for a corner, 1 for a square of an edge that touches no corner, 2 for any other, and for a pass."""
+    if choice in CORNERS:
+        return 0
+    return 2 if choice == PASS else 2 - (choice % 8 in (2, 3, 4, 5) and choice // 8 in (0, 7) or choice // 8 in (2, 3, 4, 5) and choice % 8 in (0, 7))
+
+
+def search(board, player, depth, alpha, beta, first=True):
+    """The search of a leaf of at most 2 plies: its score, which may lie outside the window (fail-soft), and how many positions it entered. Below
+    the first position it takes corners first, then the squares of the edges that touch no corner, then the others."""
+    moves = choices(board, player) if first else sorted(choices(board, player), key=rank)
     if depth == 0 or not moves:
         return static(board, player), 1
     best, entered = -200000, 1
     for choice in moves:
-        below = search(after(board, player, choice), other(player), depth - plies(choice), -beta, -max(alpha, best))
+        below = search(after(board, player, choice), other(player), depth - plies(choice), -beta, -max(alpha, best), False)
         best, entered = max(best, -below[0]), entered + below[1]
         if best >= beta:
             break

@@ -4,7 +4,7 @@ export const MODULES = {
   "binaryen": "wasm-opt version 108",
   "verdict": "logic=proved functions=15 target=wasm64-unknown-unknown sum=dac8208d650f15bf native=nat,char,string logic-built=trusted libraries-built=trusted statements=trusted incremental=trusted",
   "integrity": {
-    "page64.wasm": "sha256-mRbT1MVlKTdHpwBONwV70WD6gWGe9sdXa82tslXvMrY=",
-    "page32.wasm": "sha256-c5WngTL2ec7kPxJjobQ1e0FRdr86JYbaA/8Lf2zCOKQ="
+    "page64.wasm": "sha256-0ZAZI8WnF4sr/c2Xarcz8qCIsS+YP2yt0eT5ngue53s=",
+    "page32.wasm": "sha256-KrnY5thHC6ovzkJ5xMC1Jxtl2Tm/RQS2rc0uz7FUSrg="
   }
 };

@@ -4,4 +4,3 @@ pub mod WindowLemmas
 pub mod RankingLemmas
 pub mod ListLemmas
 pub mod ClassLemmas
-pub mod LeafLemmas

@@ -13,7 +13,28 @@ use std::marker::Model;
 const CORNERS: u64 = 0x8100_0000_0000_0081;
 
 /// The squares of the edges that touch no corner.
-pub(crate) const EDGES: u64 = 0x3c00_8181_8181_003c;
+const EDGES: u64 = 0x3c00_8181_8181_003c;
+
+/// In which order a search takes the choices below its first position. By each it finds a bound; they differ in how many
+/// positions are entered.
+pub(crate) trait ClassOrder {
+    /// The squares that are taken after the corners and before the others.
+    const CLASS: u64;
+}
+
+/// The specified order, which is the rules'.
+pub(crate) struct Specified;
+
+impl ClassOrder for Specified {
+    const CLASS: u64 = 0;
+}
+
+/// The squares of the edges early, which is faster.
+pub(crate) struct EdgesEarly;
+
+impl ClassOrder for EdgesEarly {
+    const CLASS: u64 = EDGES;
+}
 
 /// The choices of a board that are left: corners, then the squares of a class, then the others, each by rising index; or a pass.
 #[derive(Drop)]

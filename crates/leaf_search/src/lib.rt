@@ -16,8 +16,6 @@
 //! of width one, where most turn out to be no better. Of equal choices the first in the rules' order is still found: at the
 //! first position a choice that comes earlier than the best so far is tested from one below the best score, so that a tie counts.
 //! Below that depth it takes corners first, then the squares of the edges that touch no corner, then the others (`src/classes.rt`).
-//! Of a leaf it counts the moves of one player alone where these show that the value is outside the window, and takes the bound
-//! that they give (`src/leaf.rt`), so that its own scores outside the window may say less.
 //! How much is entered no contract says; a test compares it with kept numbers. Between two choices `IsRanking` of
 //! `proofs/RankingLemmas.antt` holds: as below, but what is known of the choice is that it attains the best score and that none
 //! at an earlier place does; as the list is a rearrangement of the choices, none of them is left out.

@@ -7,10 +7,10 @@ ghost use Rattle.othello_eval.specs.Values.{IsWithin};
 ghost use Rattle.othello_eval.specs.Minimax.{minimax, best_choice};
 ghost use Rattle.leaf_search.specs.Bounds.{IsBound};
 
-use super::leaf::Fastest;
+use super::classes::EdgesEarly;
 use super::ranking::{Ranked, rank};
 use super::scored::{Counted, Scored};
-use super::tree::{search, search_below};
+use super::tree::{search_below, search_by};
 use super::window::{INF, Window};
 use arrayvec::ArrayVec;
 use othello_board::Board;
@@ -34,10 +34,11 @@ pub fn search_ordered(board: Board, depth: u8, alpha: i32, beta: i32) -> Scored
     ensures within { IsWithin 128000 result.score }
     ensures chosen { IfSome result.choice (Contains (choices (cells board))) }
 {
+    let window = Window { alpha, beta };
     if depth < LEAST_ORDERED {
-        return search(board, depth, alpha, beta);
+        return search_by::<EdgesEarly>(board, depth, window);
     }
-    best_ranked(Weighed::of(board), depth, Window { alpha, beta }, true)
+    best_ranked(Weighed::of(board), depth, window, true)
 }
 
 /// Searches a board through the full window, as [`search_full`](super::search_full) does, by [`search_ordered`].
@@ -166,7 +167,7 @@ fn search_ranked(weighed: Weighed, depth: u8, window: Window) -> Counted
     ensures within { IsWithin 128000 result.score }
 {
     if depth < LEAST_ORDERED {
-        return search_below::<Fastest>(weighed, depth, window);
+        return search_below::<EdgesEarly>(weighed, depth, window);
     }
     best_ranked(weighed, depth, window, false).counted()
 }

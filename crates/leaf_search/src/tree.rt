@@ -6,8 +6,8 @@ ghost use Rattle.othello_eval.specs.Values.{IsWithin, discs_value, weights};
 ghost use Rattle.othello_eval.specs.Minimax.{minimax, best_choice};
 ghost use Rattle.leaf_search.specs.Bounds.{IsBound};
 
-use super::classes::Classed;
-use super::leaf::{Policy, Specified, entered};
+use super::classes::{ClassOrder, Classed, Specified};
+use super::leaf::entered;
 use super::scored::{Counted, Scored};
 use super::window::{INF, Window};
 use othello_board::Board;
@@ -32,9 +32,20 @@ pub fn search(board: Board, depth: u8, alpha: i32, beta: i32) -> Scored
     ensures within { IsWithin 128000 result.score }
     ensures chosen { IfSome result.choice (Contains (choices (cells board))) }
 {
+    search_by::<Specified>(board, depth, Window { alpha, beta })
+}
+
+/// Searches a board as [`search`] does, and takes the choices below the first position in this order.
+#[inline(always)]
+pub(crate) fn search_by<O: ClassOrder>(board: Board, depth: u8, window: Window) -> Scored
+    ensures bound { IsBound window.alpha window.beta result.score (minimax depth (cells board)) }
+    ensures choice { window.alpha <ℤ result.score → result.score <ℤ window.beta → result.choice ≡ best_choice depth (cells board) }
+    ensures within { IsWithin 128000 result.score }
+    ensures chosen { IfSome result.choice (Contains (choices (cells board))) }
+{
     let weighed = Weighed::of(board);
     if depth > 0 {
-        return best_of(weighed, depth, Window { alpha, beta });
+        return best_of::<O>(weighed, depth, window);
     }
     Scored::entered(entered(weighed))
 }
@@ -51,9 +62,9 @@ pub fn search_full(board: Board, depth: u8) -> Scored
     search(board, depth, -INF, INF)
 }
 
-/// Searches the positions after the choices of a board in order, to a depth of 1 or more, until one has
+/// Searches the positions after the choices of a board in the rules' order, to a depth of 1 or more, until one has
 /// a score of at least beta, and says which choice was best.
-fn best_of(weighed: Weighed, depth: u8, window: Window) -> Scored
+fn best_of<O: ClassOrder>(weighed: Weighed, depth: u8, window: Window) -> Scored
     requires { 0 < depth }
     ensures bound { IsBound window.alpha window.beta result.score (minimax depth (cells weighed.board)) }
     ensures choice { window.alpha <ℤ result.score → result.score <ℤ window.beta → result.choice ≡ best_choice depth (cells weighed.board) }
@@ -68,7 +79,7 @@ fn best_of(weighed: Weighed, depth: u8, window: Window) -> Scored
     while let Some(choice) = left.pop_first() {
         let rest = depth - plies(choice) as u8;
         let seen = window.of_child(best.score);
-        let child = search_below::<Specified>(weighed.after(choice), rest, seen);
+        let child = search_below::<O>(weighed.after(choice), rest, seen);
         best.take_in(choice, child);
         if best.score >= window.beta {
             return best;
@@ -78,30 +89,30 @@ fn best_of(weighed: Weighed, depth: u8, window: Window) -> Scored
 }
 
 /// Searches one position below the first, and all that has to be entered below it. It is inlined in `score_of`, so that a
-/// leaf costs no call: most positions are leaves, which have none below them. The policy is a type, so that each search has
+/// leaf costs no call: most positions are leaves, which have none below them. The order is a type, so that each search has
 /// its own code.
 #[cycle(search)]
 #[inline(always)]
-pub(crate) fn search_below<P: Policy>(weighed: Weighed, depth: u8, window: Window) -> Counted
+pub(crate) fn search_below<O: ClassOrder>(weighed: Weighed, depth: u8, window: Window) -> Counted
     ensures bound { IsBound window.alpha window.beta result.score (minimax depth (cells weighed.board)) }
     ensures within { IsWithin 128000 result.score }
 {
     if depth > 0 {
-        return score_of::<P>(weighed.board, weighed.discs, depth, window);
+        return score_of::<O>(weighed.board, weighed.discs, depth, window);
     }
-    Counted::entered(P::leaf_score(weighed, window))
+    Counted::entered(entered(weighed))
 }
 
 /// The score of a position below the first and how many positions were entered, as `best_of` finds them, without the
 /// choice. The board and the value of its discs are handed on by themselves, in registers.
 #[cycle(search)]
-fn score_of<P: Policy>(board: Board, discs: i32, depth: u8, window: Window) -> Counted
+fn score_of<O: ClassOrder>(board: Board, discs: i32, depth: u8, window: Window) -> Counted
     requires weighed { discs ≡ discs_value (cells board) weights }
     requires deep { 0 < depth }
     ensures bound { IsBound window.alpha window.beta result.score (minimax depth (cells board)) }
     ensures within { IsWithin 128000 result.score }
 {
-    let mut left = Classed::new(board, P::CLASS);
+    let mut left = Classed::new(board, O::CLASS);
     if left.is_empty() {
         return Counted::entered(final_value(board));
     }
@@ -110,7 +121,7 @@ fn score_of<P: Policy>(board: Board, discs: i32, depth: u8, window: Window) -> C
     while let Some(choice) = left.pop_first() {
         let below = depth - plies(choice) as u8;
         let seen = window.of_child(best.score);
-        let child = search_below::<P>(weighed.after(choice), below, seen);
+        let child = search_below::<O>(weighed.after(choice), below, seen);
         best = best.with(child);
         if best.score >= window.beta {
             return best;

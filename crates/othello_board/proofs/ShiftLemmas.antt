@@ -62,7 +62,7 @@ bit_at-right x k t =
     ∙ bit_at_cat_high (x / 2 ^ k) k (x % 2 ^ k) (t + k) (mod_below x (2 ^ k) (pow_pos k)) (omega arith)
     ∙ ap (bit_at (x / 2 ^ k)) back)
 
-bit_at-left : (x k t : ℕ) → t < 64 → bit_at (x * 2 ^ k % 2 ^ 64) t ≡ bit_at (x * 2 ^ k + 0) t
+pub bit_at-left : (x k t : ℕ) → t < 64 → bit_at (x * 2 ^ k % 2 ^ 64) t ≡ bit_at (x * 2 ^ k + 0) t
 bit_at-left x k t below =
     let y = x * 2 ^ k in
     sym (ap (λ n. bit_at n t) (omega arith ∙ sym (div-add-mod' y (2 ^ 64)))

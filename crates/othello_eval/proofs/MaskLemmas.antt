@@ -1,5 +1,5 @@
 -- The evaluation of an Othello board: the weights of discs, counted under one word of squares for each weight.
-use Rattle.othello_eval.proofs.Common.{leb, leb-true, ◌≡◌, ℕ, zero, suc, ◌+◌, ◌^◌, ◌<◌, ◌≤◌, ◌*◌, Bool, ◌&&◌, cond, eqb, List, [], ◌∷◌, map, length, min, bit_and, ℤ, pos, negsuc, ◌+ℤ◌, ◌-ℤ◌, ◌*ℤ◌, neg_ℤ, refl, sym, ap, ◌∙◌, arith, to_z, of_z, w32, ◌≤ℤ◌, drop, get_or, ◌/◌, true, take, ◌-◌, ap₂, count_ones, unsigned_abs, FitsSigned, bit_at, range_with_len, at_drop_more, at_drop_all, ints, unsigned_abs-mul, and_le_l, mul-le, and_le_r, bit_at_and, bit_at-lt, bit_at-zero, bit_at_ones, pred_ℤ, -ℤ_one, *ℤ_comm, pred_ℤ-*ℤ, *ℤ-zero, zero-*ℤ, common_steps, Empty, Own, Opp, squares, cell_of, cells_of, apart, bit-cases, count_in, ones-by-bits, weights, disc_value, discs_value, IsWithin, disc_difference, row_value, kind_of, eqb-true, Cell, all_below, holds-below, ROW_VALUES, bit_at-right}
+use Rattle.othello_eval.proofs.Common.{leb, leb-true, ◌≡◌, ℕ, zero, suc, ◌+◌, ◌^◌, ◌<◌, ◌≤◌, ◌*◌, Bool, ◌&&◌, cond, eqb, List, [], ◌∷◌, map, length, min, bit_and, ℤ, pos, negsuc, ◌+ℤ◌, ◌-ℤ◌, ◌*ℤ◌, neg_ℤ, refl, sym, ap, ◌∙◌, arith, to_z, of_z, w32, ◌≤ℤ◌, drop, get_or, ◌/◌, true, take, ap₂, count_ones, unsigned_abs, FitsSigned, bit_at, range_with_len, at_drop_more, at_drop_all, ints, unsigned_abs-mul, and_le_l, mul-le, and_le_r, bit_at_and, bit_at-lt, bit_at-zero, bit_at_ones, pred_ℤ, -ℤ_one, *ℤ_comm, pred_ℤ-*ℤ, *ℤ-zero, zero-*ℤ, common_steps, Empty, Own, Opp, squares, cell_of, cells_of, apart, bit-cases, count_in, ones-by-bits, weights, disc_value, discs_value, IsWithin, disc_difference, row_value, kind_of, eqb-true, Cell, all_below, holds-below, ROW_VALUES, bit_at-right}
 use Rattle.othello_eval.proofs.ValueLemmas.{discs_value-within, abs_sum}
 
 -- the sum of these differences, each at its weight

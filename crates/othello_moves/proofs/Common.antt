@@ -12,14 +12,14 @@ pub use Rattle.std.proofs.lemmas.List.Elements.{All-cons, All-contains, All-filt
 pub use Rattle.std.proofs.lemmas.List.Sums.{count_by-le-length, length-filter}
 pub use Rattle.std.proofs.lemmas.Nat.{and_le_l, and_le_r, le_or_l, le_or_r, mod_below, or_comm, or_lt, shr_le, zero_from_ones}
 pub use Rattle.std.proofs.lemmas.Nat.Bits.{bit_at-lt, bit_at-suc, bit_at-trailing_zeros, bit_at_above, bit_at_and, bit_at_clear_other, bit_at_clear_same}
-pub use Rattle.std.proofs.lemmas.Nat.Bits.{bit_at_lowest, bit_at_not, bit_at_ones, bit_at_or, same_from_bits}
+pub use Rattle.std.proofs.lemmas.Nat.Bits.{bit_at_cat_high, bit_at_lowest, bit_at_not, bit_at_ones, bit_at_or, same_from_bits}
 pub use Rattle.std.specs.Int.{bit_at, bit_not, trailing_zeros}
 pub use Rattle.std.specs.List.{flat_map, list_all, range_with_len}
 pub use lib.Count.{ones-le, ones_step}
 pub use mir.Val.{bool_byte}
 pub use Rattle.othello_board.proofs.CellLemmas.{apart, bit_at-bits_of, bit-cases, cell_at-cells_of, exchanged-cells_of, length-cells_of}
 pub use Rattle.othello_board.proofs.ShiftLemmas.{all_below, beside-edge, beside-next, bit_there, holds-below, opposite, slid-down, slid_from, slid-up}
-pub use Rattle.othello_board.proofs.ShiftLemmas.{step-back}
+pub use Rattle.othello_board.proofs.ShiftLemmas.{bit_at-left, bit_at-right, step-back}
 pub use Rattle.othello_board.specs.Rules.{cell_at, directions, exchanged, flips, is_among, is_empty_cell, is_legal, is_nil, is_opp_cell, is_own_cell, led_by}
 pub use Rattle.othello_board.specs.Rules.{outflanked, run, step}
 unfoldable pub use Rattle.othello_board.specs.Rules.{squares, squares_beside}

@@ -1,5 +1,6 @@
 -- The words in the lanes of a vector, and the legal squares of an Othello board that they make.
-use Rattle.othello_moves.proofs.Common.{◌≡◌, ℕ, ◌-◌, ◌*◌, ◌^◌, ◌<◌, not, filter, bit_and, bit_or, refl, ap, ap₂, ◌∙◌, arith, bit_at, or_lt, and_le_l, and_le_r, mod_below, shr_le, or_comm, bit_at_and, bit_at_or, bit_at_ones, same_from_bits, Direction, North, NorthEast, East, SouthEast, South, SouthWest, West, NorthWest, run, is_legal, squares, is_nil, cells_of, bits_of, opposite, slid_from, bit_there, slid-up, slid-down, raised, lowered, reached}
+use Rattle.othello_moves.proofs.Common.{◌≡◌, ℕ, ◌+◌, ◌-◌, ◌*◌, ◌^◌, ◌<◌, not, filter, bit_and, bit_or, inl, inr, refl, ap, ap₂, ◌∙◌, arith, cases_lt, bit_at, bit_at-left, bit_at-right, bit_at_above, bit_at_cat_high, or_lt, and_le_l, and_le_r, mod_below, shr_le, or_comm, bit_at_and, bit_at_or, bit_at_ones, same_from_bits, Direction, North, NorthEast, East, SouthEast, South, SouthWest, West, NorthWest, run, is_legal, squares, is_nil, cells_of, bits_of, opposite, slid_from, bit_there, slid-up, slid-down, raised, lowered, reached}
+use Rattle.std.proofs.Common.{pow_pos}
 use Rattle.othello_moves.proofs.LeadLemmas.{bit_of, inside, inside-bit, middle-bit, paired, paired-bit, led, led-one, led-more, led-two-more, start-bit, starts-bit, legal-bit, word-of-passing}
 
 -- what a lane reaches is where a run begins
@@ -35,6 +36,19 @@ raised-fits k x h = mod_below (x * 2 ^ k) (2 ^ 64) (omega arith)
 
 lowered-fits : (k x : ℕ) → x < 2 ^ 64 → lowered k x < 2 ^ 64
 lowered-fits k x h = omega (arith, shr_le x k)
+
+-- the pairs of a shift to the lower squares are those of a shift to the greater ones, shifted
+raised-bit : (k o i : ℕ) → i + k < 64 → bit_at (raised k o) (i + k) ≡ bit_at o i
+raised-bit k o i below =
+    bit_at-left o k (i + k) below ∙ bit_at_cat_high o k 0 (i + k) (pow_pos k) (omega arith) ∙ ap (bit_at o) (omega arith)
+
+pub pairs_lowered : (k o : ℕ) → o < 2 ^ 64 → lowered k (bit_and o (raised k o)) ≡ bit_and o (lowered k o)
+pairs_lowered k o fits =
+    same_from_bits _ _ (λ i. rw (bit_at-right (bit_and o (raised k o)) k i, bit_at_and o (raised k o) (i + k), bit_at_and o (lowered k o) i, bit_at-right o k i)
+    (elim (cases_lt (i + k) 64) [
+      | inl below ↦ rw (raised-bit k o i below) (omega arith)
+      | inr over ↦ rw (bit_at_above o 64 (i + k) fits over) (omega arith)
+    ]))
 
 -- the opposing discs that may stand inside a run: all, or those of columns b to g
 abbrev all_discs : ℕ → ℕ

@@ -47,8 +47,10 @@ pub(crate) fn raise(discs: Four, others: Four, inner: Four, steps: Four) -> u64x
     six << step
 }
 
-/// What is reached by shifts towards the lower squares.
+/// What is reached by shifts towards the lower squares. Pairs of squares are found as `raise` finds them, so that both together
+/// look for them once.
 #[inline(always)]
+#[tactic(auto, using(crate::proofs::LaneLemmas::pairs_lowered))]
 pub(crate) fn lower(discs: Four, others: Four, inner: Four, steps: Four) -> u64x4
     requires first { steps.first < 64 }
     requires second { steps.second < 64 }
@@ -61,7 +63,7 @@ pub(crate) fn lower(discs: Four, others: Four, inner: Four, steps: Four) -> u64x
 {
     let step = steps.lanes();
     let over = others.lanes() & inner.lanes();
-    let pairs = over & over >> step;
+    let pairs = (over & over << step) >> step;
     let one = over & discs.lanes() >> step;
     let two = one | over & one >> step;
     let four = two | pairs & two >> step >> step;

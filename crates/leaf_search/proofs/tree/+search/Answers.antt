@@ -1,6 +1,6 @@
 -- The serial search (`tree::search`): the scores of a board and of the choices below it are bounds of their minimax
 -- values.
-use Rattle.leaf_search.proofs.Common.{rules, ◌≡◌, neg_ℤ, ◌-◌, ◌∙◌, ap, arith, int_max, ints, clamps, subst, IsBound, cells, goes_down, final_value, choices, choice_value, minimax, Counted, minimax-deeper, minimax-over}
+use Rattle.leaf_search.proofs.Common.{rules, ◌≡◌, neg_ℤ, ◌-◌, sym, ◌∙◌, ap, arith, int_max, ints, clamps, cells, goes_down, final_value, choices, choice_value, minimax, Counted, minimax-deeper, minimax-over}
 use Rattle.leaf_search.proofs.WindowLemmas.{child-of, Searched-start, Searched-next, Searched-turn, Searched-cut, Searched-bound, Searched-real, exact-bound, some-rearranged, none-rearranged}
 use Rattle.leaf_search.proofs.tree.+search.Goals as goal
 
@@ -59,9 +59,9 @@ score_of-returns-then-is_empty-clause-bound g t c =
 pub search_below-returns-clause-bound : goal.search_below-returns-clause-bound
 search_below-returns-clause-bound g t c =
     let none : c.args.depth ≡ 0 = omega arith in
-    let score_is : c.leaf_score.result ≡ c.entered.result.score =
-    omega (arith, ints, ap (λ (s : Counted). s.score) c.entered.ensures, c.leaf_score.ensures.within.0, c.leaf_score.ensures.within.1) in
-    rw (none) (subst (λ s. IsBound c.args.window.alpha c.args.window.beta s (minimax 0 (cells c.args.weighed.board))) score_is c.leaf_score.ensures.bound)
+    let score_is : c.entered.result ≡ c.entered-2.result.score =
+    omega (arith, ints, ap (λ (s : Counted). s.score) c.entered-2.ensures, c.entered.ensures.within.0, c.entered.ensures.within.1) in
+    exact-bound _ _ _ _ (ap (λ d. minimax d (cells c.args.weighed.board)) none ∙ sym c.entered.ensures.value ∙ score_is)
 
 pub score_of-loop-choice-init : goal.score_of-loop-choice-init
 score_of-loop-choice-init g t c =

@@ -1,32 +1,33 @@
 -- The serial search of a root (`tree::best_of`): its score bounds the value, and its choice is the first best.
 use Rattle.leaf_search.proofs.Common.{◌≡◌, neg_ℤ, sym, ◌∙◌, ap, arith, int_max, ints, clamps, cells, final_value, Scored, minimax-deeper, best_choice-deeper, minimax-over, best_choice-over}
 use Rattle.leaf_search.proofs.WindowLemmas.{IsTakenIn, greater, still-chosen, child-of, IsSearching-turn, IsSearching-cut, IsSearching-next, IsSearching-real, IsSearching-bound, IsSearching-best, exact-bound, some-left, none-left}
+use Rattle.leaf_search.proofs.tree.best_of.Given.{Over}
 use Rattle.leaf_search.proofs.tree.best_of.Goals as goal
 
 pub after-requires : goal.after-requires
-after-requires c = IsSearching-next c.loop-choice.invariant c.in-Some.ensures.cases
+after-requires g c = IsSearching-next c.loop-choice.invariant c.in-Some.ensures.cases
 
 -- the child's score is taken in where the search ends
-taken-in : (c : goal.Then-best-window) → IsTakenIn c.loop-choice.best.score c.search_below-child.result.score c.loop-choice.best.choice c.in-Some.choice c.take_in.new.self.score c.take_in.new.self.choice
-taken-in c = record { better = c.take_in.ensures.better; kept = c.take_in.ensures.kept }
+taken-in : (g : Over) (c : goal.Then-best-window g) → IsTakenIn c.loop-choice.best.score c.search_below-child.result.score c.loop-choice.best.choice c.in-Some.choice c.take_in.new.self.score c.take_in.new.self.choice
+taken-in g c = record { better = c.take_in.ensures.better; kept = c.take_in.ensures.kept }
 
 pub returns-then-best-window : goal.returns-then-best-window
-returns-then-best-window c =
+returns-then-best-window g c =
     let board = cells c.args.weighed.board in
     let s = c.loop-choice.invariant in
     let e = c.search_below-child.ensures in
     let child = child-of c.args.depth board c.in-Some.choice c.plies.ensures.value c.after.ensures c.of_child-seen.ensures.alpha c.of_child-seen.ensures.beta e.bound e.within in
-    let score = greater (taken-in c) in
+    let score = greater (taken-in g c) in
     record {
       bound = rw (minimax-deeper c.args.depth board c.requires)
           (IsSearching-cut s c.in-Some.ensures.cases (final_value board) c.args.window.open child score (omega (arith, ints)));
       choice = λ higher lower. absurd (omega (arith, ints));
       within = (omega (arith, ints, clamps, e.within.1), omega (arith, ints, clamps, e.within.0, s.greatest));
-      chosen = still-chosen (taken-in c) _ s.chosen (IsSearching-next s c.in-Some.ensures.cases);
+      chosen = still-chosen (taken-in g c) _ s.chosen (IsSearching-next s c.in-Some.ensures.cases);
     }
 
 pub loop-choice-preserved : goal.loop-choice-preserved
-loop-choice-preserved c =
+loop-choice-preserved g c =
     let beta_is : c.of_child-seen.result.beta ≡ neg_ℤ (int_max c.args.window.alpha c.loop-choice.best.score) =
     c.of_child-seen.ensures.beta ∙ ap (λ b. neg_ℤ (int_max c.args.window.alpha b)) (omega (arith, ints, c.loop-choice.invariant.least, c.loop-choice.invariant.greatest)) in
     IsSearching-turn c.loop-choice.invariant c.in-Some.ensures.cases
@@ -35,7 +36,7 @@ loop-choice-preserved c =
     (record { better = c.take_in.ensures.better; kept = c.take_in.ensures.kept }) (omega (arith, ints))
 
 pub returns : goal.returns
-returns c =
+returns g c =
     let board = cells c.args.weighed.board in
     let s = c.loop-choice.invariant in
     let end = c.in_default.ensures.cases in
@@ -50,13 +51,13 @@ returns c =
 
 -- where the game is over
 pub returns-then-is_empty-clause-bound : goal.returns-then-is_empty-clause-bound
-returns-then-is_empty-clause-bound c =
+returns-then-is_empty-clause-bound g c =
     let board = cells c.args.weighed.board in
     let score_is : final_value board ≡ c.entered.result.score = omega (arith, ints, ap (λ (s : Scored). s.score) c.entered.ensures, c.final_value.ensures.value) in
     exact-bound _ _ _ _ (minimax-over c.args.depth board (none-left board c.new-left.ensures c.is_empty.ensures c.if-is_empty.true) ∙ score_is)
 
 pub returns-then-is_empty-clause-choice : goal.returns-then-is_empty-clause-choice
-returns-then-is_empty-clause-choice c higher lower =
+returns-then-is_empty-clause-choice g c higher lower =
     let board = cells c.args.weighed.board in
     let over = none-left board c.new-left.ensures c.is_empty.ensures c.if-is_empty.true in
     ap (λ (s : Scored). s.choice) c.entered.ensures ∙ sym (best_choice-over c.args.depth board over)

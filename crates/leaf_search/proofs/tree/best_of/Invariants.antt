@@ -5,9 +5,9 @@ use Rattle.leaf_search.proofs.WindowLemmas.{IsSearching}
 use Rattle.leaf_search.proofs.tree.best_of.Given as goal
 
 abbrev pub invariant-loop-choice : goal.invariant-loop-choice
-invariant-loop-choice l =
+invariant-loop-choice g l =
     let board = cells l.weighed.board in
     IsSearching l.window.alpha l.window.beta (choice_value l.depth board) (choices board) l.left l.best.score l.best.choice
 
 abbrev pub decreases-loop-choice : goal.decreases-loop-choice
-decreases-loop-choice l = length l.left
+decreases-loop-choice g l = length l.left
