@@ -111,6 +111,8 @@ def figures(files):
         "rows": int((TOP / "crates/transcripts/stdout").read_text().split()[0]),
     }
     found["lines:src"] = lines_of(files, r"crates/\w+/src/.*\.rt") - found["lines:tests"]
+    spent = re.search(r"^whole (\d+) processor minutes .*?([\d.]+) by the clock, (\d+) processors$", (HERE / "cost.txt").read_text(), re.M)
+    found |= {"gate:processor": int(spent[1]), "gate:clock": round(float(spent[2])), "gate:processors": int(spent[3])}
     reached = set()
     for page, _, _, definitions, lines, _ in pages.counts:
         found[f"definitions:{page}"] = definitions
@@ -206,6 +208,11 @@ def depth_table():
     return (HERE / "depths.txt").read_text()
 
 
+def cost_table():
+    """What `./gate` cost, crate by crate, as tools/gate_cost.py wrote it last into cost.txt beside this script."""
+    return "```text\n" + (HERE / "cost.txt").read_text() + "```\n"
+
+
 def excerpt(page, names):
     """The call of a page of promises, with these clauses alone: what is left out is `..`."""
     return chosen(re.search(r"```rust\n(.*?)```", (PROMISES / f"{page}.md").read_text(), re.S)[1], names)
@@ -223,7 +230,7 @@ def chosen(text, names):
     return "```text\n" + head + "".join(clause for at, clause in enumerate(kept) if clause != "    ..\n" or kept[at - 1 : at] != [clause]) + "```\n"
 
 
-LISTS = {"bodies": bodies.table, "map": crate_map, "crates": crate_table, "solve": solve_transcript, "session": session_transcript, "errors": error_table, "depths": depth_table, "excerpt": excerpt, "contract": contract}
+LISTS = {"bodies": bodies.table, "map": crate_map, "crates": crate_table, "solve": solve_transcript, "session": session_transcript, "errors": error_table, "depths": depth_table, "cost": cost_table, "excerpt": excerpt, "contract": contract}
 
 
 def with_lists(text):
@@ -355,7 +362,7 @@ def proved_faults():
 
 
 def documents():
-    found = [TOP / "README.md", TOP / "CONTRIBUTING.md", TOP / "CHANGELOG.md", TOP / "SECURITY.md", TOP / "clients/README.md", *sorted((TOP / "docs").glob("*.md")), *BY_HAND]
+    found = [TOP / "README.md", TOP / "CONTRIBUTING.md", TOP / "CHANGELOG.md", TOP / "SECURITY.md", TOP / "clients/README.md", TOP / "tools/README.md", *sorted((TOP / "docs").glob("*.md")), *BY_HAND]
     return [path for path in found if path.exists()]
 
 
