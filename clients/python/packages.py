@@ -52,6 +52,7 @@ def packages(out, *programs):
         shutil.copytree(HERE, copy, ignore=shutil.ignore_patterns("__pycache__", ".mypy_cache", "tests", "dist", "mutants"))
         shutil.copy(HERE.parent.parent / "LICENSE", copy)
         shutil.copytree(HERE.parent / "page", copy / "src/coluwen/page/static", ignore=shutil.ignore_patterns("build", "bundle", "test.mjs"))
+        shutil.copy(HERE.parent / "bin/othello-wasm", copy / "src/coluwen/page/static/engine")
         subprocess.run([sys.executable, "-c", MAKE, out, "{}"], cwd=copy, check=True, stdout=subprocess.DEVNULL)
         if programs:
             own = copy / "src/coluwen/program"

@@ -29,6 +29,7 @@ from .errors import Broken, Closed, ColuwenError, Late, Refused, TooDeep, Unreac
 from .score import AT_MOST, EXACT
 
 PROGRAM = "COLUWEN_OTHELLO"  # the variable that names the program
+MODULE = "othello-wasm"  # the page's module as a program, which node runs
 SEARCH = ("solve", "--ordered")  # one ordered search for each line: the fastest of what `solve` has
 SERVE = ("serve", "--sessions", "1000", "--segments", "65536", "--nodes", "4194304")
 WATCH = '"$@" < /dev/null & cat > /dev/null; kill $!'  # of sh: a server ends with the input that whoever began it holds, however that ends
@@ -41,26 +42,30 @@ CORNERS = ("a1", "h1", "a8", "h8")
 HERE = pathlib.Path(__file__).resolve()
 
 
-def program_of(named: str | None = None) -> tuple[str, str]:
+def program_of(named: str | None = None, serves: bool = False) -> tuple[str, str]:
     """The program, and its version: what is named, else by the variable COLUWEN_OTHELLO, else on PATH, else the package's own, else this archive's, or
-    this checkout's, if it is built. `Unreachable` where there is none."""
+    this checkout's, if it is proved; else the page's module, by node; else this checkout's that isn't proved. `Unreachable` where there is none (`serves`: that is a server too)."""
     named = named or os.environ.get(PROGRAM)
     for path in [shutil.which(named) or ""] if named else programs_here():
-        if version := version_of(path):
+        if not (serves and path.endswith(MODULE)) and (version := version_of(path)):
             return path, version
     raise Unreachable(f"{named} isn't the program `othello`" if named else
-                      f"the program `othello` isn't there: the variable {PROGRAM} names it, or it stands on PATH")  # fmt: skip
+                      f"the program `othello` isn't there: install node, which has the same search by WebAssembly, or name the program by the variable {PROGRAM}")  # fmt: skip
 
 
 def programs_here() -> list[str]:
-    """Where the program may be, the first to be tried first: beside `othello` may lie `othello-v3`, built for processors with AVX2."""
-    own = HERE.parent / "program"
+    """Where the program may be, the first to be tried first: beside `othello` may lie `othello-v3`, built for processors with AVX2, and in a checkout one that
+    isn't proved, and so is slower than the page's module by node."""
+    own, by_node = HERE.parent / "program", HERE.parent / "page/static/engine" / MODULE
     names = ["othello-v3", "othello"] if runs_v3() else ["othello"]
-    places = [own / name for name in names]
+    places, slow = [own / name for name in names], list[pathlib.Path]()
     if HERE.parts[-5:-1] == ("clients", "python", "src", "coluwen"):  # of an archive, or of a checkout, whose own `othello` is a script
-        top = HERE.parents[4]
+        top, by_node = HERE.parents[4], HERE.parents[3] / "bin" / MODULE
         built = top / "crates/othello_server/out"
-        places += [built / "othello_server", built / "unproved/othello"] if (top / "crates").exists() else [top / name for name in names]
+        is_checkout = (top / "crates").exists()
+        places += [built / name for name in (*["othello_server-x86-64-v3"] * runs_v3(), "othello_server")] if is_checkout else [top / name for name in names]
+        slow = [built / "unproved/othello"] * is_checkout
+    places += [by_node] * bool(shutil.which("node")) + slow
     there = [str(path) for path in places if os.access(path, os.X_OK)]
     return [found, *there] if (found := shutil.which("othello")) else there
 
@@ -261,7 +266,7 @@ class Engine(Analyst):
                 raise ValueError(f"{name} is a whole number from 1 {'on' if most == math.inf else f'to {most}'}, and not {number!r}")
         if timeout is not None and not timeout >= 0:
             raise ValueError(f"timeout is a number of seconds, and not {timeout!r}")
-        self.program, self.version = program_of(program)
+        self.program, self.version = program_of(program, serves=threads is not None)
         self.parallel, self._timeout = workers, timeout
         self._pool, self._servers = Pool(self.program, workers), Servers(self.program, threads or 0)
         self._lone = Engine(workers, program=self.program, timeout=timeout) if threads else None
