@@ -95,7 +95,7 @@ class Pages:
         self.promises = rows("pages.txt", 3)
         self.pages = {}
         self.counts = []
-        self.unclear = []  # names that can't be followed, or have no meaning in words.txt
+        self.unclear = [*self.specs.hidden, *self.code.hidden]  # beside these: names that can't be followed, or have no meaning in words.txt
         self.uses = uses_by_clause()
 
     def call(self, name):

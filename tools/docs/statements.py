@@ -16,9 +16,13 @@ TESTING = {"serial_tests", "thread_tests", "server_tests", "promise_uses", "toys
 DEFINES = re.compile(r"(?:(?:abbrev|unfoldable) pub|pub (?:record|data)) ([^\s:({]+)")
 IMPORT = re.compile(r"(?:pub |ghost )?use ([\w.\-]+)\.\{(.*)\};?$")
 PUBLIC = re.compile(r'pub (?:const |unsafe |extern [" C]*)*fn (\w+)')  # what stands between quotes is blank
-TOLD = re.compile(r'(b?"(?:\\.|[^"\\])*"|b?\'(?:\\.|[^\'\\])\')|//[^\n]*|/\*.*?\*/', re.S)  # what isn't in the group is a comment
+TOLD = re.compile(r'(b?"(?:\\.|[^"\\])*"|b?\'(?:\\(?:u\{\w+\}|x\w\w|.)|[^\'\\])\')|//[^\n]*', re.S)  # what isn't in the group is a comment
 BRACE = re.compile(r"[{}]")
 CLAUSE_HEAD = re.compile(r"\b(requires|ensures)(\*?)(?:\s+(\w+))?\s*$")
+HIDES = re.compile(r'/\*|\{-|«|\b[bc]?r#*"|[\0-\x09\x0b-\x1f\x7f-\x9f\u200b-\u200f\u2028-\u202e\u2066-\u2069\ufeff]')  # comments that nest, names in quotes, raw strings, signs that aren't shown
+DASHES = re.compile(r'"(?:\\.|[^"\\\n])*"|(?<![^\s(){}.;,@"])--[^\n]*|(--)')  # of definitions: what is in the group belongs to a name
+GHOST = re.compile(r"\b(?:requires|ensures|ghost)\b[^{};]*\{")
+FOR_TESTS = re.compile(r"#\s*!?\s*\[\s*(?:cfg|test)\w*")
 
 
 @dataclasses.dataclass
@@ -106,8 +110,10 @@ class Specs:
         self.imports = {}
         self.meant = {}  # what each definition's own names mean
         self.crates = {path.name for path in CRATES.iterdir() if path.is_dir()}
+        self.hidden = []
         for path in sorted(CRATES.glob("*/specs/**/*.antt")):
             self.read(path)
+            self.hidden += hidden(path)
 
     def read(self, path):
         crate, _, *file = path.relative_to(CRATES).with_suffix("").parts
@@ -222,6 +228,26 @@ def matching(text, start):
     return len(text)
 
 
+def sources(crate):
+    """The files of a crate's code, but for the tests of a crate of tests."""
+    is_tests = crate.name.endswith("_tests")
+    return [path for path in sorted(crate.glob("src/**/*.rt")) if not (is_tests and "tests" in path.relative_to(crate / "src").with_suffix("").parts)]
+
+
+def hidden(path):
+    """What a file says otherwise to the prover than to these scripts."""
+    text = path.read_bytes().decode()  # (with the ends of lines as they are)
+    found = HIDES.findall(text)
+    if path.suffix == ".antt":
+        found += filter(None, DASHES.findall(text))
+    else:
+        clear = blanked(text)
+        found += [] if path.match("crates/*_tests/src/*") else FOR_TESTS.findall(clear)
+        for match in GHOST.finditer(clear):  # (there `//` begins a name)
+            found += [said[0] for said in TOLD.finditer(text[match.end():matching(clear, match.end() - 1)]) if not said[1]]
+    return [f"{path.relative_to(TOP)}: the prover reads {sign!r} otherwise than tools/docs: write it in another way" for sign in dict.fromkeys(found)]
+
+
 class Code:
     """The public calls, types and traits of the crates."""
 
@@ -230,14 +256,15 @@ class Code:
         self.calls = {}
         self.types = {}
         self.exports = {}
+        self.hidden = []
         for crate in sorted(specs.crates):
             root = next((CRATES / crate / "src" / name for name in ("lib.rt", "main.rt") if (CRATES / crate / "src" / name).exists()), None)
             if root is None:
                 continue
             self.exports[crate] = self.exported(root)
-            for path in sorted((CRATES / crate / "src").rglob("*.rt")):
-                if "tests" not in path.relative_to(CRATES).parts and path.name != "tests.rt":
-                    self.read(crate, path)
+            for path in sources(CRATES / crate):
+                self.read(crate, path)
+                self.hidden += hidden(path)
 
     @staticmethod
     def exported(root):

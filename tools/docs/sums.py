@@ -9,7 +9,7 @@ import hashlib
 import pathlib
 import re
 
-from statements import CLAUSE_HEAD, NAME, TOLD, Code, blanked, comment_above
+from statements import CLAUSE_HEAD, NAME, TOLD, Code, blanked, comment_above, sources
 
 ITEM = re.compile(r"(?P<public>pub\s+)?(?:pub\([^)]*\)\s+)?(?:(?:default|const|unsafe|extern|async)\s+)*(?P<kind>fn|struct|enum|union|trait|mod)\s+(?P<name>\w+)")
 VALUE = re.compile(r"(?P<public>pub\s+)?(?:pub\([^)]*\)\s+)?(?P<kind>const|static|type)\s+(?:mut\s+)?(?P<name>\w+)")
@@ -233,8 +233,8 @@ def read_definitions(path, text):
             current = None
         else:
             if current is None or BEGINS.match(said):
-                title = HEAD.match(re.sub(r"\b(?:abbrev|unfoldable|pub|record|data)\b ", "", said.strip()))["name"]
-                current = Part(path, title, True, [], [], notes, (start, at))
+                title = HEAD.match(re.sub(r"\b(?:abbrev|unfoldable|pub|record|data)\b ", "", said.strip()))
+                current = Part(path, title["name"] if title else said, True, [], [], notes, (start, at))
                 parts.append(current)
             current.lines.append(said)
             current.span = (current.span[0], at)
@@ -253,8 +253,7 @@ def parts_of(top, crate):
     if root is None:
         return parts
     names, modules = map(frozenset, Code.exported(root))
-    sources = [path for path in sorted(home.glob("src/**/*.rt")) if "tests" not in path.relative_to(home).parts and path.name != "tests.rt"]
-    texts = {path: path.read_text() for path in sources}
+    texts = {path: path.read_text() for path in sources(home)}
     own = frozenset(name for text in texts.values() for name in re.findall(r"^(?:pub(?:\([^)]*\))? )?(?:struct|enum|trait|type) (\w+)", text, re.M))
     for path, text in texts.items():
         parts += read_code(str(path.relative_to(top)), text, None if path.stem in modules | {"lib", "main"} else names, own)

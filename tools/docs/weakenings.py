@@ -5,7 +5,7 @@ usage: tools/docs/weakenings.py [--few] [--list]
 
 By rule, with a fixed seed, from the tree as it stands: clauses, conjuncts, cases and fields are dropped or emptied, premises added, `<`
 becomes `≤`, numbers grow, names are imported as others, constants and re-exports change; of public and private statements of all crates.
-At most one place of a crate is weakened at once. Each must change the crate's sum in docs/promises/contracts.md (of a public one the first),
+Or a statement is left to these scripts and hidden from the prover, by what it reads otherwise. At most one place of a crate is weakened at once. Each must change the crate's sum in docs/promises/contracts.md (of a public one the first),
 and `promises.py since` must print the words that went and those that came, under the crate's name. What says the same (a comment, a
 body, an attribute, an import that no statement uses) must change nothing there. `--few` takes one place of each crate; `--list` prints each.
 """
@@ -24,7 +24,7 @@ import tempfile
 
 import promises
 import sums
-from statements import CLAUSE_HEAD, NAME, TOP, Code, blanked
+from statements import CLAUSE_HEAD, NAME, TOP, Code, blanked, sources
 
 OF_A_KIND = 4  # weakenings of each kind at most, public and private ones apart
 LEAST, LEAST_KINDS = 150, 35
@@ -138,6 +138,20 @@ def of_definition(place, clear):
     yield from ((f"definition: {kind}", *place) for kind, *place in of_statement(clear, body, end))
 
 
+def of_hiding(text, start, end, title=None):
+    """How a statement is hidden from the prover and left to these scripts: a clause (or a function) of code, or a definition of this title."""
+    said = text[start:end]
+    if title is None:
+        yield "hidden by comments that nest", start, end, f"/* /* */\n{said}\n// */"
+        yield "hidden in a raw string", start, start, 'const OTHER: &str = r"\\";\n'
+        yield "hidden from all but tests", start, start, "#[cfg(test)]\n"
+    else:
+        yield "hidden by a comment of many lines", start, end, f"{{-\n{said}\n-}}"
+        yield "hidden by another name", start, end, re.sub(rf"(?<!\S){re.escape(title)}(?!\S)", f"{title}--other", said)
+        yield "hidden by a name in quotes", start, end, re.sub(rf"(?<!\S){re.escape(title)}(?!\S)", f"«{title}»", said)
+    yield "hidden by a sign that isn't shown", start, start, "-- \f" if title else "// \r"
+
+
 def of_imports(text, said):
     """How what names mean is changed, where a statement uses them: each as another one of its place."""
     words, twice = {*NAME.findall(said)}, collections.Counter(name.strip() for line in IMPORTS.finditer(text) for name in line[2].split(","))
@@ -174,6 +188,7 @@ def of_code(text, shown):
         clauses = clauses_from(clear, match.end())
         said += "".join(f" {text[inner:close]} " for _, inner, close in clauses)
         yield from ((*found, ()) for found in of_function(clauses, clear))
+        yield from ((*found, ()) for found in (of_hiding(text, clauses[-1][0].start(), clauses[-1][2] + 1) if clauses else ()))
     for match in ITEM.finditer(clear):
         stop = re.compile(r"[{;]").search(clear, match.end()).start()
         place = Place(match["title"].strip(), (match.start(), sums.closing(clear, stop) if clear[stop] == "{" else stop + 1))
@@ -192,6 +207,7 @@ def of_definitions(text):
         title = re.match(r"[ ]*(?:\w+ )*?(?:abbrev pub|unfoldable pub|pub record|pub data) ([^\s:({]+)", match[0])
         if title:
             yield from ((*found, ()) for found in of_definition(Place(title[1], match.span()), clear))
+            yield from ((*found, ()) for found in of_hiding(text, *match.span(), title[1]))
     yield from of_imports(text, IMPORTS.sub("", clear))
     yield from of_re_exports(text)
 
@@ -206,9 +222,7 @@ def all_weakenings(top):
     for crate in sums.crates_of(top):
         root = next(top / f"crates/{crate}/src/{name}.rt" for name in ("lib", "main") if (top / f"crates/{crate}/src/{name}.rt").exists())
         parts = sums.parts_of(top, crate)
-        for path in sorted([*top.glob(f"crates/{crate}/specs/**/*.antt"), *top.glob(f"crates/{crate}/src/**/*.rt")]):
-            if "tests" in path.parts or path.name == "tests.rt":
-                continue
+        for path in [*sorted(top.glob(f"crates/{crate}/specs/**/*.antt")), *sources(top / "crates" / crate)]:
             text, name = path.read_text(), str(path.relative_to(top))
             here = [part for part in parts if part.path == name]
             for kind, start, end, instead, names in of_definitions(text) if path.suffix == ".antt" else of_code(text, Code.exported(root)[0]):
@@ -304,10 +318,12 @@ def said_of(told):
     return found
 
 
-def fault_of(one, old, is_told, found, said):
+def fault_of(one, old, check, found, said):
     """How a weakening wasn't told, or None; and whether it is of something public."""
     both = found.get(one.crate, {})
-    if not is_told or len(both) < 2:
+    if one.kind.startswith("hidden"):
+        return None if f"{one.path}: the prover reads " in check else "unseen by the check", one.is_public
+    if len(both) < 2:
         return "unseen by the check", one.is_public
     if one.names:
         gone, come = ([name] for name in one.names)
@@ -326,7 +342,7 @@ def fault_of(one, old, is_told, found, said):
 def same(top, draw):
     """Edits that say the same, one of a crate at most: a comment, a body, an attribute, an import that no statement uses."""
     for crate in sums.crates_of(top):
-        code = [path for path in sorted(top.glob(f"crates/{crate}/src/**/*.rt")) if "tests" not in path.parts]
+        code = sources(top / "crates" / crate)
         specs = sorted(top.glob(f"crates/{crate}/specs/**/*.antt"))
         rule = draw.choice(["comment", "body", "attribute", "import", "definition's comment"])
         path = draw.choice(specs if rule == "definition's comment" and specs else code)
@@ -357,9 +373,9 @@ def try_all(words):
     bad, kinds = 0, collections.Counter()
     for group in groups:
         kept, (is_told, check), since = looked_at(group)
-        found, said = sums_told(check), said_of(since)
+        found, said = sums_told(check if is_told else ""), said_of(since)
         for one in group:
-            fault, is_public = fault_of(one, kept[one.path], is_told, found, said)
+            fault, is_public = fault_of(one, kept[one.path], check if is_told else "", found, said)
             kinds[one.kind, is_public] += 1
             bad += fault is not None
             if fault or "--list" in words:
