@@ -177,7 +177,7 @@ class Pages:
     def clause_lines(self, call, indent="    "):
         """A call's signature and clauses as code."""
         base = min((len(line) - len(line.lstrip()) for line in call.signature if line.strip()), default=0)
-        lines = [line[base:] for line in call.signature]
+        lines = [*filter(None, [call.head]), *(line[base:] for line in call.signature)]
         for kind, name, body, note in call.clauses:
             lines += [indent + line for line in note]
             head = f"{indent}{kind} {name} {{ ".replace("  {", " {")
@@ -320,15 +320,19 @@ class Pages:
         return self.pages
 
     def all_contracts(self):
-        """A line a crate: sums over all that it says, and its public calls with the names of their clauses."""
+        """A line a type: sums over all that a crate says of it, and its public calls with the names of their clauses."""
         out = [MADE, "# The contracts of all crates", "",
-               "Each crate with two sums. The first is over what it says to others: the clauses of its public calls, its types with their fields and invariants, ghost members, constants, and all its definitions, each with what its names are imported as. The second is over the same of what only the crate itself uses. Behind them stand its public calls, with the names of their clauses in brackets; of crates of tests the sums alone. `tools/docs/promises.py contracts CRATE` prints the text of the first, and `tools/docs/promises.py since REVISION` what became of both, in words. So whatever changes below the promises changes a line here, and can be read.", ""]
+               "A line for each type and trait of a crate, and for what is of none a line a file; each with two sums. The first is over what the crate says to others: the clauses of public calls, types with their fields and invariants, ghost members, constants, and all definitions, each with its file, with the head of its block and with what its names are imported as. The second is over the same of what only the crate itself uses. Behind them stand the public calls, with the names of their clauses in brackets; of crates of tests the sums alone. `tools/docs/promises.py contracts CRATE` prints the text of the first, and `tools/docs/promises.py since REVISION` what became of both, in words. So whatever changes below the promises changes a line here, and can be read.", ""]
+        calls = {}
+        for (crate, _), call in sorted(self.code.calls.items()):
+            if call.clauses and crate not in TESTING:
+                names = ", ".join(part[1] for part in call.promised if part[1])
+                calls.setdefault((crate, call.owner or call.path.split("/", 2)[2]), []).append(f"`{call.name}`" + (f" ({names})" if names else ""))
         for crate in sums.crates_of(TOP):
-            parts = sums.parts_of(TOP, crate)
-            calls = [call for (home, _), call in sorted(self.code.calls.items()) if home == crate and call.clauses]
-            shown = [f"`{call.title}`" + (f" ({', '.join(names)})" if (names := [part[1] for part in call.promised if part[1]]) else "") for call in calls]
-            told = "" if crate in TESTING else f": {', '.join(shown) or 'no clause of its own'}"
-            out.append(f"- **{crate}** {sums.sum_of(parts, True)} {sums.sum_of(parts, False)}{told}")
+            for name, parts in sorted(sums.by_type(sums.parts_of(TOP, crate)).items(), key=lambda one: ("/" in one[0], one[0])):
+                shown = calls.pop((crate, name), [])
+                out.append(f"- **{crate}** `{name}` {sums.sum_of(parts, True)} {sums.sum_of(parts, False)}" + (f": {', '.join(shown)}" if shown else ""))
+        self.unclear += [f"docs/promises/contracts.md has no line of {crate} for {name}" for crate, name in calls]
         self.pages["contracts.md"] = "\n".join([*out, ""])
 
     # ---- what is printed, and not kept

@@ -67,6 +67,7 @@ class Call:
     signature: list
     clauses: list
     imports: dict
+    head: str  # of the block that it stands in
 
     @property
     def title(self):
@@ -306,11 +307,12 @@ class Code:
             block = next((block for block in blocks if block[1] <= match.start() < block[2]), None)
             if block and (block[0].startswith("pub") or " for " in re.sub(r"for<[^>]*>", "", block[0])):
                 continue
-            owner = self.owner_of(block[0]) if block else ""
+            head = block[0] if block else ""
+            owner = self.owner_of(head) if block else ""
             if not self.is_shown(crate, path, owner or match[1]):
                 continue
             imports = outer | (imported(text[block[1]:block[2]].splitlines()) if block else {})
-            self.read_call(crate, shown, owner, match, text, clear, imports)
+            self.read_call(crate, shown, owner, match, text, clear, imports, head)
 
     @staticmethod
     def outside(lines, blocks, text):
@@ -326,7 +328,7 @@ class Code:
         head = re.sub(r"^impl\s*(<(?:[^<>]|<[^<>]*>)*>)?\s*", "", head)
         return re.match(r"[\w:]+", head)[0].split("::")[-1]
 
-    def read_call(self, crate, shown, owner, match, text, clear, imports):
+    def read_call(self, crate, shown, owner, match, text, clear, imports, block):
         start = text.rfind("\n", 0, match.start()) + 1
         at = start
         clauses, signature_end = [], None
@@ -349,7 +351,7 @@ class Code:
         signature = text[start:signature_end if signature_end is not None else end].rstrip()
         lines = text[:start].splitlines()
         comment = [line.removeprefix("///").strip() for line in comment_above(lines, len(lines), "///")]
-        call = Call(crate, shown, owner, match[1], comment, signature.splitlines(), clauses, imports)
+        call = Call(crate, shown, owner, match[1], comment, signature.splitlines(), clauses, imports, block)
         self.calls[crate, call.title] = call
 
     def read_trait(self, crate, shown, head, text, start, end, imports):

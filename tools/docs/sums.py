@@ -34,11 +34,21 @@ class Part:
     names: list  # `name: place.name there`, of what is imported
     comment: list
     span: tuple  # where it begins and ends in its file
+    owner: str = ""  # the type or trait that it is of
     calls: str = ""  # the name of the function whose clauses these are
 
     @property
-    def text(self):
-        return "\n".join([*self.lines, *self.names])
+    def words(self):
+        return [f"(in) {self.path}", *self.lines, *(f"(names) {name}" for name in self.names)]
+
+
+@dataclasses.dataclass
+class Block:
+    """The file or block that an item stands in."""
+    title: str = ""  # before the names of its functions
+    owner: str = ""  # the type or trait that they are of
+    head: str = ""  # where the title doesn't have it
+    is_public: object = None  # None: as each function says
 
 
 def closing(clear, start):
@@ -145,17 +155,17 @@ class Reader:
         left = start - self.text.rfind("\n", 0, start) - 1
         return tidied(PROOF.sub("}", TOLD.sub(lambda match: match[1] or "", self.text[start:end])), left)
 
-    def add(self, start, end, title, is_public, imports, lines=None, calls=""):
+    def add(self, start, end, title, is_public, imports, owner="", lines=None, calls=""):
         lines, before = self.lines(start, end) if lines is None else lines, self.text[:start].splitlines()
-        self.parts.append(Part(self.path, title, is_public, lines, names_in("\n".join(lines), imports), comment_above(before, len(before), "///"), (start, end), calls))
+        self.parts.append(Part(self.path, title, is_public, lines, names_in("\n".join(lines), imports), comment_above(before, len(before), "///"), (start, end), owner, calls))
 
     def read(self):
-        rest, _ = self.block(0, len(self.clear), [], None, "")
+        rest, _ = self.block(0, len(self.clear), [], Block())
         for at, stop in rest:
             self.add(at, stop, self.lines(at, stop)[0], False, [])
         return self.parts
 
-    def block(self, start, end, outer, is_public, owner):
+    def block(self, start, end, outer, of):
         """Reads what stands between two places: a file's items, or those of a block. Returns what isn't a part of its own, and what is imported."""
         found = list(items(self.clear, start, end))
         imports = outer + [pair for at, stop, _ in found if IMPORT.match(self.clear, at) for pair in imports_of(" ".join(self.lines(at, stop)))]
@@ -164,36 +174,37 @@ class Reader:
             if IMPORT.match(self.clear, at):
                 if re.match(r"pub\s+use", self.clear[at:stop]):
                     for name, path in imports_of(" ".join(self.lines(at, stop))):
-                        self.add(at, stop, f"what {name} is", True, [], [f"pub use {path} as {name}"])
+                        self.add(at, stop, f"what {name} is", True, [], lines=[f"pub use {path} as {name}"])
             elif match := ITEM.match(self.clear, at):
-                self.item(match, at, stop, body, imports, is_public, owner)
+                self.item(match, at, stop, body, imports, of)
             elif IMPL.match(self.clear, at):
                 self.impl(at, stop, body, imports)
-            elif match := not owner and VALUE.match(self.clear, at):
+            elif match := not of.title and VALUE.match(self.clear, at):
                 self.named(match, at, stop, imports)
             else:
                 rest.append((at, stop))
         return rest, imports
 
     def named(self, match, at, stop, imports):
-        """Reads a type or a constant. A type that isn't shown says something only where contracts see more of it than its fields."""
+        """Reads a type, an alias or a constant. A type that isn't shown says something only where contracts see more of it than its fields."""
         shown, lines = bool(match["public"]) and self.is_shown(match["name"]), self.lines(at, stop)
-        if shown or match["kind"] in ("const", "static") or any(line.strip().startswith("ghost") for line in lines):
-            self.add(at, stop, f"{match['kind']} {match['name']}", shown, imports)
+        is_value = match["kind"] in ("const", "static")
+        if shown or is_value or match["kind"] == "type" or any(line.strip().startswith("ghost") for line in lines):
+            self.add(at, stop, f"{match['kind']} {match['name']}", shown, imports, "" if is_value else match["name"])
 
-    def item(self, match, at, stop, body, imports, is_public, owner):
+    def item(self, match, at, stop, body, imports, of):
         kind, name = match["kind"], match["name"]
         if kind == "fn":
             signature = stop if body is None else body
             if CLAUSE_HEAD.search(re.sub(r"\{.*", "", self.clear[at:signature], flags=re.S)):
-                shown = bool(match["public"]) and self.is_shown(owner or name) if is_public is None else is_public
-                title = f"{owner}::{name}" if owner else name
-                self.add(at, signature, title, shown, imports, calls=title)
+                shown = bool(match["public"]) and self.is_shown(of.owner or name) if of.is_public is None else of.is_public
+                title = f"{of.title}::{name}" if of.title else name
+                self.add(at, signature, title, shown, imports, of.owner, [*filter(None, [of.head]), *self.lines(at, signature)], title)
         elif kind == "mod":
             if body is not None:
-                self.block(body + 1, stop - 1, imports, None, "")
+                self.block(body + 1, stop - 1, imports, Block())
         elif kind == "trait":
-            self.members(at, body, stop, f"trait {name}", name, bool(match["public"]) and self.is_shown(name), imports)
+            self.members(at, body, stop, f"trait {name}", Block(name, name, "", bool(match["public"]) and self.is_shown(name)), imports)
         else:
             self.named(match, at, stop, imports)
 
@@ -202,17 +213,17 @@ class Reader:
         plain = re.sub(r"for<[^>]*>", "", head)
         owner = Code.owner_of(head.removeprefix("unsafe "))
         if " for " not in plain:
-            self.members(at, body, stop, head, owner, None, imports)
+            self.members(at, body, stop, head, Block(owner, owner, head), imports)
             return
         named = re.search(r"[A-Za-z]\w*(?=<|$| where|,|\))", plain.split(" for ")[-1])
-        self.members(at, body, stop, head, head, named is None or self.is_shown(named[0], True), imports)
+        self.members(at, body, stop, head, Block(head, named[0] if named else "", "", named is None or self.is_shown(named[0], True)), imports)
 
-    def members(self, at, body, stop, title, owner, is_public, imports):
+    def members(self, at, body, stop, title, of, imports):
         """Reads a block: each function with clauses is a part, and all else together is one."""
-        rest, inner = self.block(body + 1, stop - 1, imports, is_public, owner)
+        rest, inner = self.block(body + 1, stop - 1, imports, of)
         if rest:
             lines = [*self.lines(at, body), *("    " + line for start, end in rest for line in self.lines(start, end))]
-            self.add(at, stop, title, is_public is not False, inner, lines)
+            self.add(at, stop, title, of.is_public is not False, inner, of.owner, lines)
 
 
 @functools.cache
@@ -273,9 +284,17 @@ def crates_of(top):
     return [line.split(":")[0].split()[0] for line in (top / "crates.txt").read_text().splitlines() if line and not line.startswith("#")]
 
 
+def by_type(parts):
+    """The parts of a crate by the type or trait that they are of, or by their file where they are of none."""
+    found = {}
+    for part in parts:
+        found.setdefault(part.owner or part.path.split("/", 2)[2], []).append(part)
+    return found
+
+
 def sum_of(parts, is_public):
-    """A sum over the public or the other parts of a crate, wherever they stand; `-` where there are none."""
-    texts = sorted(f"{part.title}\n{part.text}\n" for part in parts if part.is_public == is_public)
+    """A sum over the public or the other ones of these parts, each with its file; `-` where there are none."""
+    texts = sorted("\n".join([part.title, *part.words, ""]) for part in parts if part.is_public == is_public)
     return hashlib.sha256("\n".join(texts).encode()).hexdigest()[:16] if texts else "-"
 
 
@@ -302,12 +321,12 @@ def changes(old, new):
     for key in sorted({*before, *after}):
         gone, come = [*before.get(key, [])], [*after.get(key, [])]
         for part in [*gone]:
-            if same := next((other for other in come if other.text == part.text), None):
+            if same := next((other for other in come if other.words == part.words), None):
                 gone.remove(part)
                 come.remove(same)
         for at in range(max(len(gone), len(come))):
             was, now = gone[at:at + 1], come[at:at + 1]
-            words = [line for line in difflib.ndiff(*[[*part.lines, *(f"(names) {name}" for name in part.names)] if part else [] for part, in ((was or [None]), (now or [None]))]) if not line.startswith(("? ", "  (names)"))]
+            words = [line for line in difflib.ndiff(*(part[0].words if part else [] for part in (was, now))) if not line.startswith(("? ", "  ("))]
             yield (now or was)[0], words
 
 

@@ -5,7 +5,7 @@ usage: tools/docs/weakenings.py [--few] [--list]
 
 By rule, with a fixed seed, from the tree as it stands: clauses, conjuncts, cases and fields are dropped or emptied, premises added, `<`
 becomes `≤`, numbers grow, names are imported as others, constants and re-exports change; of public and private statements of all crates.
-Or a statement is left to these scripts and hidden from the prover, by what it reads otherwise. At most one place of a crate is weakened at once. Each must change the crate's sum in docs/promises/contracts.md (of a public one the first),
+Or a statement is left to these scripts and hidden from the prover, by what it reads otherwise. At most one place of a crate is weakened at once. Each must change a sum of the crate in docs/promises/contracts.md (of a public one the first),
 and `promises.py since` must print the words that went and those that came, under the crate's name. What says the same (a comment, a
 body, an attribute, an import that no statement uses) must change nothing there. `--few` takes one place of each crate; `--list` prints each.
 """
@@ -14,6 +14,7 @@ import contextlib
 import dataclasses
 import difflib
 import io
+import itertools
 import pathlib
 import random
 import re
@@ -54,9 +55,14 @@ class Weakening:
     end: int
     instead: str
     names: tuple = ()  # of an import: what must be printed as gone and as come
+    other: object = None  # a place that changes with it
 
     def applied(self, text):
         return text[:self.start] + self.instead + text[self.end:]
+
+    @property
+    def edits(self):
+        return [self, *filter(None, [self.other])]
 
 
 def at_top(clear, start, end, sign):
@@ -196,6 +202,11 @@ def of_code(text, shown):
             yield from ((*found, ()) for found in of_members(place, clear))
     for match in re.finditer(r"^[ \t]*(?:pub )?ghost \w+(?: =|:) \{", clear, re.M):
         said += f" {text[match.end():sums.closing(clear, match.end() - 1) - 1]} "
+    for match in re.finditer(r"^impl\b(?!.* for )(.*) \{$", clear, re.M):
+        if CLAUSE.search(clear, match.end(), sums.closing(clear, match.end() - 1)):
+            yield "head of a block changed", match.end(1), match.end(1), " where Self: Other", ()
+    for match in re.finditer(r"^(?:pub(?:\([^)]*\))? )?type \w+[^;=]*= ", clear, re.M):
+        yield "alias changed", match.end(), match.end(), "other::", ()
     yield from of_imports(text, said)
     yield from of_re_exports(text)
 
@@ -229,6 +240,15 @@ def all_weakenings(top):
                 part = next((part for part in here if part.span[0] <= start < part.span[1]), None) if not names else None
                 if text[start:end] != instead:
                     yield Weakening(crate, name, kind, part.is_public if part else None, start, end, instead, names)
+        yield from exchanged(top, crate, parts)
+
+
+def exchanged(top, crate, parts):
+    """Parts of one name in two files, each in the other's place."""
+    for one, other in itertools.combinations([part for part in parts if not part.title.startswith("what ")], 2):
+        if (one.title, one.is_public, one.path[-3:]) == (other.title, other.is_public, other.path[-3:]) and one.path != other.path and one.lines != other.lines:
+            texts = [(top / part.path).read_text()[slice(*part.span)] for part in (one, other)]
+            yield Weakening(crate, one.path, "exchanged between files", one.is_public, *one.span, texts[1], (), Weakening(crate, other.path, "", None, *other.span, texts[0]))
 
 
 def chosen(found, draw):
@@ -289,9 +309,10 @@ def printed(call, *words):
 
 def looked_at(batch):
     """What the check and `since` say where each of these is put in."""
-    kept = {one.path: (TOP / one.path).read_text() for one in batch}
-    for one in batch:
-        (TOP / one.path).write_text(one.applied(kept[one.path]))
+    edits = [edit for one in batch for edit in one.edits]
+    kept = {edit.path: (TOP / edit.path).read_text() for edit in edits}
+    for edit in edits:
+        (TOP / edit.path).write_text(edit.applied(kept[edit.path]))
     try:
         promises.made.cache_clear()
         return kept, printed(lambda: promises.told(promises.made())), printed(promises.since, "HEAD")[1]
@@ -301,11 +322,11 @@ def looked_at(batch):
 
 
 def sums_told(told):
-    """The crates whose sums differ by a check's diff: the old ones and the new ones."""
+    """Of each crate whether a public sum of it differs by a check's diff, and whether another one does."""
     found = collections.defaultdict(dict)
-    for sign, crate, public, private in re.findall(r"^([-+])- \*\*(\w+)\*\* (\S+) ([0-9a-f]+|-)", told, re.M):
-        found[crate][sign] = (public, private)
-    return found
+    for sign, crate, name, public, private in re.findall(r"^([-+])- \*\*(\w+)\*\* `(\S+)` ([0-9a-f]+|-) ([0-9a-f]+|-)", told, re.M):
+        found[crate].setdefault(name, {"-": ("-", "-"), "+": ("-", "-")})[sign] = (public, private)
+    return {crate: {is_public for both in lines.values() for is_public, old, new in zip((True, False), both["-"], both["+"], strict=True) if old != new} for crate, lines in found.items()}
 
 
 def said_of(told):
@@ -320,10 +341,9 @@ def said_of(told):
 
 def fault_of(one, old, check, found, said):
     """How a weakening wasn't told, or None; and whether it is of something public."""
-    both = found.get(one.crate, {})
     if one.kind.startswith("hidden"):
         return None if f"{one.path}: the prover reads " in check else "unseen by the check", one.is_public
-    if len(both) < 2:
+    if not found.get(one.crate):
         return "unseen by the check", one.is_public
     if one.names:
         gone, come = ([name] for name in one.names)
@@ -332,10 +352,12 @@ def fault_of(one, old, check, found, said):
     else:
         diff = [*difflib.ndiff(words_of(old, one.path), words_of(one.applied(old), one.path))]
         gone, come = ([line[2:] for line in diff if line.startswith(sign)] for sign in "-+")
+    if one.kind == "head of a block changed":
+        gone, come = ([line.removesuffix(" {") for line in lines] for lines in (gone, come))
     for is_public, went, came in said.get(one.crate, []):
         is_printed = went and came if one.kind == "re-export changed" else all(line in went for line in gone) and all(line in came or line in ("", "}", ";") for line in come)
         if one.is_public in (None, is_public) and is_printed:
-            return "the sum of what is public stays" if both["-"][not is_public] == both["+"][not is_public] else None, is_public
+            return None if is_public in found[one.crate] else "the sum of what is public stays", is_public
     return "its words aren't printed", one.is_public
 
 
