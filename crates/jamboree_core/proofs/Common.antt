@@ -86,6 +86,8 @@ pub use Rattle.jamboree_core.specs.Needs.{first_costs, frame_cost, is_narrow, la
 pub use Rattle.jamboree_core.specs.Paces.{HasSteps, turns_in, turns_of}
 pub use Rattle.jamboree_core.specs.Sizes.{HasSegments, HasSegmentsToo, IsRoomy, Size, StillHasSegments, choice_sizes, enough_segments, frame_size_of}
 pub use Rattle.jamboree_core.specs.Sizes.{root_weight, sizes_over}
+pub use Rattle.jamboree_core.specs.Sums.{EachFindsRoom, EachFindsSums, FindsRoom, FindsSums, HasSums, asked_nodes, asked_segments, nodes_of_all}
+pub use Rattle.jamboree_core.specs.Sums.{segments_of_live, sum_of_live}
 pub use Rattle.jamboree_core.specs.Turns.{extra_turns}
 pub use Rattle.jamboree_core.specs.Weights.{IsPaid, IsPaidToo, IsStillPaid, Weight, parent_words, weight_among, weight_in}
 pub use Rattle.jamboree_rules.proofs.ActCases.{by-acts}

@@ -20,34 +20,36 @@ module _ (grain : ℕ) (fits : Fitting) (law : IsLawful (jamboree grain) fits Is
   fits-on origins (Some tenant) step search is none has =
       (lone-shaped (jamboree grain) (Some tenant) step outcome is has.0, step-fits (jamboree grain) fits IsRoot origins tenant step outcome law has.0 has.1 (root step search) is)
 
--- What each step keeps lasts over a journal, each step of which meets a condition, which may speak of the tenant before it.
-module _ (grain : ℕ) (Each : Option Tenant → List (StepOf LeafAnswer) → Type 0) (Meets : Option Tenant → StepOf LeafAnswer → Type 0)
-    (parts : (before : Option Tenant) (step : StepOf LeafAnswer) (steps : List (StepOf LeafAnswer)) → Each before (step ∷ steps) →
-    Meets before step × Each (state_after before (lone (jamboree grain) before step)) steps)
+-- What each step keeps lasts over a journal, each step of which meets a condition, which may speak of what was submitted before and of
+-- the tenant then.
+module _ (grain : ℕ) (Each : List (List ℕ) → Option Tenant → List (StepOf LeafAnswer) → Type 0) (Meets : List (List ℕ) → Option Tenant → StepOf LeafAnswer → Type 0)
+    (parts : (origins : List (List ℕ)) (before : Option Tenant) (step : StepOf LeafAnswer) (steps : List (StepOf LeafAnswer)) → Each origins before (step ∷ steps) →
+    Meets origins before step × Each (origins ++ submits step) (state_after before (lone (jamboree grain) before step)) steps)
     (P : List (List ℕ) → Option Tenant → Type 0)
-    (keeps : (origins : List (List ℕ)) (before : Option Tenant) (step : StepOf LeafAnswer) (outcome : Outcome Leaf) → Meets before step → lone (jamboree grain) before step ≡ Ok outcome →
+    (keeps : (origins : List (List ℕ)) (before : Option Tenant) (step : StepOf LeafAnswer) (outcome : Outcome Leaf) → Meets origins before step → lone (jamboree grain) before step ≡ Ok outcome →
     (before ≡ None → origins ≡ []) → P origins before → P (origins ++ submits step) outcome.0) where
   abbrev Lasts : List (StepOf LeafAnswer) → Type 0
   Lasts steps =
-      (origins : List (List ℕ)) (before : Option Tenant) → Each before steps → AreTakenFrom (jamboree grain) before steps → (before ≡ None → origins ≡ []) → P origins before →
+      (origins : List (List ℕ)) (before : Option Tenant) → Each origins before steps → AreTakenFrom (jamboree grain) before steps → (before ≡ None → origins ≡ []) → P origins before →
       P (origins ++ origins_of steps) (alone_from (jamboree grain) before steps)
 
   lasts-on : (step : StepOf LeafAnswer) (steps : List (StepOf LeafAnswer)) → Lasts steps → Lasts (step ∷ steps)
-  lasts-on step steps rest origins before each taken none has = by (lone (jamboree grain) before step) refl (parts before step steps each).1 taken
+  lasts-on step steps rest origins before each taken none has = by (lone (jamboree grain) before step) refl (parts origins before step steps each).1 taken
     where
-      by : (came : Result (Outcome Leaf) Refusal) → lone (jamboree grain) before step ≡ came → Each (state_after before came) steps → StaysTaken came × AreTakenFrom (jamboree grain) (state_after before came) steps →
+      by : (came : Result (Outcome Leaf) Refusal) → lone (jamboree grain) before step ≡ came → Each (origins ++ submits step) (state_after before came) steps →
+          StaysTaken came × AreTakenFrom (jamboree grain) (state_after before came) steps →
           P (origins ++ (submits step ++ origins_of steps)) (alone_from (jamboree grain) (state_after before came) steps)
       by (Err refusal) e later t = absurd t.0
       by (Ok (None, did)) e later t = absurd t.0
       by (Ok (Some tenant, did)) e later t =
           subst (λ (os : List (List ℕ)). P os (alone_from (jamboree grain) (Some tenant) steps)) (append_assoc origins (submits step) (origins_of steps))
-          (rest (origins ++ submits step) (Some tenant) later t.1 (λ is. absurd cc) (keeps origins before step (Some tenant, did) (parts before step steps each).0 e none has))
+          (rest (origins ++ submits step) (Some tenant) later t.1 (λ is. absurd cc) (keeps origins before step (Some tenant, did) (parts origins before step steps each).0 e none has))
 
   lasts : (steps : List (StepOf LeafAnswer)) → Lasts steps
   lasts [] = λ origins before each taken none has. subst (λ (os : List (List ℕ)). P os before) (sym (append-nil origins)) has
   lasts (step ∷ steps) = lasts-on step steps (lasts steps)
 
-  pub all-lasts : P [] None → (journal : List (StepOf LeafAnswer)) (tenant : Tenant) → IsJournalOf (jamboree grain) journal tenant → Each None journal → P (origins_of journal) (Some tenant)
+  pub all-lasts : P [] None → (journal : List (StepOf LeafAnswer)) (tenant : Tenant) → IsJournalOf (jamboree grain) journal tenant → Each [] None journal → P (origins_of journal) (Some tenant)
   all-lasts start journal tenant is each = subst (P (origins_of journal)) is.comes (lasts journal [] None each is.taken (λ none. refl) start)
 
 -- where each Submit asks for a search
@@ -55,7 +57,7 @@ pub journal-lasts : (grain : ℕ) (P : List (List ℕ) → Option Tenant → Typ
     ((origins : List (List ℕ)) (before : Option Tenant) (step : StepOf LeafAnswer) (outcome : Outcome Leaf) → IsSearch step → lone (jamboree grain) before step ≡ Ok outcome →
     (before ≡ None → origins ≡ []) → P origins before → P (origins ++ submits step) outcome.0) →
     P [] None → (journal : List (StepOf LeafAnswer)) (tenant : Tenant) → IsJournalOf (jamboree grain) journal tenant → AreSearches journal → P (origins_of journal) (Some tenant)
-journal-lasts grain P keeps = all-lasts grain (λ before steps. AreSearches steps) (λ before step. IsSearch step) (λ before step steps each. each) P keeps
+journal-lasts grain P keeps = all-lasts grain (λ origins before steps. AreSearches steps) (λ origins before step. IsSearch step) (λ origins before step steps each. each) P keeps
 
 pub journal-searches : (grain : ℕ) (journal : List (StepOf LeafAnswer)) (tenant : Tenant) → IsJournalOf (jamboree grain) journal tenant → AreSearches journal → TenantSearches (origins_of journal) tenant
 journal-searches grain journal tenant is searches =
@@ -66,7 +68,7 @@ stays : {I : Type 0} (came : Result (Outcome I) Refusal) (outcome : Outcome I) (
 stays {I} came outcome next is left = grind arith
 
 module _ {I A : Type 0} (functions : Functions I A) where
-  longer : (before : Option Tenant) (steps : List (StepOf A)) (tenant next : Tenant) (step : StepOf A) (outcome : Outcome I) →
+  pub longer : (before : Option Tenant) (steps : List (StepOf A)) (tenant next : Tenant) (step : StepOf A) (outcome : Outcome I) →
       AreTakenFrom functions before steps → alone_from functions before steps ≡ Some tenant → lone functions (Some tenant) step ≡ Ok outcome →
       outcome.0 ≡ Some next → AreTakenFrom functions before (steps ++ step ∷ []) × (alone_from functions before (steps ++ step ∷ []) ≡ Some next)
   longer before [] tenant next step outcome taken comes is left = grind (arith, stays)

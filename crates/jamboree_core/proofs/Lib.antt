@@ -16,3 +16,6 @@ pub mod Counts
 pub mod Rooms
 pub mod NeverSpent
 pub mod EnoughBounds
+pub mod LiveSums
+pub mod SeveralJobs
+pub mod OwnJournals

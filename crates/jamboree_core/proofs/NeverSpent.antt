@@ -1,6 +1,6 @@
 -- A tenant of searches that reserved enough nodes and segments is never refused one, and no job of it is spent (ended
 -- as it couldn't go on within the reservation).
-use Rattle.jamboree_core.proofs.Common.{◌≡◌, ◌≢◌, ℕ, false, not, ◌&&◌, List, [], Some, None, Ok, refl, ◌≤◌, arith, not-false, frame_at, Tenant, Outcome, is_run_by, act_by_sight, advance_tests, ◌==◌, run-free, IsShaped, F, Leaf, LeafAnswer, jamboree, StepOf, Advance, FrameId, lone_step, TenantSearches, Submit, cells_of, root_words, padded, NoNodes, lone_refusal, frame_size, ltb-false, or_parts, HasNodes, HasNodesToo, StillHasNodes, Cost, IsEnough, enough_nodes, root_cost, still_opens, found-own, inl, inr, cases_Bool, ne_eqb, common_steps, ◌⊎◌, Bool, true, ◌∷◌, ◌++◌, Option, length, ap, ◌∙◌, ◌+◌, tree-rising, replicate, with_frame_words, Neither, new_frame, is_outside, advanced, then_done, counted, holding, stored, grown, is_bad_act, has_child, LeftShaped, LeftFits, TenantFits, step-shaped, step-fits, Lists, Refusal, Act, Continuation, Grow, Spawn, Wait, AreFitting, IsRoot, board, frame_of, next_act, inlet_act, accepts, le-ltb, leb-true, nat_lt, length-padded, length-stored, is_bad_then, charged_for, charge, weight_in, IsStillPaid, charged-with_frame_words, charged-append, charged-one, with_frame_words-twice, AllPass, formed-told, StandsUnder, frame_after, next-goes, inlet-stores, answer-good, answered_frame, Size, IsRoomy, enough_segments, root_weight, HasSegments, Cell, Result, Err, false≢true, eq-eqb, NoTenant, Admit, ReserveOf, parent_of, State, Running, is_returned, has-returned, Spend, NotSpent, IsJournalOf, AreSearches, origins_of, is_spendable, lone, IsSearch, submits, or_from, is_run, applies, act_tests, is_bad_inlet, board_nodes, board_segments, FindsEnough, EachFindsEnough, HasSegmentsToo, StillHasSegments, is_spawn, is_lower, left, and_parts, segments_for, Frame}
+use Rattle.jamboree_core.proofs.Common.{◌≡◌, ◌≢◌, ℕ, false, not, ◌&&◌, List, [], Some, None, Ok, refl, ◌≤◌, arith, not-false, frame_at, Tenant, Outcome, is_run_by, act_by_sight, advance_tests, ◌==◌, run-free, IsShaped, F, Leaf, LeafAnswer, jamboree, StepOf, Advance, FrameId, lone_step, TenantSearches, Submit, cells_of, root_words, padded, NoNodes, lone_refusal, frame_size, ltb-false, or_parts, HasNodes, HasNodesToo, StillHasNodes, Cost, IsEnough, enough_nodes, root_cost, still_opens, found-own, inl, inr, cases_Bool, ne_eqb, common_steps, ◌⊎◌, Bool, true, ◌∷◌, ◌++◌, Option, length, ap, ◌∙◌, ◌+◌, tree-rising, replicate, with_frame_words, Neither, new_frame, is_outside, advanced, then_done, counted, holding, stored, grown, is_bad_act, has_child, LeftShaped, LeftFits, TenantFits, step-shaped, step-fits, Lists, Refusal, Act, Continuation, Grow, Spawn, Wait, AreFitting, IsRoot, board, frame_of, next_act, inlet_act, accepts, le-ltb, leb-true, nat_lt, length-padded, length-stored, is_bad_then, charged_for, charge, weight_in, IsStillPaid, charged-with_frame_words, charged-append, charged-one, with_frame_words-twice, AllPass, formed-told, StandsUnder, frame_after, next-goes, inlet-stores, answer-good, answered_frame, Size, IsRoomy, enough_segments, root_weight, HasSegments, Cell, Result, Err, false≢true, eq-eqb, NoTenant, Admit, ReserveOf, parent_of, State, Running, is_returned, has-returned, Spend, NotSpent, IsJournalOf, AreSearches, origins_of, is_spendable, lone, IsSearch, submits, or_from, is_run, applies, act_tests, is_bad_inlet, board_nodes, board_segments, FindsEnough, EachFindsEnough, FindsRoom, EachFindsRoom, HasSegmentsToo, StillHasSegments, is_spawn, is_lower, left, and_parts, segments_for, Frame}
 use Rattle.jamboree_core.proofs.Weights.{step-room, node-paid, nearest_words, Pays, UsesUp}
 use Rattle.jamboree_core.proofs.Needs.{search-uses}
 use Rattle.jamboree_core.proofs.Possible.{frame-none-by, act-good, inlet-good}
@@ -211,45 +211,56 @@ module _ (grain : ℕ) {journal : List (StepOf LeafAnswer)} {tenant : Tenant} (i
     pub spend-refused : (tenant_number : ℕ) → lone_refusal {A = LeafAnswer} (jamboree grain) (Some tenant) (Spend (record { tenant = tenant_number; serial = s })) ≡ Some NotSpent
     spend-refused tenant_number = rw (at, not-spendable) refl
 
--- A tenant that has enough for each search that it asks for has it after each step.
+-- A tenant that has the nodes and the segments for each search that it asks for has them after each step.
 
-module _ (grain : ℕ) {cost : Cost} {size : Size} (enough : IsEnough grain cost) (roomy : IsRoomy grain size)
-    (nodes : (depth : ℕ) (b : List Cell) → enough_nodes cost depth b ≤ board_nodes depth grain b)
-    (segments : (depth : ℕ) (b : List Cell) → enough_segments size depth b ≤ board_segments depth grain b) where
-  has-too : (tenant : Tenant) (step : StepOf LeafAnswer) → IsShaped tenant → IsSearch step → FindsEnough grain (Some tenant) step → HasNodesToo cost tenant step × HasSegmentsToo size tenant step
-  has-too tenant (Submit number words frame) fit asks finds =
-      let has = rw asks.0.are at finds in
-      let of_nodes = nodes asks.0.depth (cells_of asks.0.own asks.0.opp) in
-      let of_segments = segments asks.0.depth (cells_of asks.0.own asks.0.opp) in
-      rw asks.0.are (
-        (begins cost tenant fit has.idle number asks.0.own asks.0.opp asks.0.depth (omega (arith, of_nodes, has.nodes))).1,
-        (segments-begin size tenant fit has.idle number asks.0.own asks.0.opp asks.0.depth (omega (arith, of_segments, has.segments))).1,
-      )
-  has-too tenant _ fit asks finds = (tt, tt)
-
-  abbrev HasOn : List (List ℕ) → Option Tenant → Type 0
+module _ (grain : ℕ) {cost : Cost} {size : Size} (enough : IsEnough grain cost) (roomy : IsRoomy grain size) where
+  abbrev pub HasOn : List (List ℕ) → Option Tenant → Type 0
   HasOn origins tenant = FitsOn AreFitting origins tenant × (StillHasNodes cost tenant × StillHasSegments size tenant)
 
   has-begun : (step : StepOf LeafAnswer) (outcome : Outcome Leaf) → lone (jamboree grain) None step ≡ Ok outcome → StillHasNodes cost outcome.0 × StillHasSegments size outcome.0
   has-begun (Admit number quota) outcome is = grind arith
   has-begun _ outcome is = (let no : ◌≡◌ {A = Result (Outcome Leaf) Refusal} (Err NoTenant) (Ok outcome) = is in absurd cc)
 
-  has-on : (origins : List (List ℕ)) (before : Option Tenant) (step : StepOf LeafAnswer) (outcome : Outcome Leaf) → IsSearch step × FindsEnough grain before step → lone (jamboree grain) before step ≡ Ok outcome →
-      (before ≡ None → origins ≡ []) → HasOn origins before → HasOn (origins ++ submits step) outcome.0
-  has-on origins None step outcome meets is none has = (fits-on grain AreFitting (lawful grain) search-fits outcome origins None step meets.0 is none has.0, has-begun step outcome is)
-  has-on origins (Some tenant) step outcome meets is none has =
-      let too = has-too tenant step has.0.0 meets.0 meets.1 in (
-        fits-on grain AreFitting (lawful grain) search-fits outcome origins (Some tenant) step meets.0 is none has.0,
-        (
-          step-room (search-uses grain cost enough) has.0.0 has.0.1 more-nodes has.1.0 step outcome too.0 is,
-          step-room (roots-use grain size) has.0.0 has.0.1 more-segments has.1.1 step outcome too.1 is,
-        ),
-      )
+  pub has-on : (origins : List (List ℕ)) (before : Option Tenant) (step : StepOf LeafAnswer) (outcome : Outcome Leaf) → IsSearch step → FindsRoom cost size before step →
+      lone (jamboree grain) before step ≡ Ok outcome → (before ≡ None → origins ≡ []) → HasOn origins before → HasOn (origins ++ submits step) outcome.0
+  has-on origins None step outcome search finds is none has = (fits-on grain AreFitting (lawful grain) search-fits outcome origins None step search is none has.0, has-begun step outcome is)
+  has-on origins (Some tenant) step outcome search finds is none has = (
+    fits-on grain AreFitting (lawful grain) search-fits outcome origins (Some tenant) step search is none has.0,
+    (
+      step-room (search-uses grain cost enough) has.0.0 has.0.1 more-nodes has.1.0 step outcome finds.0 is,
+      step-room (roots-use grain size) has.0.0 has.0.1 more-segments has.1.1 step outcome finds.1 is,
+    ),
+  )
 
-  pub asks-refused : (journal : List (StepOf LeafAnswer)) (tenant : Tenant) → IsJournalOf (jamboree grain) journal tenant → AreSearches journal → EachFindsEnough grain None journal →
-      (number serial : ℕ) (frame : F) → frame_at tenant.frames serial ≡ Some frame →
-      lone_refusal {A = LeafAnswer} (jamboree grain) (Some tenant) (Spend (record { tenant = number; serial = serial })) ≡ Some NotSpent
-  asks-refused journal tenant is searches each number serial frame at =
-      let has = all-lasts grain (λ before steps. AreSearches steps × EachFindsEnough grain before steps) (λ before step. IsSearch step × FindsEnough grain before step)
-      (λ before step steps both. ((both.0.0, both.1.0), (both.0.1, both.1.1))) HasOn has-on ((tt, tt), (tt, tt)) journal tenant is (searches, each) in
-      spend-refused grain is searches enough roomy has.1.0 has.1.1 serial frame at number
+  -- of a journal, each Submit of which finds them
+  module _ (journal : List (StepOf LeafAnswer)) (tenant : Tenant) (is : IsJournalOf (jamboree grain) journal tenant) (searches : AreSearches journal) (number serial : ℕ) (frame : F)
+      (at : frame_at tenant.frames serial ≡ Some frame) where
+    pub rooms-refused : EachFindsRoom grain cost size None journal → lone_refusal {A = LeafAnswer} (jamboree grain) (Some tenant) (Spend (record { tenant = number; serial = serial })) ≡ Some NotSpent
+    rooms-refused each =
+        let has = all-lasts grain (λ origins before steps. AreSearches steps × EachFindsRoom grain cost size before steps) (λ origins before step. IsSearch step × FindsRoom cost size before step)
+        (λ origins before step steps both. ((both.0.0, both.1.0), (both.0.1, both.1.1))) HasOn (λ origins before step outcome meets. has-on origins before step outcome meets.0 meets.1)
+        ((tt, tt), (tt, tt)) journal tenant is (searches, each) in
+        spend-refused grain is searches enough roomy has.1.0 has.1.1 serial frame at number
+
+    module _ (nodes : (depth : ℕ) (b : List Cell) → enough_nodes cost depth b ≤ board_nodes depth grain b)
+        (segments : (depth : ℕ) (b : List Cell) → enough_segments size depth b ≤ board_segments depth grain b) where
+      -- one that has enough left for it, and no other search, has them
+      enough-finds : (before : Option Tenant) (step : StepOf LeafAnswer) → LeftShaped before → IsSearch step → FindsEnough grain before step → FindsRoom cost size before step
+      enough-finds None step fit asks finds = tt
+      enough-finds (Some owner) (Submit number words frame) fit asks finds =
+          let has = rw asks.0.are at finds in
+          let of_nodes = nodes asks.0.depth (cells_of asks.0.own asks.0.opp) in
+          let of_segments = segments asks.0.depth (cells_of asks.0.own asks.0.opp) in
+          rw asks.0.are (
+            (begins cost owner fit has.idle number asks.0.own asks.0.opp asks.0.depth (omega (arith, of_nodes, has.nodes))).1,
+            (segments-begin size owner fit has.idle number asks.0.own asks.0.opp asks.0.depth (omega (arith, of_segments, has.segments))).1,
+          )
+      enough-finds (Some owner) _ fit asks finds = (tt, tt)
+
+      pub asks-refused : EachFindsEnough grain None journal → lone_refusal {A = LeafAnswer} (jamboree grain) (Some tenant) (Spend (record { tenant = number; serial = serial })) ≡ Some NotSpent
+      asks-refused each =
+          let has = all-lasts grain (λ origins before steps. AreSearches steps × EachFindsEnough grain before steps) (λ origins before step. IsSearch step × FindsEnough grain before step)
+          (λ origins before step steps both. ((both.0.0, both.1.0), (both.0.1, both.1.1))) HasOn
+          (λ origins before step outcome meets came none has. has-on origins before step outcome meets.0 (enough-finds before step has.0.0 meets.0 meets.1) came none has)
+          ((tt, tt), (tt, tt)) journal tenant is (searches, each) in
+          spend-refused grain is searches enough roomy has.1.0 has.1.1 serial frame at number

@@ -13,3 +13,4 @@ pub mod Needs
 pub mod Turns
 pub mod Sizes
 pub mod Enough
+pub mod Sums

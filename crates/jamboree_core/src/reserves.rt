@@ -1,15 +1,22 @@
 //! What a tenant of searches reserved suffices, whatever the order of steps: laws.
-ghost use Rattle.std.specs.Prelude.{◌≡◌, ◌≢◌, ℕ, ◌≤◌, List, [], None, Some, Ok};
+ghost use Rattle.std.specs.Prelude.{◌≡◌, ◌≢◌, ℕ, ◌≤◌, List, [], None, Some, Result, Ok, Err};
 ghost use Rattle.othello_board.specs.declared.cells.Cell.{Cell};
 ghost use Rattle.othello_board.specs.Words.{cells_of};
 ghost use Rattle.frame_table.specs.declared.names.FrameId.{FrameId};
 ghost use Rattle.frame_table.specs.Frames.{Frame, frame_at};
+ghost use Rattle.tenant_quota.specs.Reserves.{ReserveOf};
+ghost use Rattle.sched_rules.specs.declared.refusal.Refusal.{Refusal};
 ghost use Rattle.sched_rules.specs.declared.refusal.Refusal.TheVariants.{NoNodes, NotSpent};
+ghost use Rattle.sched_rules.specs.declared.step.DidOf.{DidOf};
 ghost use Rattle.sched_rules.specs.declared.step.StepOf.{StepOf};
 ghost use Rattle.sched_rules.specs.declared.step.StepOf.TheVariants.{Advance, Spend, Submit};
 ghost use Rattle.sched_rules.specs.Trees.{Tenant, left};
 ghost use Rattle.sched_rules.specs.Lone.{Outcome, lone_step, lone_refusal};
+ghost use Rattle.sched_rules.specs.Runs.{only};
+ghost use Rattle.sched_rules.specs.Cores.{shared_by_nobody, tenant_in};
+ghost use Rattle.sched_rules.specs.Headline.{IsAnswerTo, AreAnswersTo, after_answers, taken_steps};
 ghost use Rattle.sched_laws.specs.Shapes.{IsShaped};
+ghost use Rattle.sched_laws.specs.Fitted.{origins_of};
 ghost use Rattle.jamboree_core.specs.Paces.{HasSteps};
 ghost use Rattle.jamboree_rules.specs.declared.leaf.Leaf.{Leaf};
 ghost use Rattle.jamboree_rules.specs.declared.leaf.LeafAnswer.{LeafAnswer};
@@ -20,6 +27,7 @@ ghost use Rattle.jamboree_core.specs.Replies.{AreSearches};
 ghost use Rattle.jamboree_core.specs.Searching.{TenantSearches};
 ghost use Rattle.jamboree_core.specs.Sizes.{HasSegments, HasSegmentsToo, IsRoomy, Size, StillHasSegments, enough_segments};
 ghost use Rattle.jamboree_core.specs.Enough.{EachFindsEnough, board_nodes, board_segments, sufficing_nodes, search_nodes, search_segments, sufficing_segments, spawning_plies};
+ghost use Rattle.jamboree_core.specs.Sums.{HasSums, EachFindsSums, EachFindsRoom};
 ghost use Rattle.jamboree_core.specs.Turns.{extra_turns};
 ghost use Rattle.jamboree_core.specs.Needs.{Cost, HasNodes, HasNodesToo, IsEnough, StillHasNodes, enough_nodes};
 
@@ -80,7 +88,7 @@ pub fn positions_suffice()
 /// its position, depth and grain. Then in whatever order its steps come none of its jobs can be spent: `Spend` of any of
 /// its frames is refused (`never`). For no position it is more than for 64 empty squares and 56 choices (`any`), and so
 /// two plies above the grain no more than 12,545 nodes and 3,478 segments (`two_plies`). Who has several that live needs
-/// their sums (`nodes_reserved_suffice`, `segments_reserved_suffice`).
+/// their sums (`who_asks_within_its_sums_is_never_spent`).
 pub fn who_asks_with_enough_is_never_spent()
     ensures never { (grain : ℕ) (journal : List (StepOf LeafAnswer)) (tenant : Tenant) (number serial : ℕ) (frame : Frame (List ℕ)) →
         IsJournalOf (jamboree grain) journal tenant → AreSearches journal → EachFindsEnough grain None journal → frame_at tenant.frames serial ≡ Some frame →
@@ -88,6 +96,30 @@ pub fn who_asks_with_enough_is_never_spent()
     ensures any { (depth grain : ℕ) (b : List Cell) →
         (board_nodes depth grain b ≤ search_nodes 56 64 (spawning_plies depth grain)) × (board_segments depth grain b ≤ search_segments 56 64 (spawning_plies depth grain)) }
     ensures two_plies { (search_nodes 56 64 2 ≡ 12545) × (search_segments 56 64 2 ≡ 3478) }
+{}
+
+/// A tenant of searches, several of which may live at once, with the nodes that suffice for all that it asked for, and the
+/// segments that suffice for those that live, within its reservation (`HasSums`): none of its jobs can be spent then,
+/// `Spend` of any of its frames is refused (`sums`); and so it is, among whatever tenants with whatever steps, in a core
+/// (`beside`). In whatever order its steps come none of its jobs can ever be spent where each Submit finds these sums, with
+/// its own, within the reservation (`asks`), or where, by a cost and a size that suffice, each finds the nodes and the
+/// segments for its root and all under it (`rooms`).
+pub fn who_asks_within_its_sums_is_never_spent()
+    ensures sums { (grain : ℕ) (journal : List (StepOf LeafAnswer)) (tenant : Tenant) (number serial : ℕ) (frame : Frame (List ℕ)) →
+        IsJournalOf (jamboree grain) journal tenant → AreSearches journal → HasSums grain (origins_of journal) tenant → frame_at tenant.frames serial ≡ Some frame →
+        lone_refusal {A = LeafAnswer} (jamboree grain) (Some tenant) (Spend (record { tenant = number; serial = serial })) ≡ Some NotSpent }
+    ensures beside { (grain : ℕ) (totals : ReserveOf) (steps : List (StepOf LeafAnswer)) (answers : List (Result (DidOf Leaf) Refusal)) (number serial : ℕ) (tenant : Tenant) (frame : Frame (List ℕ)) (answer : Result (DidOf Leaf) Refusal) →
+        AreAnswersTo (jamboree grain) (shared_by_nobody totals) steps answers → AreSearches (only number (taken_steps steps answers)) →
+        tenant_in (after_answers (jamboree grain) (shared_by_nobody totals) steps answers).tenants number ≡ Some tenant →
+        HasSums grain (origins_of (only number (taken_steps steps answers))) tenant → frame_at tenant.frames serial ≡ Some frame →
+        IsAnswerTo (jamboree grain) (after_answers (jamboree grain) (shared_by_nobody totals) steps answers) (Spend (record { tenant = number; serial = serial })) answer → answer ≡ Err NotSpent }
+    ensures asks { (grain : ℕ) (journal : List (StepOf LeafAnswer)) (tenant : Tenant) (number serial : ℕ) (frame : Frame (List ℕ)) →
+        IsJournalOf (jamboree grain) journal tenant → AreSearches journal → EachFindsSums grain [] None journal → frame_at tenant.frames serial ≡ Some frame →
+        lone_refusal {A = LeafAnswer} (jamboree grain) (Some tenant) (Spend (record { tenant = number; serial = serial })) ≡ Some NotSpent }
+    ensures rooms { (grain : ℕ) (cost : Cost) (size : Size) (journal : List (StepOf LeafAnswer)) (tenant : Tenant) (number serial : ℕ) (frame : Frame (List ℕ)) →
+        IsEnough grain cost → IsRoomy grain size → IsJournalOf (jamboree grain) journal tenant → AreSearches journal → EachFindsRoom grain cost size None journal →
+        frame_at tenant.frames serial ≡ Some frame →
+        lone_refusal {A = LeafAnswer} (jamboree grain) (Some tenant) (Spend (record { tenant = number; serial = serial })) ≡ Some NotSpent }
 {}
 
 /// What suffices, computed. With 56 choices and one ply that opens frames; with one choice: the frame, one more as it may

@@ -5,7 +5,7 @@ use Rattle.jamboree_core.proofs.NeverSpent.{asks-refused}
 use Rattle.jamboree_core.proofs.reserves.who_asks_with_enough_is_never_spent.Goals as goal
 
 pub returns-clause-never : goal.returns-clause-never
-returns-clause-never c grain journal tenant number serial frame is searches each at = asks-refused grain (positions-enough grain) (positions-roomy grain) (root-nodes grain) (root-segments grain) journal tenant is searches each number serial frame at
+returns-clause-never c grain journal tenant number serial frame is searches each at = asks-refused grain (positions-enough grain) (positions-roomy grain) journal tenant is searches number serial frame at (root-nodes grain) (root-segments grain) each
 
 pub returns-clause-any : goal.returns-clause-any
 returns-clause-any c depth grain b = (any-nodes grain depth b, any-segments grain depth b)
