@@ -9,3 +9,8 @@ pub mod FitAnswers
 pub mod Spending
 pub mod Sums
 pub mod Latest
+pub mod Waits
+pub mod WaitSteps
+pub mod NumbersApart
+pub mod GoingOn
+pub mod NotStuck

@@ -20,7 +20,7 @@ module _ (tree : Tree) (s : ℕ) where
   has_child-length other e = ap (λ (n : ℕ). ltb 0 n) e
 
 -- another state, and other words in a frame, change nobody's children
-has_child-with_state : (n : ℕ) (tree : Tree) (state : State) (s : ℕ) → IsTree tree → has_child (with_state n state tree) s ≡ has_child tree s
+pub has_child-with_state : (n : ℕ) (tree : Tree) (state : State) (s : ℕ) → IsTree tree → has_child (with_state n state tree) s ≡ has_child tree s
 has_child-with_state n tree state s t = grind (arith, has_child-length, children_of-with_state, state-length)
 
 pub has_child-with_frame_words : (n : ℕ) (words : List ℕ) (tree : Tree) (s : ℕ) → IsTree tree → has_child (with_frame_words n words tree) s ≡ has_child tree s

@@ -3,3 +3,4 @@ pub mod Fitted
 pub mod Spends
 pub mod Newest
 pub mod Ended
+pub mod Onward

@@ -31,6 +31,7 @@
 #![tactic(auto)]
 
 pub mod laws;
+pub mod onward;
 pub mod runs;
 pub mod spends;
 pub mod totals;
