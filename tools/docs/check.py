@@ -361,6 +361,12 @@ def proved_faults():
                 yield f"docs/PROVED.md: {name} is no public contract of {crate}"
 
 
+def gate_faults():
+    """What the gate doesn't call, of what sees that this check tells (which sees that the gate calls this one)."""
+    if not re.search(r"^one tools/docs/weakenings\.py --few\b", (TOP / "gate").read_text(), re.M):
+        yield "gate: doesn't call tools/docs/weakenings.py --few"
+
+
 def documents():
     found = [TOP / "README.md", TOP / "CONTRIBUTING.md", TOP / "CHANGELOG.md", TOP / "SECURITY.md", TOP / "clients/README.md", TOP / "tools/README.md", *sorted((TOP / "docs").glob("*.md")), *BY_HAND]
     return [path for path in found if path.exists()]
@@ -408,7 +414,7 @@ def main():
     if not words:
         others = [TOP / name for name in files if name.endswith(".md") and not name.startswith("docs/") and TOP / name not in documents()]
         linked = [f"{other.relative_to(TOP)}: {fault}" for other in others for fault in link_faults(other, other.read_text())]
-        for fault in sorted({*head_faults(files, names), *name_faults(files), *lemma_faults(files), *proved_faults(), *linked, *version_faults(), *bodies.faults()}):
+        for fault in sorted({*head_faults(files, names), *name_faults(files), *lemma_faults(files), *proved_faults(), *linked, *version_faults(), *bodies.faults(), *gate_faults()}):
             print(fault)
             bad += 1
         bad += promises.told(promises.made())

@@ -7,7 +7,7 @@ By rule, with a fixed seed, from the tree as it stands: clauses, conjuncts, case
 becomes `≤`, numbers grow, names are imported as others, constants and re-exports change; of public and private statements of all crates.
 Or a statement is left to these scripts and hidden from the prover, by what it reads otherwise. At most one place of a crate is weakened at once. Each must change a sum of the crate in docs/promises/contracts.md (of a public one the first),
 and `promises.py since` must print the words that went and those that came, under the crate's name. What says the same (a comment, a
-body, an attribute, an import that no statement uses) must change nothing there. `--few` takes one place of each crate; `--list` prints each.
+body, an attribute, an import that no statement uses) must change nothing there. Last `./gate` of the copy must end at a weakening. `--few` takes one place of each crate; `--list` prints each.
 """
 import collections
 import contextlib
@@ -25,6 +25,7 @@ import tempfile
 
 import promises
 import sums
+from check import tracked
 from statements import CLAUSE_HEAD, NAME, TOP, Code, blanked, sources
 
 OF_A_KIND = 4  # weakenings of each kind at most, public and private ones apart
@@ -289,13 +290,10 @@ def words_of(text, path):
 
 
 def copied(folder):
-    """Copies all that the check of statements reads."""
-    for path in sorted(TOP.glob("crates/*/*")):
-        if path.name in ("src", "specs"):
-            shutil.copytree(path, folder / path.relative_to(TOP))
-    for name in ("tools/docs", "docs/promises"):
-        shutil.copytree(TOP / name, folder / name, ignore=shutil.ignore_patterns("__pycache__"))
-    shutil.copy(TOP / "crates.txt", folder)
+    """Copies the tree."""
+    for name in tracked():
+        (folder / name).parent.mkdir(parents=True, exist_ok=True)
+        shutil.copy(TOP / name, folder / name)
     for words in (["init", "-q"], ["add", "-A"], ["-c", "user.name=copy", "-c", "user.email=copy", "commit", "-q", "-m", "As it is"]):
         subprocess.run(["git", "-C", folder, *words], check=True, capture_output=True)
 
@@ -383,6 +381,15 @@ def same(top, draw):
             yield Weakening(crate, str(path.relative_to(top)), f"same: {rule}", True, *edit)
 
 
+def gate_fault(one):
+    """What is wrong where the gate of this copy doesn't end at a weakening, which `check.py` has told."""
+    (TOP / one.path).write_text(one.applied((TOP / one.path).read_text()))
+    (TOP / "tools/docs/weakenings.py").write_text("#!/bin/sh\nkill $PPID\n")  # (what the gate calls next, where the check told nothing)
+    gate = subprocess.run([TOP / "gate", "--quick"], capture_output=True, text=True, check=False)
+    if gate.returncode != 1 or one.crate not in sums_told(gate.stdout) or not gate.stdout.endswith("\n0 passed, 1 failed\n"):
+        yield f"./gate doesn't end at the check of documents where a statement of {one.crate} is weakened: its call is gone, or what it does"
+
+
 def try_all(words):
     """Puts each weakening in, where this is the copy. Returns how many faults there are."""
     is_bad, told = printed(lambda: promises.told(promises.made()))
@@ -408,6 +415,9 @@ def try_all(words):
     for crate in sorted({*sums_told(check), *said_of(since)}):
         bad += 1
         print(f"FAULT: what says the same is told as a change: {next(one for one in controls if one.crate == crate)}")
+    for fault in gate_fault(next(one for one in groups[0] if not one.kind.startswith("hidden"))):
+        bad += 1
+        print(f"FAULT: {fault}")
     count, public = sum(kinds.values()), sum(number for (_, is_public), number in kinds.items() if is_public)
     if "--few" not in words and (count < LEAST or len({kind for kind, _ in kinds}) < LEAST_KINDS):
         bad += 1
