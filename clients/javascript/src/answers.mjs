@@ -25,11 +25,39 @@ function formOf([word, A, B], jobs) {
   return new RegExp(`^(${FORMS[word].replace(/\b[A-Z]\b/g, (sign) => signs[sign])})$`);
 }
 
+const JOB = /^(GET|WAIT|TABLE) ([1-9][0-9]{0,7})$/; // a line whose answer is mostly one of the next two
+const DONE = new RegExp(`^DONE ([1-9][0-9]{0,7}) ${SIGNS.V} (${SIGNS.P}|-)$`);
+const TABLE = new RegExp(`^TABLE ([1-9][0-9]{0,7})((?: ${SIGNS.P}[=<>]${SIGNS.V})+)$`);
+
+/** The same as `parse` of what comes most; null of all else. */
+function quick(line, text, jobs) {
+  if (text === `JOB ${jobs + 1}`) return line.startsWith("ASK ") ? { state: "JOB", numbers: [jobs + 1], value: 0, move: "", entries: [], more: "" } : null;
+  const asked = JOB.exec(line), found = asked && (asked[1] === "TABLE" ? TABLE : DONE).exec(text);
+  if (!found || found[1] !== asked[2] || text.length >= LONGEST) return null;
+  const numbers = [Number(found[1])];
+  if (asked[1] !== "TABLE") {
+    const value = Number(found[2]);
+    return Math.abs(value) <= GREATEST ? { state: "DONE", numbers, value, move: found[3], entries: [], more: "" } : null;
+  }
+  const entries = [], moves = new Set();
+  for (const word of found[2].slice(1).split(" ")) {
+    const at = word.startsWith("pass") ? 4 : 2, value = Number(word.slice(at + 1));
+    if (Math.abs(value) > GREATEST) return null;
+    entries.push([word.slice(0, at), word[at], value]);
+    moves.add(word.slice(0, at));
+  }
+  return moves.size === entries.length ? { state: "TABLE", numbers, value: 0, move: "", entries, more: "" } : null;
+}
+
 /**
  * The answer to a line (both without LF), where so many jobs were asked before: { state, numbers (a job's first), value, move, entries,
  * more }. Throws Refused where it is an ERR, and Broken where it is none to that line.
  */
 export function parse(line, text, jobs = 0) {
+  return quick(line, text, jobs) ?? parseAny(line, text, jobs);
+}
+
+function parseAny(line, text, jobs) {
   const [state, ...told] = text.split(" ");
   if (/^ERR [1-9][0-9]$/.test(text)) throw new Refused(Number(told[0]));
   const value = state === "DONE" ? Number(told[1]) : 0;

@@ -6,6 +6,7 @@ import { dial, textIn } from "./socket.mjs";
 
 export const HOST = "127.0.0.1";
 export const PORT = 4711;
+const REST = 2; // milliseconds in which answers that still come aren't read
 const LIMITS = { sessions: [1, 64], ahead: [1, 256], segments: [1, 4096], nodes: [1, 65536], port: [1, 65535], silence: [1, 1e9],
   patience: [0, 1e9], outage: [0, 1e9], timeout: [1, 1e9], host: null, secure: null, token: null, dial: null };
 
@@ -27,6 +28,8 @@ export class ClientEvent extends Event {
  */
 export class Client extends Analyst {
   #core; #links = new Map(); #open; #timeout; #sessions; #address; #timer; #waiting = 0; #closed = []; // calls that wait, and those of `close`
+  #timerAt = Infinity; // when the core is to be told that time has passed
+  #resting = []; // connections that aren't read for a moment
 
   constructor(options = {}) {
     super();
@@ -87,8 +90,18 @@ export class Client extends Analyst {
   #act(step) {
     step(performance.now());
     for (let todo = this.#core.take(); todo.length; todo = this.#core.take()) for (const [what, ...words] of todo) this[`_${what}`](...words);
-    clearTimeout(this.#timer);
-    if (this.#core.next < Infinity) this.#timer = setTimeout(() => this.#act((now) => this.#core.passed(now)), Math.max(this.#core.next - performance.now(), 0));
+    if (this.#core.next < this.#timerAt) {
+      clearTimeout(this.#timer);
+      this.#timerAt = this.#core.next;
+      this.#timer = setTimeout(() => {
+        this.#timerAt = Infinity;
+        this.#act((now) => this.#core.passed(now));
+      }, Math.max(this.#core.next - performance.now(), 0));
+    }
+    if (this.#core.next === Infinity) { // nothing keeps a program alive that forgets to close it
+      clearTimeout(this.#timer);
+      this.#timerAt = Infinity;
+    }
     if (this.#core.isEmpty) for (const resolve of this.#closed.splice(0)) resolve();
     const isHeld = this.#waiting > 0 || this.#closed.length > 0; // a program that leaves idle sessions open ends all the same
     for (const link of this.#links.values()) link.hold?.(isHeld);
@@ -97,10 +110,24 @@ export class Client extends Analyst {
   _open(seat) {
     this.#links.set(seat, this.#open({
       opened: () => this.#act((now) => this.#core.opened(seat, now)),
-      received: (bytes) => this.#act((now) => this.#core.received(seat, bytes, now)),
+      received: (bytes) => {
+        this.#act((now) => this.#core.received(seat, bytes, now));
+        if (this.#core.hasMuch(seat)) this.#rest(this.#links.get(seat));
+      },
       lost: (why, isFinal) => this.#act((now) => this.#core.lost(seat, new Broken(why), now, isFinal)),
     }));
   }
+
+  /** Answers that still come are read a moment later, and many at once: each reading costs more than an answer. */
+  #rest(link) {
+    if (!link?.pause) return;
+    link.pause();
+    if (!this.#resting.length) {
+      setTimeout(() => { for (const one of this.#resting.splice(0)) one.resume(); }, REST);
+    }
+    this.#resting.push(link);
+  }
+
   _send(seat, bytes) { this.#links.get(seat)?.send(bytes); }
   _close(seat) {
     this.#links.get(seat)?.close();

@@ -12,6 +12,10 @@ const PROBED = { INFO: [21], ASK: USED_UP }; // what the lines of a probe may be
 const RETRY = 100; // before a server is asked again
 const GRACE = 200; // for so long the answer to a line may still come where a job's time is over
 const LOSSES = 4; // a question isn't asked again once so many sessions were lost with it
+// Where many wait, and jobs are quick, a session says the lines of many questions at once (`Seat.flight`).
+const [MOST_FLYING, LEAST_FLYING] = [32, 8]; // how many, and how many have to wait for each session
+const FLIGHT = 500; // milliseconds that they may take, by what the last jobs of their depth took
+const [SLOW, FORGETS] = [1000, 0.7]; // of a depth whose jobs weren't quick; a quick one counts for less by and by
 // What is reserved where nobody says it: by the first session, and at most; between them RESERVE raises.
 const LEVELS = [{ segments: 256, nodes: 8192 }, { segments: 1024, nodes: 65536 }];
 const RAISED = [{ segments: 512, nodes: 16384 }, { segments: 1024, nodes: 32768 }, LEVELS[1]];
@@ -52,33 +56,54 @@ function* probe() {
   return [grain, null];
 }
 
-/** A session, from its opening to its end, of whose lines one at most isn't answered. */
+/** A session, from its opening to its end. */
 class Seat {
-  asked = null; // what isn't answered: { line, word, question }
-  #rest = ""; // what came of its answer
+  lines = []; // what isn't answered, in order: { line, word, question, isAhead }
+  #rest = ""; // what came of an answer
   jobs = 0; // that were asked
   running = new Set(); // the questions that it has, the oldest first
+  flight = new Set(); // of these, those whose lines are said ahead
+  begun = []; // of these, those whose ASK was said and nothing more yet
   isReady = false; // it has been welcomed
   isRetired = false; // it takes no more
+  isCareful = false; // what was said ahead was refused: the next question is asked alone
   freeAt = 0; // before it asks nothing
   constructor(level, reserved, silence, now, probe) {
-    Object.assign(this, { level, reserved, silence, begun: now, deadline: now + silence, probe, line: probe?.next().value });
+    Object.assign(this, { level, reserved, silence, begunAt: now, deadline: now + silence, probe, line: probe?.next().value });
   }
+  /** What is to be answered next. */
+  get asked() { return this.lines[0] ?? null; }
   get isIdle() { return this.isReady && !this.asked && !this.running.size; }
   /** When it is to be looked at. */
-  get times() { return [this.deadline, this.freeAt, ...[...this.running].flatMap(({ until, limit, pollAt }) => [until, limit, pollAt])]; }
+  get times() {
+    if (this.flight.size) return [this.deadline, this.until];
+    return [this.deadline, this.freeAt, ...[...this.running].flatMap(({ until, limit, pollAt }) => [until, limit, pollAt])];
+  }
+  /** When the first of a flight may be late. */
+  until = Infinity;
 
-  /** The answer to its line; null while that has no end. Refused where it is an ERR, Broken where it is no answer. */
-  receive(bytes) {
-    const [text, ...behind] = (this.#rest + bytes).split("\n");
-    const rest = behind.join(" ");
-    if (!this.asked || rest) throw new Broken(`the server said ${JSON.stringify((rest || text).slice(0, 60))}, which wasn't asked`);
-    if (text.length >= LONGEST) throw new Broken(`an answer has more than ${LONGEST} bytes`);
-    this.#rest = behind.length ? "" : text;
-    if (!behind.length) return null;
-    const answer = parse(this.asked.line, text, this.jobs);
-    if (answer.state === "JOB") this.jobs += 1;
-    return answer;
+  /** The answers that are whole, each with its line: { asked, answer, refusal }. Throws Broken where what came is no answer. */
+  * receive(bytes) {
+    const texts = (this.#rest + bytes).split("\n");
+    this.#rest = texts.pop();
+    for (const [at, text] of texts.entries()) {
+      if (this.lines.length < 2) this.#checkEnd([...texts.slice(at + this.lines.length), this.#rest].join(" "), !this.asked);
+      let [answer, refusal] = [null, null];
+      try {
+        answer = parse(this.asked.line, text, this.jobs);
+      } catch (fault) {
+        if (!(fault instanceof Refused)) throw fault;
+        refusal = fault;
+      }
+      if (answer?.state === "JOB") this.jobs += 1;
+      yield { asked: this.lines.shift(), answer, refusal };
+    }
+    if (!this.asked) this.#checkEnd(this.#rest);
+    if (this.#rest.length >= LONGEST) throw new Broken(`an answer has more than ${LONGEST} bytes`);
+  }
+
+  #checkEnd(unasked, isNone = false) {
+    if (unasked || isNone) throw new Broken(`the server said ${JSON.stringify(unasked.slice(0, 60))}, which wasn't asked`);
   }
 }
 
@@ -91,12 +116,13 @@ class Seat {
  */
 export class Core {
   next = Infinity; // when `passed` is to be called, if nothing comes before
-  #queue = []; // questions that no session has
+  #queue = new Set(); // questions that no session has
+  #takes = new Map(); // of a depth the milliseconds that its jobs took
   #seats = new Set(); #out = []; #isEnded = false;
   #needs = new Map(); // of a depth the level that its last job needed
   #deep = []; #info = null; // questions that wait for what is known of the server's grain, and that
   #heard = null; #trouble = null; #full = null; // when the server last said anything; since when it can't be reached, or is full
-  #silences = 0; #probeLosses = 0; #wasTold = false; #retryAt = 0;
+  #silences = 0; #probeLosses = 0; #sequence = 0; #wasTold = false; #retryAt = 0;
   #most; // how many sessions there may be now
 
   constructor({ segments, nodes, token = "", sessions = 4, ahead = 1, patience = 30_000, silence = 1500, outage = 120_000 } = {}) {
@@ -110,10 +136,10 @@ export class Core {
   get isEmpty() { return !this.#seats.size; }
 
   ask(question, now) {
-    Object.assign(question, { level: 0, isAlone: false, losses: 0, isSettled: false, pollAt: Infinity, refusedAt: null });
+    Object.assign(question, { sequence: (this.#sequence += 1), level: 0, isAlone: false, hasTrouble: false, losses: 0, isSettled: false, pollAt: Infinity, refusedAt: null });
     if (this.#isEnded) this.#settle(question, { fault: closed() });
     else if (question.kind === "info") this.#tooDeep(question);
-    else this.#queue.push(question);
+    else this.#queue.add(question);
     this.#go(now);
   }
 
@@ -142,20 +168,23 @@ export class Core {
 
   received(seat, bytes, now) {
     if (!this.#seats.has(seat)) return;
-    let [answer, refusal] = [null, null];
     try {
-      answer = seat.receive(bytes);
-      if (!answer) return;
+      for (const { asked, answer, refusal } of seat.receive(bytes)) {
+        [this.#heard, this.#trouble, seat.deadline] = [now, null, seat.asked ? now + seat.silence : Infinity];
+        if (asked.isAhead) this.#landed(seat, asked, answer, refusal, now);
+        else if (seat.probe && asked.word !== "HELLO" && asked.word !== "BYE") this.#probed(seat, asked.word, answer, refusal, now);
+        else this[`_${asked.word}`](seat, asked.question, answer, refusal, now);
+        if (!this.#seats.has(seat)) break;
+      }
     } catch (fault) {
-      if (!(fault instanceof Refused)) return void this.lost(seat, fault, now);
-      refusal = fault;
+      if (!(fault instanceof Broken)) throw fault;
+      return void this.lost(seat, fault, now);
     }
-    const { word, question } = seat.asked;
-    [this.#heard, this.#trouble, seat.asked, seat.deadline] = [now, null, null, Infinity];
-    if (seat.probe && word !== "HELLO" && word !== "BYE") this.#probed(seat, word, answer, refusal, now);
-    else this[`_${word}`](seat, question, answer, refusal, now);
     this.#go(now);
   }
+
+  /** Whether so many answers come in a session that it needn't be read at once. */
+  hasMuch(seat) { return seat.flight.size > 0 && seat.lines.length > LEAST_FLYING; }
 
   /** A session is there no more, or can't be had: `fault` says why; `isFinal` where trying again can't mend it. */
   lost(seat, fault, now, isFinal = false) {
@@ -168,10 +197,11 @@ export class Core {
     if (seat.isReady && isSilent) this.#silences += 1;
     for (const one of this.#seats) if (one.isIdle) this.#close(one); // they may be lost too
     for (const one of again) {
+      one.hasTrouble = true;
       one.losses += isSilent ? 0 : 1;
       if (one.losses >= LOSSES || isGivenUp || one.kind === "ping") this.#settle(one, { fault: unreachable(fault) });
     }
-    this.#queue.unshift(...again.filter((one) => !one.isSettled));
+    this.#requeue(again);
     if (!seat.isReady) this.#notReached(seat, fault, now, isFinal);
     else if (seat.probe && ((this.#probeLosses += 1) >= LOSSES || isGivenUp)) this.#fail(() => unreachable(fault), this.#deep);
     this.#go(now);
@@ -180,6 +210,11 @@ export class Core {
   /** Time goes on. */
   passed(now) {
     for (const seat of this.#seats) {
+      if (seat.flight.size && (now >= seat.until || (now >= seat.deadline && seat.asked.word === "WAIT"))) {
+        seat.until = Math.min(...[...seat.flight].map(({ until }) => until));
+        if (now >= Math.min(seat.until, seat.deadline)) this.#dive(seat, now);
+        continue;
+      }
       for (const one of seat.running) if (now >= one.limit) this.#settle(one, { fault: late(one) });
       if (now >= seat.deadline) this.lost(seat, new Silent(`no ${seat.asked ? `answer to ${seat.asked.word}` : "connection"} in ${seat.silence} ms`), now);
     }
@@ -191,8 +226,15 @@ export class Core {
   #settle(question, outcome) {
     if (question.isSettled) return;
     Object.assign(question, outcome, { isSettled: true });
-    [this.#queue, this.#deep] = [this.#queue, this.#deep].map((questions) => questions.filter((one) => one !== question));
+    this.#queue.delete(question);
+    if (this.#deep.length) this.#deep = this.#deep.filter((one) => one !== question);
     this.#out.push(["settled", question]);
+  }
+
+  /** They are asked again, each in the place that it had. */
+  #requeue(questions) {
+    const again = questions.filter((one) => !one.isSettled);
+    if (again.length) this.#queue = new Set([...again, ...this.#queue].sort((one, other) => one.sequence - other.sequence));
   }
 
   /** What waits ends with a fault of its own each. */
@@ -212,7 +254,7 @@ export class Core {
   /** Nobody listens, or says a word before the welcome. It is tried again for a while; where other sessions go on, they do the work. */
   #notReached(seat, fault, now, isFinal) {
     if (this.#trouble === null && this.#heard !== null) this.#tell(fault instanceof Silent ? "silent" : "lost", fault);
-    this.#trouble ??= seat.begun;
+    this.#trouble ??= seat.begunAt;
     this.#retryAt = now + RETRY;
     if (!isFinal && (now - this.#trouble < 0.8 * this.silence || this.#isOutage(now))) return;
     if ([...this.#seats].some(({ isReady }) => isReady)) this.#most = this.#seats.size;
@@ -221,7 +263,7 @@ export class Core {
 
   /** Sends a line. A token is its last word, and stands in no fault. */
   #send(seat, line, now, question = null, token = "") {
-    seat.asked = { line, word: line.split(" ")[0], question };
+    seat.lines.push({ line, word: line.split(" ")[0], question, isAhead: false });
     seat.deadline = now + seat.silence;
     this.#out.push(["send", seat, `${line}${token && ` ${token}`}\n`]);
   }
@@ -254,7 +296,7 @@ export class Core {
     else if (!USED_UP.includes(refusal.number) || !seat.jobs) return this.#settle(question, { fault: refusal });
     else if (more) this.#send(seat, `RESERVE ${Math.max(more.segments, seat.reserved.segments)} ${more.nodes}`, now);
     else seat.isRetired = true;
-    if (!question.isSettled) this.#queue.unshift(question);
+    this.#requeue([question]);
   }
 
   _RESERVE(seat, _, answer) {
@@ -266,7 +308,7 @@ export class Core {
     if (refusal) return this.lost(seat, new Broken(refusal.message), now);
     if (answer.state === "PENDING") return void (question.pollAt = now + Math.min(Math.max((now - question.askedAt) / 4, 0.2), 20));
     if (answer.state === "DONE" && !question.isSettled) {
-      question.found = answer;
+      [question.found, question.doneAt] = [answer, now];
       return this.#send(seat, `TABLE ${question.job}`, now, question);
     }
     seat.running.delete(question);
@@ -278,6 +320,7 @@ export class Core {
     if (answer?.state !== "TABLE") return this.lost(seat, new Broken(`job ${question.job} was DONE, and has no table`), now);
     seat.running.delete(question);
     if (question.isAlone) this.#needs.set(question.depth, question.level);
+    this.#took(question.depth, question.doneAt - question.askedAt);
     this.#silences = 0;
     this.#settle(question, { found: { ...question.found, entries: answer.entries } });
   }
@@ -301,7 +344,7 @@ export class Core {
     seat.isRetired = true;
     if (question.isSettled) return;
     if (seat.jobs > 1 || seat.level < top) {
-      this.#queue.unshift(Object.assign(question, { isAlone: true, level: Math.min(Math.max(question.level, seat.level) + 1, top) }));
+      this.#requeue([Object.assign(question, { isAlone: true, level: Math.min(Math.max(question.level, seat.level) + 1, top) })]);
     } else {
       this.#needs.set(question.depth, top);
       this.#tooDeep(question);
@@ -340,17 +383,28 @@ export class Core {
 
   /** The next line of a session that waits for no answer. */
   #turn(seat, now) {
-    if (!seat.isReady || seat.asked) return;
+    if (!seat.isReady) return;
+    if (seat.flight.size) {
+      if (seat.lines.length > 1.5 * MOST_FLYING) return;
+      const share = Math.ceil(this.#queue.size / [...this.#seats].filter(({ isReady }) => isReady).length);
+      this.#fly(seat, this.#forFlight(seat, share, seat.lines.length > LEAST_FLYING ? LEAST_FLYING : 1), now);
+      return;
+    }
+    if (seat.asked) return;
     if (seat.probe) {
       if (now >= seat.freeAt) this.#send(seat, seat.line, now);
       return;
     }
     const gone = [...seat.running].find((one) => one.isSettled || now >= one.until);
     if (gone) return this.#send(seat, `CANCEL ${gone.job}`, now, gone);
-    const [next, oldest] = [this.#nextFor(seat, now), ...seat.running];
+    let [next, oldest] = [this.#nextFor(seat, now), ...seat.running];
+    const ahead = next ? this.#forFlight(seat, Math.floor(this.#queue.size / this.sessions), LEAST_FLYING) : [];
+    if (ahead.length >= LEAST_FLYING && !oldest) return this.#fly(seat, ahead, now);
+    if (ahead.length >= LEAST_FLYING) next = null; // once nothing is under way any more
     if (next) {
-      this.#queue = this.#queue.filter((one) => one !== next);
+      this.#queue.delete(next);
       seat.running.add(next);
+      seat.isCareful = false;
       const until = now + (next.timeout || Infinity);
       Object.assign(next, { askedAt: now, until, limit: until + GRACE });
       this.#send(seat, next.kind === "ping" ? "QUOTA" : `ASK ${next.depth} ${next.position}`, now, next);
@@ -370,18 +424,101 @@ export class Core {
     if (seat.isRetired || now < seat.freeAt || seat.running.size >= this.ahead || [...seat.running].some(({ isAlone }) => isAlone)) return null;
     const others = [...this.#seats].filter((one) => one !== seat && !one.probe && (!one.isReady || one.isIdle)).length; // they have nothing yet
     const places = now >= this.#retryAt ? this.#most - this.#seats.size : 0;
-    if (seat.running.size && this.#queue.length <= others + places) return null;
-    return this.#queue.find((one) => (!one.isAlone || (!seat.jobs && !seat.running.size)) && this.#hasEnough(seat, one)) ?? null;
+    if (seat.running.size && this.#queue.size <= others + places) return null;
+    for (const one of this.#queue) if ((!one.isAlone || (!seat.jobs && !seat.running.size)) && this.#hasEnough(seat, one)) return one;
+    return null;
+  }
+
+  // Lines that are said ahead: of each question ASK, WAIT and TABLE, before any of them is answered, with no more than `ahead` jobs alive. What can't be
+  // had so is asked again alone.
+
+  /** The first of those that wait that a session may ask ahead: no more than its share, as long as none has had trouble. */
+  #forFlight(seat, share, least) {
+    const takes = ({ depth }) => this.#takes.get(depth) ?? FLIGHT, found = [];
+    const unasked = [...seat.flight].filter(({ job }) => !job).length;
+    const most = Math.min(share, MOST_FLYING - seat.running.size, MOST_JOBS - seat.jobs - unasked);
+    if (most < least || seat.isCareful || seat.isRetired) return found;
+    let left = FLIGHT;
+    for (const one of seat.running) left -= takes(one);
+    for (const one of this.#queue) {
+      left -= takes(one);
+      if (found.length === most || left < 0 || one.kind !== "job" || one.isAlone || one.hasTrouble || one.timeout < SLOW || !this.#hasEnough(seat, one)) break;
+      found.push(one);
+    }
+    return found;
+  }
+
+  /** Says their lines; without any, those that are left of the ones before. */
+  #fly(seat, questions, now) {
+    const said = [];
+    const say = (question, line) => said.push({ line, word: line.slice(0, line.indexOf(" ")), question, isAhead: true });
+    const endOne = () => {
+      const question = seat.begun.shift();
+      say(question, `WAIT ${question.number}`);
+      say(question, `TABLE ${question.number}`);
+    };
+    let job = seat.jobs + seat.lines.filter(({ word }) => word === "ASK").length;
+    for (const question of questions) {
+      this.#queue.delete(question);
+      Object.assign(question, { job: 0, number: (job += 1), done: null, until: Infinity, limit: Infinity, pollAt: Infinity, askedAt: now });
+      seat.running.add(question);
+      seat.flight.add(question);
+      say(question, `ASK ${question.depth} ${question.position}`);
+      seat.begun.push(question);
+      if (seat.begun.length >= this.ahead) endOne();
+    }
+    while (seat.begun.length && (!this.#queue.size || (!questions.length && seat.lines.length <= LEAST_FLYING))) endOne();
+    if (!said.length) return;
+    seat.lines.push(...said);
+    seat.deadline = now + seat.silence;
+    this.#out.push(["send", seat, said.map(({ line }) => `${line}\n`).join("")]);
+  }
+
+  /** What the answer to a line brings that was said ahead. Where the job has another number than its lines say, as an ASK before it was refused, they mean another
+   * job: it is asked again. */
+  #landed(seat, { word, question }, answer, refusal, now) {
+    if (refusal) {
+      seat.isCareful = true;
+      if (question.job === question.number) throw new Broken(refusal.message);
+    } else if (word === "ASK") {
+      Object.assign(question, { job: seat.jobs, askedAt: now, until: now + (question.timeout || Infinity) });
+      seat.until = Math.min(seat.until, question.until);
+    } else if (question.job === question.number && word === "WAIT") {
+      Object.assign(question, { done: answer, until: Infinity });
+      this.#took(question.depth, (now - question.askedAt) / this.ahead);
+    }
+    if (word !== "TABLE") return;
+    for (const each of [seat.running, seat.flight]) each.delete(question);
+    if (!question.done) return this.#requeue([question]);
+    if (question.done.state === "SPENT") return this.#spent(seat, question);
+    if (question.done.state !== "DONE" || answer?.state !== "TABLE") throw new Broken(`job ${question.job} has no value and no table`);
+    this.#silences = 0;
+    this.#settle(question, { found: { ...question.done, entries: answer.entries } });
+  }
+
+  #took(depth, milliseconds) { this.#takes.set(depth, Math.max(milliseconds, (this.#takes.get(depth) ?? 0) * FORGETS)); }
+
+  /** A job takes long, and others are behind it: these are asked again one by one, in another session. */
+  #dive(seat, now) {
+    const [first] = seat.flight;
+    this.#takes.set(first.depth, SLOW);
+    this.#close(seat);
+    for (const one of seat.flight) if (now >= one.until) this.#settle(one, { fault: late(one) });
+    this.#requeue([...seat.flight]);
   }
 
   /** Opens the sessions that are wanted; where every place is taken, and no session can take the first that waits, one ends. */
   #staff(now) {
     const seats = [...this.#seats];
-    if (!this.#queue.length && seats.every(({ asked, running }) => !asked && !running.size)) this.#most = this.sessions;
+    if (!this.#queue.size && seats.every(({ asked, running }) => !asked && !running.size)) this.#most = this.sessions;
     if (now < this.#retryAt) return;
     const opening = seats.filter((one) => !one.isReady && !one.probe).length;
     if (this.#deep.length && !seats.some(({ probe }) => probe) && this.#seats.size < this.#most) this.#open(0, now, probe());
-    for (const one of this.#queue.slice(opening)) if (this.#seats.size < this.#most) this.#open(this.#levelOf(one), now);
+    let passed = 0;
+    for (const one of this.#queue) {
+      if (this.#seats.size >= this.#most) break;
+      if ((passed += 1) > opening) this.#open(this.#levelOf(one), now);
+    }
     const [first] = this.#queue;
     if (this.#seats.size < this.#most || seats.length < this.#seats.size || seats.some((one) => !one.isReady || one.isRetired || one.probe)) return;
     if (!this.#deep.length && !(first && seats.every((one) => (first.isAlone && one.jobs) || !this.#hasEnough(one, first)))) return;

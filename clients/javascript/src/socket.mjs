@@ -18,5 +18,5 @@ export function dial({ host, port, secure }, { opened, received, lost }) {
   socket.setNoDelay(true).setEncoding("latin1");
   socket.on(secure ? "secureConnect" : "connect", opened).on("data", received);
   socket.on("error", (fault) => lost(fault.message || fault.code, FINAL.test(fault.code))).on("close", () => lost("the server ended the session", false));
-  return { send: (bytes) => socket.write(bytes, "latin1"), close: () => socket.destroy(), hold: (isHeld) => (isHeld ? socket.ref() : socket.unref()) };
+  return { pause: () => socket.pause(), resume: () => socket.resume(), send: (bytes) => socket.write(bytes, "latin1"), close: () => socket.destroy(), hold: (isHeld) => (isHeld ? socket.ref() : socket.unref()) };
 }

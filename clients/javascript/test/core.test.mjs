@@ -3,6 +3,7 @@
 import assert from "node:assert/strict";
 import test from "node:test";
 import { Core } from "../src/core.mjs";
+import { Broken } from "../src/faults.mjs";
 
 /** Numbers by chance that are the same for the same seed. */
 function chances(seed) {
@@ -33,6 +34,10 @@ class Server {
     if (word === "ASK" && falls("rate")) return "ERR 31\n";
     if (word === "ASK") return `JOB ${session.jobs.push({ text: rest.slice(1).join(" "), depth: Number(rest[0]), looks: this.chance(4) })}\n`;
     const job = session.jobs[rest[0] - 1];
+    if (["GET", "WAIT", "TABLE"].includes(word) && !job) return "ERR 17\n";
+    if (word === "WAIT") Object.assign(job, { looks: 0, ends: job.ends ?? (job.depth > 9 || (session.nodes < 65536 && falls("spent")) ? "SPENT" : "DONE") });
+    if (["WAIT", "TABLE"].includes(word) && job.ends === "SPENT") return `SPENT ${rest[0]}\n`;
+    if (word === "WAIT") return `DONE ${rest[0]} ${job.text.length} d3\n`;
     if (word === "GET" && job.isCancelled) return `CANCELLED ${rest[0]}\n`;
     if (word === "GET" && job.looks > 0) return (job.looks -= 1), `PENDING ${rest[0]}\n`;
     if (word === "GET" && (job.depth > 9 || (session.nodes < 65536 && falls("spent")))) return `SPENT ${rest[0]}\n`;
@@ -48,7 +53,7 @@ function play(seed, kinds) {
   const chance = chances(seed);
   const options = { sessions: 1 + chance(4), ahead: 1 + chance(3), silence: 1000, patience: 60_000, outage: 600_000 };
   const [core, server, events, questions] = [new Core(options), new Server(chance, kinds), [], []];
-  let [now, isEnded] = [0, false];
+  let [now, isEnded, waits] = [0, false, 0];
   const later = (after, call) => events.push([now + after, call]);
   const act = () => {
     for (const [what, seat, bytes] of core.take()) {
@@ -60,18 +65,26 @@ function play(seed, kinds) {
         server.connections.delete(seat);
       } else if (what === "send") {
         assert.ok(server.connections.has(seat) && (!isEnded || bytes === "BYE\n"), `${bytes} was sent after the end`);
-        const answer = server.answer(seat, bytes);
-        if (answer === "cut") later(1, () => core.lost(seat, new Error("cut"), now));
-        else if (answer) later(chance(20) ? 1 + chance(3) : 300, () => core.received(seat, answer, now));
+        let at = Math.max(seat.answeredAt ?? 0, now); // the server answers line after line, whenever they came
+        for (const line of bytes.trim().split("\n")) {
+          waits += line.startsWith("WAIT") ? 1 : 0;
+          const answer = seat.isStuck ? null : server.answer(seat, line);
+          at += chance(20) ? 1 + chance(3) : 300;
+          if (answer === "cut") later(at - now, () => core.lost(seat, new Broken("cut"), now));
+          else if (answer) later(at - now, () => core.received(seat, answer, now));
+          seat.isStuck ||= answer === null || answer === "cut";
+        }
+        seat.answeredAt = at;
       }
     }
   };
   const step = (call) => { call(); act(); };
+  const isBurst = seed % 2 === 1; // all are asked at once, at a depth
   const count = 20 + chance(60);
   for (let each = 0; each < count; each += 1) {
     const text = "x".repeat(1 + chance(60));
-    later(chance(2000), () => {
-      const question = { kind: chance(30) ? "job" : "ping", position: text, depth: chance(14), ...(chance(4) ? {} : { timeout: 1 + chance(3000) }) };
+    later(chance(isBurst ? 5 : 2000), () => {
+      const question = { kind: chance(30) ? "job" : "ping", position: text, depth: isBurst && chance(20) ? 3 : chance(14), ...(chance(4) ? {} : { timeout: 1 + chance(3000) }) };
       questions.push(question);
       core.ask(question, now);
       if (!chance(10)) later(chance(500), () => core.drop(question, new Error("given up"), now));
@@ -92,7 +105,7 @@ function play(seed, kinds) {
   }
   assert.ok(questions.length === count && questions.every(({ isSettled }) => isSettled), "a question is left");
   for (const { kind, found, fault, position } of questions) if (kind === "job" && !fault) assert.equal(found.value, position.length);
-  return questions;
+  return { questions, waits };
 }
 
 const CASES = { sound: {}, spent: { spent: 200 }, usedUp: { usedUp: 100 }, full: { full: 300 }, rate: { rate: 100 }, cut: { cut: 5 }, silence: { silence: 3 }, nonsense: { nonsense: 3 },
@@ -101,10 +114,13 @@ const CASES = { sound: {}, spent: { spent: 200 }, usedUp: { usedUp: 100 }, full:
 for (const [name, kinds] of Object.entries(CASES)) {
   test(`by chance: ${name}`, () => {
     const faults = new Map();
+    let waits = 0;
     for (let seed = 1; seed <= 40; seed += 1) {
       let questions;
       try {
-        questions = play(seed * 7919, kinds);
+        const played = play(seed * 7919, kinds);
+        questions = played.questions;
+        waits += played.waits;
       } catch (fault) {
         fault.message = `seed ${seed}: ${fault.message}`;
         throw fault;
@@ -113,6 +129,6 @@ for (const [name, kinds] of Object.entries(CASES)) {
     }
     const wanted = new Set(["TooDeep", "Late", "Error", ...(["cut", "nonsense", "all", "silence"].includes(name) ? ["Unreachable"] : [])]);
     assert.deepEqual([...faults.keys()].filter((each) => !wanted.has(each)), []);
-    assert.ok(faults.get("TooDeep") > 0);
+    assert.ok(faults.get("TooDeep") > 0 && waits > 100, `${waits} questions were asked ahead`);
   });
 }

@@ -178,3 +178,30 @@ def test_a_move_is_a_word_a_number_or_a_move_in_every_call() -> None:
         with pytest.raises(IllegalMove):
             Move(word)
         assert not opening.is_legal(word)
+
+
+def plain_flips(cells: str, side: str, square: int) -> list[str]:
+    """What a move flips, way by way, as the rules say it: a run of the opponent's discs from there that ends at one of one's own."""
+    found = list[str]()
+    for down, right in ((-1, -1), (-1, 0), (-1, 1), (0, -1), (0, 1), (1, -1), (1, 0), (1, 1)):
+        row, column = square // 8 + down, square % 8 + right
+        run = list[str]()
+        while 0 <= row < 8 and 0 <= column < 8 and cells[8 * row + column] == {"X": "O", "O": "X"}[side]:
+            run.append(SQUARES[8 * row + column])
+            row, column = row + down, column + right
+        if 0 <= row < 8 and 0 <= column < 8 and cells[8 * row + column] == side:
+            found += run
+    return sorted(found) if cells[square] == "-" else []
+
+
+@hypothesis.given(st.lists(st.sampled_from("XO-"), min_size=64, max_size=64), st.sampled_from("XO"))
+def test_words_of_bits_are_the_rules(cells: list[str], side: str) -> None:
+    """Drawn boards: legal squares, flips, what a move leads to and the cells again, beside the rules as they are written."""
+    place = Position("".join(cells), side)
+    flips = [plain_flips(place.cells, side, at) for at in range(64)]
+    assert place.squares() == [SQUARES[at] for at in range(64) if flips[at]]
+    assert [sorted(place.flips(at)) for at in range(64)] == flips
+    for at in range(64):
+        if flips[at]:
+            turned = {*flips[at], SQUARES[at]}
+            assert place.play(at).cells == "".join(side if SQUARES[one] in turned else cell for one, cell in enumerate(cells))

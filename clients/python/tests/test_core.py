@@ -42,6 +42,11 @@ class Peer:
     def __init__(self, model: Model):
         self.model, self.jobs, self.nodes, self.is_in = model, list[tuple[float, str, int]](), 0, False
 
+    def left(self, line: str, now: float) -> float:
+        """How long a line has to wait."""
+        word, *rest = line.split(" ")
+        return self.jobs[int(rest[0]) - 1][0] - now if word == "WAIT" and int(rest[0]) <= len(self.jobs) else 0.0
+
     def answer(self, line: str, now: float, present: int) -> str:
         word, *rest = line.split(" ")
         if word == "HELLO":
@@ -64,15 +69,17 @@ class Peer:
         if word in ("QUOTA", "INFO", "BYE"):
             return {"QUOTA": f"QUOTA 1 {max(self.nodes, 0)} 1", "INFO": "ERR 21", "BYE": "BYE"}[word]
         number = int(rest[0])
+        if number > len(self.jobs):
+            return "ERR 17"
         at, ends, value = self.jobs[number - 1]
         if word == "CANCEL":
             if now >= at:
                 return "ERR 17"
             self.jobs[number - 1] = (now, "CANCELLED", 0)
             return f"CANCELLED {number}"
-        if word == "GET":
+        if word in ("GET", "WAIT"):
             return f"PENDING {number}" if now < at else f"DONE {number} {value} d3" if ends == "DONE" else f"{ends} {number}"
-        return f"TABLE {number} d3={value}"
+        return f"TABLE {number} d3={value}" if ends == "DONE" else f"{ends} {number}"
 
 
 class Stage:
@@ -82,6 +89,7 @@ class Stage:
         self.model, self.core, self.now = model, Core(Options("here", **options), self), 0.0
         self.peers: dict[int, Peer] = {}
         self.open: set[int] = set()
+        self.unread: dict[int, list[str]] = {}  # lines that came, of each session
         self.queue: list[tuple[float, int, Callable[[], None]]] = []
         self.sent: list[tuple[float, int, str]] = []
         self.ended: list[tuple[float, Work]] = []
@@ -103,11 +111,26 @@ class Stage:
         self.later(0.001, lambda: self.connect(key))
 
     def send(self, key: int, data: bytes) -> None:
-        line = data.decode().removesuffix("\n")
-        assert key in self.open and "\n" not in line
-        self.sent.append((self.now, key, line))
+        assert key in self.open and data.endswith(b"\n")
+        lines = data.decode().split("\n")[:-1]
+        self.sent += ((self.now, key, line) for line in lines)
         if not self.model.is_mute(self.now):
-            self.later(self.model.takes, lambda: self.answer(key, line))
+            self.unread[key] = [*self.unread.get(key, []), *lines]
+            if len(self.unread[key]) == len(lines):
+                self.later(self.model.takes, lambda: self.read(key))
+
+    def read(self, key: int) -> None:
+        """The server answers the next line of a session, in order; a WAIT when its job has ended."""
+        if key not in self.peers or not self.unread.get(key):
+            return
+        line = self.unread[key][0]
+        wait = self.peers[key].left(line, self.now)
+        if wait > 0:
+            return self.later(wait, lambda: self.read(key))
+        self.unread[key].pop(0)
+        if self.unread[key]:
+            self.later(self.model.takes, lambda: self.read(key))
+        self.answer(key, line)
 
     def hang_up(self, key: int) -> None:
         self.open.discard(key)
@@ -401,10 +424,13 @@ def test_whatever_happens_each_ends_as_it_should(seed: int, sessions: int, ahead
 
 
 def test_a_wire() -> None:
+    def given(wire: Wire, data: bytes) -> list[Any]:
+        return list(wire.receive(data))
+
     wire = Wire()
-    assert wire.send("HELLO 1 2", "secret") == b"HELLO 1 2 secret\n" and wire.receive(b"WELC") is None
+    assert wire.send("HELLO 1 2", "secret") == b"HELLO 1 2 secret\n" and not given(wire, b"WELC")
     with pytest.raises(Broken) as fault:
-        wire.receive(b"OME 1 3\n")
+        given(wire, b"OME 1 3\n")
     assert "secret" not in str(fault.value) and wire.broken
     with pytest.raises(Broken):
         wire.send("BYE")
@@ -415,9 +441,134 @@ def test_a_wire() -> None:
     with pytest.raises(ValueError):
         Wire().send("two\nlines")
     with pytest.raises(Broken, match="wasn't asked"):
-        Wire().receive(b"BYE\n")
+        given(Wire(), b"BYE\n")
+    with pytest.raises(Broken, match="wasn't asked"):
+        given(Wire(), b"B")
     with pytest.raises(Broken, match="ended the session"):
-        Wire().receive(b"")
+        given(Wire(), b"")
+
+
+def test_a_wire_with_many_lines() -> None:
+    """Answers come in order, in whatever pieces; what is refused is among them, and what wasn't asked is a fault before the last one is taken."""
+    lines, told = ["ASK 0 x", "WAIT 1", "ASK 0 y", "WAIT 2", "TABLE 1"], b"JOB 1\nDONE 1 3 -\nERR 24\nERR 17\nTABLE 1\n"
+    for size in (1, 5, 7, len(told)):
+        wire, found = Wire(), list[Any]()
+        assert wire.send_all(lines) == "".join(f"{line}\n" for line in lines).encode()
+        for at in range(0, len(told), size):
+            found += wire.receive(told[at : at + size])
+        assert [one.number if isinstance(one, Refused) else one.state for one in found] == ["JOB", "DONE", 24, 17, "TABLE"] and wire.line is None
+    wire = Wire()
+    wire.send_all(["QUOTA", "QUOTA"])
+    source = wire.receive(b"QUOTA 1 2 3\nQUOTA 1 2 3\nQ")
+    assert next(source)
+    with pytest.raises(Broken, match="wasn't asked"):
+        next(source)
+
+
+@pytest.mark.parametrize("ahead", [1, 3])
+def test_many_quick_ones_are_asked_ahead(ahead: int) -> None:
+    """The first alone, and then the lines of many at once; no more than `ahead` jobs live at a time, and a session takes no more than its share."""
+    works = [Question(3, POSITIONS[at % 20]) for at in range(200)]
+    stage = Stage(Model(job=0.002), sessions=2, ahead=ahead)
+    stage.ask(*works)
+    stage.run(20)
+    assert results(works) == [value_of(work.position) for work in works]
+    assert len(stage.lines("WAIT")) > 180 and len(stage.lines("ASK")) == 200 == len(stage.lines("TABLE"))
+    assert len({at for at, _, _ in stage.sent}) < 60  # so many times something was sent
+    first = [line for _, key, line in stage.sent if key == 1]
+    alive = most = 0
+    for line in first:
+        alive += line.startswith("ASK") - line.startswith("TABLE")
+        most = max(most, alive)
+    assert most <= ahead and 70 <= sum(line.startswith("ASK") for line in first) <= 130
+
+
+def test_few_or_slow_ones_are_asked_one_by_one() -> None:
+    for job, count in ((0.002, 8), (0.2, 40)):
+        works = [Question(3, POSITIONS[at % 20]) for at in range(count)]
+        stage = Stage(Model(job=job), sessions=1)
+        stage.ask(*works)
+        stage.run(60)
+        assert results(works) == [value_of(work.position) for work in works] and not stage.lines("WAIT")
+
+
+def test_what_is_refused_ahead_is_asked_again_alone() -> None:
+    """An ASK that is refused shifts the numbers of jobs behind it: no answer to them is taken, and each ends as it should."""
+    works = [Question(3, POSITIONS[at % 20]) for at in range(30)]
+    stage = Stage(Model(job=0.002), sessions=1, ahead=2)
+    wrong = POSITIONS[12]
+    stage.peers = Refusing(wrong)
+    stage.ask(*works)
+    stage.run(20)
+    assert [work.fault.number if isinstance(work.fault, Refused) else work.found.value for work in works] == [24 if work.position == wrong else value_of(work.position) for work in works]
+    assert stage.lines("WAIT") and len(stage.lines("HELLO")) == 1
+
+
+class Refusing(dict[int, Peer]):
+    """Peers that refuse one position."""
+
+    def __init__(self, position: str):
+        super().__init__()
+        self.position = position
+
+    def __setitem__(self, key: int, peer: Peer) -> None:
+        answer = peer.answer
+        peer.answer = lambda line, now, present: "ERR 24" if line.endswith(self.position) else answer(line, now, present)  # type: ignore[method-assign]
+        super().__setitem__(key, peer)
+
+
+def test_a_job_that_takes_long_among_those_asked_ahead() -> None:
+    """It is asked again alone, as those behind it are; a timeout is its own."""
+    model = Model(job=0.002)
+    works = [Question(3, POSITIONS[at % 20], timeout=2.0) for at in range(40)]
+    stage = Stage(model, sessions=1, silence=0.5, outage=30)
+    stage.ask(*works)
+    stage.run(0.05)
+    assert stage.lines("WAIT")
+    model.job = 0.8
+    stage.run(1.0)
+    model.job = 0.002
+    stage.run(60)
+    assert results(works) == [value_of(work.position) for work in works] and len(stage.lines("HELLO")) == 2
+    late = [Question(3, POSITIONS[at % 20], timeout=1.0) for at in range(40)]
+    stage = Stage(model, sessions=1, silence=5)
+    stage.ask(*late)
+    stage.run(0.05)
+    model.job = 3.0
+    stage.run(6.0)
+    model.job = 0.002
+    stage.run(60)
+    ends = results(late)
+    assert "Late" in ends and ends.count("Late") < 10 and set(ends) <= {"Late", *(value_of(work.position) for work in late)}
+
+
+def test_given_up_among_those_asked_ahead() -> None:
+    works = [Question(3, POSITIONS[at % 20]) for at in range(40)]
+    stage = Stage(Model(job=0.01), sessions=1)
+    stage.ask(*works)
+    stage.run(0.1)
+    for work in works[::2]:
+        stage.core.give_up(work, Broken("not wanted"))
+    stage.run(20)
+    assert all(results([work]) == [value_of(work.position)] for work in works[1::2]) and len(stage.lines("HELLO")) == 1
+
+
+def test_nodes_that_end_among_those_asked_ahead() -> None:
+    """Spent ones are asked again alone, by a session with more; the others go on."""
+    model = Model(job=0.001, spent=lambda depth, nodes, jobs: nodes < 7900)
+    works = [Question(3, POSITIONS[at % 20]) for at in range(120)]
+    stage = Stage(model, sessions=2)
+    stage.ask(*works)
+    stage.run(60)
+    assert results(works) == [value_of(work.position) for work in works] and stage.lines("HELLO 1024")
+
+
+def test_counted_nodes_ahead() -> None:
+    works = [Question(3, POSITIONS[at % 20]) for at in range(40)]
+    stage = Stage(Model(job=0.001), sessions=1, counts=True)
+    stage.ask(*works)
+    stage.run(5)
+    assert [work.found.nodes for work in works] == [20] * 40 and stage.lines("WAIT")
 
 
 class Hand:
@@ -754,9 +905,9 @@ def test_how_long_an_answer_may_be() -> None:
         parse("INFO", f"{words}w\n".encode())
     wire = Wire()
     wire.send("INFO")
-    assert wire.receive(words.encode()) is None
+    assert not list(wire.receive(words.encode()))
     with pytest.raises(Broken, match="more than 1115 bytes"):
-        wire.receive(b"w")
+        list(wire.receive(b"w"))
 
 
 def test_how_long_a_server_that_is_full_is_asked() -> None:

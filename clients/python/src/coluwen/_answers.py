@@ -42,9 +42,31 @@ class Answer(NamedTuple):
     more: tuple[str, ...]
 
 
+DONE = re.compile(re.sub(r"\b[NVP]\b", lambda sign: SIGNS[str(sign[0])], "DONE N (V) (P|-)\n"))
+TABLE = re.compile(re.sub(r"\b[NVP]\b", lambda sign: SIGNS[str(sign[0])], "TABLE N((?: P[=<>]V)+)\n"))
+ENTRY = re.compile(r" (\w+)([=<>])(\S+)")
+
+
 def parse(line: str, answer: bytes, jobs: int = 0) -> Answer:
     """The answer to a line (without its LF), where so many jobs were asked before. `Refused` where it is an `ERR`, and `Broken` where it
     is none to that line."""
+    return quick(line, answer.decode("latin-1"), jobs) or parse_any(line, answer, jobs)
+
+
+def quick(line: str, answer: str, jobs: int) -> Answer | None:
+    """The same of what comes most; nothing of all else."""
+    if line.startswith("ASK"):
+        return Answer("JOB", (jobs + 1,), 0, "", (), ()) if answer == f"JOB {jobs + 1}\n" else None
+    word, _, number = line.partition(" ")
+    if word in ("WAIT", "GET") and answer.startswith(f"DONE {number} ") and (done := DONE.fullmatch(answer)):
+        return Answer("DONE", (int(number),), int(done[1]), done[2], (), ())
+    if word == "TABLE" and answer.startswith(f"TABLE {number} ") and len(answer) <= LONGEST and (table := TABLE.fullmatch(answer)):
+        entries = tuple([(move, sign, int(worth)) for move, sign, worth in ENTRY.findall(table[1])])
+        return Answer("TABLE", (int(number),), 0, "", entries, ()) if len(dict.fromkeys([entry[0] for entry in entries])) == len(entries) else None
+    return None
+
+
+def parse_any(line: str, answer: bytes, jobs: int) -> Answer:
     text = answer.removesuffix(b"\n").decode("latin-1")
     (word, *rest), (state, *told) = line.split(" "), text.split(" ")
     is_line = answer.endswith(b"\n") and len(answer) <= LONGEST

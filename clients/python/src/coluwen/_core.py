@@ -9,11 +9,12 @@ socket. clients/behaviour/README.md says the rules.
     core.tick()                       time has gone on, to when `Hands.wake` said at the latest
 """
 
+import collections
 import contextlib
 import dataclasses
 import itertools
 import math
-from collections.abc import Callable, Generator
+from collections.abc import Callable, Generator, Iterator
 from typing import Any, NamedTuple, Protocol
 
 from ._answers import LONGEST, Answer, parse
@@ -31,6 +32,10 @@ AGAIN = 0.1  # seconds between two tries of a server that is full or can't be re
 RARELY = 1.0  # the same, where other sessions are there
 MOST_LOSSES = 3  # of a question; at the next it isn't asked again
 LONGEST_SILENCE = 30.0  # seconds, of a session whose questions were met by silence before
+# Where many wait, and jobs are quick, a session says the lines of many questions at once (`_Session.flying`).
+MOST_FLYING, LEAST_FLYING = 32, 8  # how many, and how many have to wait for each session
+FLIGHT = 0.5  # seconds that they may take, by what the last job of their depth took
+SLOW, FORGETS = 1.0, 0.7  # seconds, of a depth whose jobs weren't quick; a quick one counts for less by and by
 # Mid-game positions with many moves, by which the server's grain is found out: deeper than it by two a search opens many frames.
 PROBES = ("-O-------O-------OXOO---XOXXOO--OOXXOOO---OXO------OO----------- X", "-----X-------XX---OOOXO---OXX----OOOOXO---OO--X--OXO------X----- X")
 FEW_NODES = 50  # those two take 22 to 31 while a search is no more than a ply deeper than the grain, and 127 to 232 a ply deeper
@@ -130,11 +135,14 @@ class Work:
 class Question(Work):
     """A position and a depth, and how many seconds its job may take."""
 
-    job: int  # its number, 0 before it has one
+    job = 0  # its number, 0 before it has one
+    said = 0  # of one that is flying: the number that its lines say, when it began, and how it ended
+    begun = 0.0
+    done: Answer | None = None
+    limited = math.inf  # since when the server says that it is asked too fast
 
     def __init__(self, depth: int, position: str, timeout: float | None = None):
         self.depth, self.position, self.timeout = depth, position, timeout
-        self.limited = math.inf  # since when the server says that it is asked too fast
 
 
 class Errand(Work):
@@ -158,41 +166,63 @@ class Hands(Protocol):
 
 
 class Wire:
-    """The lines of one session and their answers: one is under way at a time."""
+    """The lines of one session and their answers, which come in order."""
 
-    line: str | None = None  # what isn't answered yet
     broken: str | None = None
     jobs = 0
     rest = b""
 
+    def __init__(self) -> None:
+        self.lines = collections.deque[str]()  # what isn't answered yet
+
+    @property
+    def line(self) -> str | None:
+        """What is to be answered next."""
+        return self.lines[0] if self.lines else None
+
     def send(self, line: str, token: str | None = None) -> bytes:
-        """The bytes of a line. A token is its last word, and stands in no fault."""
-        if "\n" in line or "\n" in (token or ""):
-            raise ValueError("a line has one LF, at its end")
-        if self.line is not None:
-            self.broken = self.broken or f"{self.line.partition(' ')[0]} was interrupted"
+        """The bytes of a line, which waits for no other. A token is its last word, and stands in no fault."""
+        if self.lines:
+            self.broken = self.broken or f"{self.lines[0].partition(' ')[0]} was interrupted"
+        data = self.send_all([line])
+        return data if token is None else self.bytes_of(f"{line} {token}")
+
+    def send_all(self, lines: list[str]) -> bytes:
+        """The bytes of lines, behind those that aren't answered yet."""
         if self.broken:
             raise Broken(f"this session can't be used any more: {self.broken}")
-        self.line = line
-        return (f"{line} {token}\n" if token else f"{line}\n").encode("latin-1")
+        data = b"".join(map(self.bytes_of, lines))
+        self.lines += lines
+        return data
 
-    def receive(self, data: bytes) -> Answer | None:
-        """The answer to the line, once it is whole; `Refused` where it is an ERR. No bytes are the connection's end. `Broken` where what came
-        isn't the answer to the line."""
-        self.rest += data
-        line, end, rest = self.rest.partition(b"\n")
+    @staticmethod
+    def bytes_of(line: str) -> bytes:
+        if "\n" in line:
+            raise ValueError("a line has one LF, at its end")
+        return f"{line}\n".encode("latin-1")
+
+    def receive(self, data: bytes) -> Iterator[Answer | Refused]:
+        """The answers that are whole, each as it is taken. No bytes are the connection's end. `Broken` where what came isn't the answer to the line."""
+        *whole, self.rest = (self.rest + data).split(b"\n")
         try:
-            if unasked := self.rest if self.line is None else rest:
-                raise Broken(f"the server said {unasked[:60]!r}, which wasn't asked")
-            if data and not end and len(self.rest) < LONGEST:
-                return None
-            asked, self.line, self.rest = self.line or "", None, b""
-            found = parse(asked, line + end, self.jobs)
+            for number, answer in enumerate(whole, 1):
+                if len(self.lines) < 2 and (unasked := b"\n".join([*(whole[number:] if self.lines else whole[number - 1 :]), self.rest])):
+                    raise Broken(f"the server said {unasked[:60]!r}, which wasn't asked")
+                asked = self.lines.popleft()
+                try:
+                    found = parse(asked, answer + b"\n", self.jobs)
+                except Refused as refusal:
+                    yield refusal
+                else:
+                    self.jobs += found.state == "JOB"
+                    yield found
+            if self.rest and not self.lines:
+                raise Broken(f"the server said {self.rest[:60]!r}, which wasn't asked")
+            if not data or len(self.rest) >= LONGEST:
+                parse(self.line or "", self.rest, self.jobs)
         except Broken as fault:
             self.broken = str(fault)
             raise
-        self.jobs += found.state == "JOB"
-        return found
 
 
 def pause_after(seconds: float) -> float:
@@ -212,6 +242,10 @@ class _Session:
     works: list[Work] = dataclasses.field(default_factory=list)  # the oldest first
     asking: Work = dataclasses.field(init=False)  # whose line was sent last
     is_ready = False  # it was welcomed
+    flying: collections.deque[tuple[str, Question]] = dataclasses.field(default_factory=collections.deque)  # of each line that was said ahead its word, and whose it is
+    begun: collections.deque[Question] = dataclasses.field(default_factory=collections.deque)  # those whose ASK was said ahead, and nothing more yet
+    until = math.inf  # when the first of those may be late
+    is_careful = False  # what was said ahead was refused: the next question is asked alone
     takes_no_more = False
     not_before = 0.0  # nothing is sent before
     used = 0  # nodes, where they are counted
@@ -231,6 +265,7 @@ class Core:
         self._sessions: dict[int, _Session] = {}
         self._waiting: dict[int, Work] = {}  # for whom there is no session yet, in the order in which they were asked
         self._needs: dict[int, int] = {}  # of a depth the level that its last job needed
+        self._takes: dict[int, float] = {}  # of a depth the seconds that its jobs took
         self._keys, self._sequence = itertools.count(1), itertools.count(1)
         self._trouble = self._full = math.inf  # since when it is tried to reach the server, and since when it says that it is full
         self._endures = False  # a server that can't be reached any more is tried for longer than a moment
@@ -240,11 +275,12 @@ class Core:
 
     # What callers do.
 
-    def ask(self, work: Work) -> None:
-        """Begins a question or an errand. `Closed` where the client is closed."""
+    def ask(self, *works: Work) -> None:
+        """Begins questions or errands. `Closed` where the client is closed."""
         if self.closed:
             raise Closed("the client is closed")
-        self._wait(work)
+        for work in works:
+            self._wait(work)
         self._advance()
 
     def give_up(self, work: Work, fault: ColuwenError) -> None:
@@ -265,6 +301,10 @@ class Core:
             elif session.wire.line != "BYE":
                 self._shut(session)
         self._advance()
+
+    def has_much(self, key: int) -> bool:
+        """Whether so many answers come in a session that it needn't be read at once."""
+        return key in self._sessions and len(self._sessions[key].flying) > LEAST_FLYING
 
     @property
     def has_ended(self) -> bool:
@@ -290,38 +330,45 @@ class Core:
     def received(self, key: int, data: bytes) -> None:
         """Bytes came; none are the connection's end."""
         if session := self._sessions.get(key):
-            found: Answer | Refused | None = None
             try:
-                found = session.wire.receive(data)
-            except Refused as refusal:
-                found = refusal
+                for found in session.wire.receive(data):
+                    self._trouble, self._endures = math.inf, self.options.outage > 0
+                    flown = session.flying.popleft() if session.flying else None
+                    session.deadline = self.hands.now + session.silence if session.flying else math.inf
+                    if flown:
+                        self._land(session, *flown, found)
+                    else:
+                        self._take(session, found)
+                    if key not in self._sessions:
+                        break
             except Broken as fault:
                 self._lose(session, fault)
-            if found:
-                self._trouble, self._endures, session.deadline = math.inf, self.options.outage > 0, math.inf
-                self._take(session, found)
             self._advance()
 
     def tick(self) -> None:
         """What is due by time: silence, late jobs, looks and tries."""
         now = self.hands.now
         for session in list(self._sessions.values()):
-            if now >= session.deadline:
+            if session.flying and (now >= session.until or now >= session.deadline and session.flying[0][0] == "WAIT"):
+                session.until = min(work.until for work in session.works)
+                if now >= min(session.until, session.deadline):
+                    self._dive(session)
+            elif now >= session.deadline:
                 word = (session.wire.line or "").partition(" ")[0]
                 self._lose(session, Silent(f"no {f'answer to {word}' if word else 'connection'} in {session.silence:.3g} s"))
-                continue
-            for work in session.works:
-                if now >= work.until:
-                    work.cancels, work.until = True, math.inf
-                    if session.wire.line is not None:
-                        self._end(work, fault=Late(work.timeout or 0.0))
+            elif not session.flying:
+                for work in session.works:
+                    if now >= work.until:
+                        work.cancels, work.until = True, math.inf
+                        if session.wire.line is not None:
+                            self._end(work, fault=Late(work.timeout or 0.0))
         self._advance()
 
     def _due(self) -> float:
         """When `tick` is to be called, if nothing else happens before."""
         times = [self._pause] if self._pause and self._waiting else []
         for session in self._sessions.values():
-            times += [session.deadline, *(work.until for work in session.works)]
+            times += [session.deadline, *([session.until] if session.flying else (work.until for work in session.works))]
             if session.is_ready and session.wire.line is None:
                 if session.works or session.not_before and self._waiting:
                     times.append(session.not_before or session.works[0].due)
@@ -373,8 +420,13 @@ class Core:
         now = self.hands.now
         self._pause = self._pause if now < self._pause else 0.0
         for session in list(self._sessions.values()):
-            if session.is_ready and session.wire.line is None and now >= session.not_before:
-                self._turn(session)
+            if session.is_ready and now >= session.not_before:
+                if session.works and (session.flying or session.begun):
+                    if len(session.flying) <= MOST_FLYING // 2 * 3:
+                        least = LEAST_FLYING if len(session.flying) > LEAST_FLYING else 1
+                        self._fly(session, self._for_flight(session, math.ceil(len(self._waiting) / max(self._there, 1)), least))
+                elif session.wire.line is None:
+                    self._turn(session)
         self._open()
         self.hands.wake(self._due())
 
@@ -482,6 +534,11 @@ class Core:
         next_one = next((work for work in session.works if not work.line.startswith("GET")), None)
         session.takes_no_more = session.takes_no_more or session.wire.jobs >= MOST_JOBS
         if not next_one and not session.takes_no_more and (next_one := self._next_for(session)):
+            if len(questions := self._for_flight(session, len(self._waiting) // self.options.sessions, LEAST_FLYING)) >= LEAST_FLYING:
+                next_one = None  # (once nothing is under way any more)
+                if not session.works:
+                    return self._fly(session, questions)
+        if next_one and next_one.sequence in self._waiting:
             del self._waiting[next_one.sequence]
             session.works.append(next_one)
             session.takes_no_more = isinstance(next_one, Errand) and next_one.alone
@@ -512,6 +569,99 @@ class Core:
                 return None
         return None
 
+    # Lines that are said ahead: of each question ASK, WAIT and TABLE, before any of them is answered, with no more than `ahead` jobs alive. What can't be had so
+    # is asked again alone.
+
+    def _fly(self, session: _Session, questions: list[Question]) -> None:
+        """Says their lines; without any, those that are left of the ones before."""
+        lines, ahead = list[str](), 1 if self.options.counts else self.options.ahead
+
+        def say(question: Question, *words: str) -> None:
+            for line in words:
+                lines.append(line)
+                session.flying.append((line.partition(" ")[0], question))
+
+        def end_one() -> None:
+            question = session.begun.popleft()
+            say(question, f"WAIT {question.said}", f"TABLE {question.said}", *["QUOTA"] * self.options.counts)
+
+        job = session.wire.jobs + sum(word == "ASK" for word, _ in session.flying)
+        for job, question in enumerate(questions, job + 1):
+            del self._waiting[question.sequence]
+            question.job, question.said, question.done, question.found, question.until, question.cancels = 0, job, None, None, math.inf, False
+            say(question, f"ASK {question.depth} {question.position}")
+            session.begun.append(question)
+            if len(session.begun) >= ahead:
+                end_one()
+        while session.begun and (not self._waiting or not questions and len(session.flying) <= LEAST_FLYING):
+            end_one()
+        session.works += questions
+        if lines:
+            session.deadline = self.hands.now + session.silence
+            self.hands.send(session.key, session.wire.send_all(lines))
+
+    def _for_flight(self, session: _Session, share: int, least: int = 1) -> list[Question]:
+        """The first of those that wait that a session may ask ahead: no more than its share, as long as none has had trouble."""
+        found, left = list[Question](), FLIGHT - sum(self._takes.get(work.depth, FLIGHT) for work in session.works)
+        most = min(share, MOST_FLYING - len(session.works), MOST_JOBS - session.wire.jobs - sum(not work.job for work in session.works if isinstance(work, Question)))
+        if most < least or session.is_careful or session.takes_no_more:
+            return found
+        for work in itertools.islice(self._waiting.values(), most):
+            left -= self._takes.get(work.depth, FLIGHT)
+            has_trouble = work.alone or work.losses or work.silences or work.timeout is not None and work.timeout < SLOW
+            if not isinstance(work, Question) or left < 0 or has_trouble or not self._suits(session, work):
+                break
+            found.append(work)
+        return found
+
+    def _land(self, session: _Session, word: str, question: Question, found: Answer | Refused) -> None:
+        """What the answer to a line brings that was said ahead. Where the job has another number than its lines say, as an ASK before it was refused, they mean
+        another job: it is asked again."""
+        now = self.hands.now
+        if isinstance(found, Refused):
+            session.is_careful = True
+            if question.job == question.said:
+                raise Broken(str(found))
+        elif word == "ASK":
+            question.job, question.begun = session.wire.jobs, now
+            if question.timeout is not None:
+                question.until = now + question.timeout
+                session.until = min(session.until, question.until)
+        elif question.job == question.said and word == "WAIT":
+            question.done, question.until, seconds = found, math.inf, now - question.begun
+            self._takes[question.depth] = max(seconds / self.options.ahead, self._takes.get(question.depth, 0.0) * FORGETS)
+        elif question.done and question.done.state == "DONE" and word == "TABLE":
+            if found.state != "TABLE":
+                raise Broken(f"no table of job {question.job}")
+            question.found = Found(question.done.value, question.done.move, found.entries, now - question.begun)
+        elif question.found and word == "QUOTA":
+            left = session.reserved.nodes - session.used
+            question.found, session.used = question.found._replace(nodes=left - found.numbers[1]), session.reserved.nodes - found.numbers[1]
+        if word == ("QUOTA" if self.options.counts else "TABLE"):
+            self._landed(session, question)
+
+    def _landed(self, session: _Session, question: Question) -> None:
+        """All lines of a question that were said ahead are answered."""
+        session.works.remove(question)
+        if not question.done:
+            self._wait(question)
+        elif question.found:
+            self._end(question, question.found)
+        elif question.done.state == "SPENT":
+            self._spent(session, question)
+        else:
+            self._end(question, fault=Broken(f"job {question.job} was cancelled by nobody here"))
+
+    def _dive(self, session: _Session) -> None:
+        """A job takes long, and others are behind it: these are asked again one by one, in another session."""
+        now = self.hands.now
+        self._takes[session.works[0].depth] = SLOW
+        self._shut(session)
+        for work in session.works:
+            if now >= work.until:
+                self._end(work, fault=Late(work.timeout or 0.0))
+            self._wait(work)
+
     def _go_on(self, session: _Session, work: Work, found: Answer | Refused | Late | None = None) -> None:
         """Has a work take an answer, or that its time is over, up to its next line or its end."""
         try:
@@ -530,6 +680,7 @@ class Core:
     def _asks(self, session: _Session, question: Question) -> Script:
         """What a session says for a question, up to what is found; without that it is asked again, or has ended otherwise."""
         question.job, question.cancels, begun = 0, False, self.hands.now
+        session.is_careful = False
         question.until = math.inf if question.timeout is None else begun + question.timeout
         while not question.job:
             try:
@@ -547,6 +698,7 @@ class Core:
             if answer.state != "DONE" or question.ended:
                 return None
             question.until, seconds, nodes = math.inf, self.hands.now - begun, None
+            self._takes[question.depth] = max(seconds, self._takes.get(question.depth, 0.0) * FORGETS)
             if (table := (yield f"TABLE {question.job}")).state != "TABLE":
                 raise Broken(f"no table of job {question.job}")
             if self.options.counts:

@@ -13,7 +13,7 @@ from typing import Any, Literal, Self, TypeVar
 from ._core import DEEPEST, Found, Info
 from .board import PASS, Position
 from .errors import ColuwenError, FormatError, Late, TooDeep
-from .score import Entry, Score
+from .score import EXACT, Entry, Score
 
 Order = Literal["asked", "known"]
 Asked = str | Position | tuple[str | Position, int]
@@ -109,8 +109,9 @@ def settle(future: concurrent.futures.Future[Result], outcome: Result | BaseExce
 
 def result_of(position: Position, depth: int, found: Found) -> Result:
     """What the core found, as a result."""
-    entries = tuple(Entry(move, Score.of(value, position, depth, sign)) for move, sign, value in found.entries)
-    return Result(position, depth, Score.of(found.value, position, depth), None if found.move == "-" else found.move, entries, found.seconds, found.nodes)
+    ends, side = depth >= position.empties, position.side
+    entries = tuple([Entry(move, Score.told(value, sign, ends, side)) for move, sign, value in found.entries])
+    return Result(position, depth, Score.told(found.value, EXACT, ends, side), None if found.move == "-" else found.move, entries, found.seconds, found.nodes)
 
 
 def parts_of(position: Position, depth: int) -> list[tuple[Position, int]]:

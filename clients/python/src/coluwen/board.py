@@ -13,6 +13,7 @@ from __future__ import annotations
 import dataclasses
 import functools
 import itertools
+import re
 from collections.abc import Iterator
 
 from .errors import FormatError, IllegalMove
@@ -31,7 +32,8 @@ LENGTH = 66  # letters of a position's text
 BIT = {BLACK: [1 << at for at in range(64)], WHITE: [1 << at + 64 for at in range(64)]}
 EITHER = BIT[BLACK][0] | BIT[WHITE][0]  # both bits of square 0
 WORDS = [*SQUARES, PASS]  # of a move's number
-_BLACKS, _WHITES = str.maketrans("XO-", "100"), str.maketrans("XO-", "010")
+_BLACKS, _WHITES, _CELLS = str.maketrans("XO-", "100"), str.maketrans("XO-", "010"), str.maketrans("012", "-XO")
+_TEXT = re.compile("[XO-]{64} [XO]")
 
 
 def word_of(move: str | int) -> str:
@@ -58,34 +60,67 @@ class Move(str):
         return INDEX.get(self, len(SQUARES))
 
 
-@functools.cache
-def rays_of(square: int) -> list[list[int]]:
-    """The squares in each direction in which anything could be flipped, the nearest first."""
-    row, column = divmod(square, 8)
-    ways = [(down, right) for down in (-1, 0, 1) for right in (-1, 0, 1) if down or right]
-    places = [[(row + down * count, column + right * count) for count in range(1, 8)] for down, right in ways]
-    rays = [[8 * row + column for row, column in way if 0 <= row < 8 and 0 <= column < 8] for way in places]
-    return [ray for ray in rays if len(ray) > 1]
+# The ways from a square to its neighbours, up or down the numbers, with the squares from which and to which a run of discs goes on: none of the first and last
+# column but straight up and down. Of a step up and down the bits of a word of 64 are shifted.
+_INNER, _ALL = 0x7E7E7E7E7E7E7E7E, (1 << 64) - 1
+_WAYS = ((1, _INNER), (7, _INNER), (8, _ALL), (9, _INNER))
+
+
+def legal_word(own: int, opp: int) -> int:
+    """The squares on which the player with the discs `own` may put one, bit 0 for a1: an empty one from which a run of the opponent's ends at one of its own."""
+    found = 0
+    for step, inner in _WAYS:
+        along = opp & inner
+        two = 2 * step
+        up = along & own << step
+        up |= along & up << step
+        pair = along & along << step
+        up |= pair & up << two
+        up |= pair & up << two
+        down = along & own >> step
+        down |= along & down >> step
+        pair = along & along >> step
+        down |= pair & down >> two
+        down |= pair & down >> two
+        found |= up << step | down >> step
+    return found & ~(own | opp) & _ALL
+
+
+def flips_word(own: int, opp: int, disc: int) -> int:
+    """What a disc on an empty square flips, all three as words of 64 bits: nothing where it isn't legal."""
+    found = 0
+    for step, inner in _WAYS:
+        along = opp & inner
+        run = along & disc << step
+        for _ in range(5):
+            run |= along & run << step
+        if run and run << step & own:
+            found |= run
+        run = along & disc >> step
+        for _ in range(5):
+            run |= along & run >> step
+        if run and run >> step & own:
+            found |= run
+    return found
+
+
+def words_of(discs: int, side: str) -> tuple[int, int]:
+    """The discs of a side and of its opponent, as words of 64 bits."""
+    black, white = discs & _ALL, discs >> 64
+    return (black, white) if side == BLACK else (white, black)
 
 
 def changes(discs: int, side: str, square: int | None) -> int:
     """What a move of the side on a square flips, in the bits of both colours: nothing where it isn't legal."""
-    found, own, other = 0, BIT[side], BIT[OTHER[side]]
     if square is None or discs >> square & EITHER:
         return 0
-    for ray in rays_of(square):
-        run = 0
-        for at in ray:
-            if not discs & other[at]:
-                found |= run if discs & own[at] else 0
-                break
-            run |= own[at] | other[at]
-    return found
+    flipped = flips_word(*words_of(discs, side), 1 << square)
+    return flipped | flipped << 64
 
 
 def can_move(discs: int, side: str) -> bool:
     """Whether the side has a legal move."""
-    return any(changes(discs, side, at) for at in range(64))
+    return legal_word(*words_of(discs, side)) > 0
 
 
 def discs_of(cells: str) -> int:
@@ -95,7 +130,7 @@ def discs_of(cells: str) -> int:
 
 def cells_of(discs: int) -> str:
     """The number as 64 cells."""
-    return "".join(BLACK if discs & BIT[BLACK][at] else WHITE if discs & BIT[WHITE][at] else EMPTY for at in range(64))
+    return str(int(f"{discs & _ALL:b}") + 2 * int(f"{discs >> 64:b}")).zfill(64)[::-1].translate(_CELLS)  # (of each cell a decimal digit)
 
 
 @dataclasses.dataclass(frozen=True)
@@ -118,6 +153,8 @@ class Position:
     def parse(cls, text: str) -> Position:
         """The position of a text of 66 letters: X, x or * is black, O or o white, - or . empty. Spaces and line ends may stand
         anywhere between them. `FormatError` says which column is at fault."""
+        if _TEXT.fullmatch(text):
+            return cls(text[:64], text[65])
         found = ""
         for column, letter in ((column, letter) for column, letter in enumerate(text, 1) if not letter.isspace()):
             if letter not in CELLS:
@@ -154,7 +191,12 @@ class Position:
 
     def squares(self) -> list[str]:
         """The squares on which the side to move may put a disc, from a1 to h8."""
-        return [SQUARES[at] for at in range(64) if changes(self._discs, self.side, at)]
+        word, found = legal_word(*words_of(self._discs, self.side)), list[str]()
+        while word:
+            lowest = word & -word
+            found.append(SQUARES[lowest.bit_length() - 1])
+            word ^= lowest
+        return found
 
     def legal_moves(self) -> list[str]:
         """The same; `pass` alone where only the opponent can move; none where the game is over."""

@@ -1,6 +1,7 @@
 """Values of positions from a server, by as many sessions as they need. The same for asyncio is `AsyncClient` of `coluwen.aio`."""
 
 import asyncio
+import collections
 import concurrent.futures
 import logging
 import math
@@ -14,13 +15,14 @@ from collections.abc import Callable
 from typing import Any
 
 from ._core import LEVELS, Core, Errand, Info, Options, Question, Reservation, Work, ping
-from .analyst import Analyst, Result, checked, result_of
+from .analyst import Analyst, Result, checked, result_of, settle
 from .board import Position
 from .errors import Closed, ColuwenError, TooDeep
 
 HOST, PORT = "127.0.0.1", 4711
 URL = "COLUWEN_URL"  # the variable that names a server where the caller doesn't
 SILENCE, PATIENCE, OUTAGE, SESSIONS = 1.5, 30.0, 120.0, 4
+REST = 0.002  # seconds in which answers that still come aren't read
 LOG = logging.getLogger("coluwen")
 
 
@@ -41,14 +43,15 @@ def token_in(path: str) -> str:
 class _Link(asyncio.Protocol):
     """The connection of a session."""
 
-    def __init__(self, core: Core, key: int):
-        self.core, self.key = core, key
+    def __init__(self, driver: "Driver", key: int):
+        self.driver, self.key = driver, key
 
     def data_received(self, data: bytes) -> None:
-        self.core.received(self.key, data)
+        self.driver.core.received(self.key, data)
+        self.driver.rest(self.key)
 
     def connection_lost(self, fault: Exception | None) -> None:
-        self.core.failed(self.key, str(fault or "the server ended the session"))
+        self.driver.core.failed(self.key, str(fault or "the server ended the session"))
 
 
 class Driver:
@@ -58,6 +61,8 @@ class Driver:
         self.loop, self.host, self.port, self.tls = loop, host, port, tls
         self.core, self.tell = Core(options, self), LOG.warning
         self.links: dict[int, asyncio.Transport | asyncio.Task[None]] = {}
+        self.resting: list[asyncio.Transport] = []  # they aren't read for a moment
+        self.coming, self.is_called = collections.deque[Callable[[], Work | None]](), False  # what other threads have asked for
         self.clock: asyncio.TimerHandle | None = None
         self.learning: asyncio.Future[Info] | None = None  # finds out what the server is
         self.ended = asyncio.Event()
@@ -67,11 +72,18 @@ class Driver:
         return self.loop.time()
 
     def wake(self, due: float) -> None:
-        if self.clock:
-            self.clock.cancel()
-        self.clock = self.loop.call_at(due, self.core.tick) if due < math.inf else None
+        if due < (self.clock.when() if self.clock else math.inf):  # (a tick that comes too early does nothing)
+            if self.clock:
+                self.clock.cancel()
+            self.clock = self.loop.call_at(due, self.tick)
         if self.core.has_ended:
             self.ended.set()
+            if self.clock:
+                self.clock.cancel()
+
+    def tick(self) -> None:
+        self.clock = None
+        self.core.tick()
 
     def dial(self, key: int) -> None:
         self.links[key] = self.loop.create_task(self.connect(key))
@@ -80,7 +92,7 @@ class Driver:
         """Makes the connection of a session."""
         name = self.host if self.tls else None
         try:
-            transport, _ = await self.loop.create_connection(lambda: _Link(self.core, key), self.host, self.port, ssl=self.tls, server_hostname=name)
+            transport, _ = await self.loop.create_connection(lambda: _Link(self, key), self.host, self.port, ssl=self.tls, server_hostname=name)
         except OSError as fault:
             self.core.failed(key, str(fault.strerror or fault), isinstance(fault, (ssl.SSLCertVerificationError, socket.gaierror)))
         else:
@@ -97,26 +109,69 @@ class Driver:
         elif link and link is not asyncio.current_task(self.loop):
             link.cancel()
 
+    def rest(self, key: int) -> None:
+        """Answers that still come in a session are read a moment later, and many at once: each reading costs more than an answer."""
+        if self.core.has_much(key) and isinstance(link := self.links.get(key), asyncio.Transport):
+            if not self.resting:
+                self.loop.call_later(REST, self.go_on)
+            link.pause_reading()
+            self.resting.append(link)
+
+    def go_on(self) -> None:
+        for link in self.resting:
+            link.resume_reading()
+        self.resting.clear()
+
     def settle(self, work: Work) -> None:
-        future: asyncio.Future[Any] | None = work.owner
-        if future and not future.done():
-            if work.fault:
-                future.set_exception(work.fault)
-            else:
-                future.set_result(work.found)
+        if work.owner:
+            work.owner(work)
 
     def begin(self, work: Work) -> asyncio.Future[Any]:
         """Begins a question or an errand; what it ends with is the future's. Where that is cancelled it is given up."""
-        work.owner = future = self.loop.create_future()
+        future = self.loop.create_future()
+
+        def ended(_: Work) -> None:
+            if work.fault and not future.done():
+                future.set_exception(work.fault)
+            elif not future.done():
+                future.set_result(work.found)
+
+        work.owner = ended
         self.core.ask(work)
         future.add_done_callback(lambda one: self.core.give_up(work, ColuwenError("it was given up")) if one.cancelled() else one.exception())
         return future
+
+    def soon(self, step: Callable[[], Work | None]) -> None:
+        """Has the loop's thread take a step, and ask what that gives: many at once, where many come. `Closed` where the loop has ended."""
+        self.coming.append(step)
+        if not self.is_called:
+            self.is_called = True
+            try:
+                self.loop.call_soon_threadsafe(self.take_steps)
+            except RuntimeError:
+                raise Closed("the client is closed") from None
+
+    def take_steps(self) -> None:
+        self.is_called, works = False, list[Work]()
+        while self.coming:
+            if work := self.coming.popleft()():
+                works.append(work)
+        try:
+            self.core.ask(*works)
+        except Closed as fault:
+            for work in works:
+                work.fault = fault
+                self.settle(work)
 
     async def info(self) -> Info:
         """What the server is, found out once."""
         if not self.learning or self.learning.done() and self.learning.exception():
             self.learning = self.begin(Errand(self.core.learns, alone=True))
         return await asyncio.shield(self.learning)
+
+    def begin_info(self, told: Callable[[Info | BaseException], None]) -> None:
+        """The same for who doesn't wait."""
+        self.loop.create_task(self.info()).add_done_callback(lambda one: told(one.exception() or one.result()))
 
     async def ping(self) -> float:
         """Seconds that the server takes to a line that it answers at once."""
@@ -208,7 +263,18 @@ class Client(Served, Analyst):
 
     def submit(self, position: str | Position, depth: int, *, timeout: float | None = None) -> concurrent.futures.Future[Result]:
         place, driver = checked(position, depth), self._driving()
-        return asyncio.run_coroutine_threadsafe(self._answer(driver, place, depth, timeout), driver.loop)
+        question, future = Question(depth, place.text, self._timeout if timeout is None else timeout), concurrent.futures.Future[Result]()
+
+        def ended(_: Work) -> None:
+            if question.fault and driver.core.is_free and isinstance(question.fault, TooDeep):
+                driver.begin_info(lambda info: settle(future, info if isinstance(info, BaseException) else TooDeep(depth, min(depth - 1, info.sure))))
+            else:
+                settle(future, question.fault or result_of(place, depth, question.found))
+
+        question.owner = ended
+        future.add_done_callback(lambda one: driver.soon(lambda: driver.core.give_up(question, ColuwenError("it was given up"))) if one.cancelled() else None)
+        driver.soon(lambda: question)
+        return future
 
     def info(self) -> Info:
         """What the server is, found out once: at mid-game positions it looks `sure` plies deep, at most of them `mostly`; its `grain`, and a

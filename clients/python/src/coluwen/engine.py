@@ -44,7 +44,8 @@ HERE = pathlib.Path(__file__).resolve()
 
 def program_of(named: str | None = None, serves: bool = False) -> tuple[str, str]:
     """The program, and its version: what is named, else by the variable COLUWEN_OTHELLO, else on PATH, else the package's own, else this archive's, or
-    this checkout's, if it is proved; else the page's module, by node; else this checkout's that isn't proved. `Unreachable` where there is none (`serves`: that is a server too)."""
+    this checkout's, if it is proved; else the page's module, by node; else this checkout's that isn't proved. `Unreachable` where there is none.
+    `serves`: it is to be a server too."""
     named = named or os.environ.get(PROGRAM)
     for path in [shutil.which(named) or ""] if named else programs_here():
         if not (serves and path.endswith(MODULE)) and (version := version_of(path)):

@@ -40,6 +40,13 @@ class Score:
         """A value of a position that was searched so deep: where no cell would be left then, it is the end of the game."""
         return cls(value, sign, depth >= position.empties, position.side)
 
+    @classmethod
+    def told(cls, value: int, sign: str, ends: bool, side: str) -> "Score":
+        """A score of what a server's grammar lets through, and so isn't tested again: a value has many, one for each move."""
+        made = cls.__new__(cls)
+        made.__dict__.update(value=value, sign=sign, ends=ends or not -GREATEST_EVALUATION <= value <= GREATEST_EVALUATION, side=side)
+        return made
+
     @property
     def is_exact(self) -> bool:
         return self.sign == EXACT

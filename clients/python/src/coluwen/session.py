@@ -110,7 +110,7 @@ class Session:
             try:
                 self._socket.settimeout(limit)
                 self._socket.sendall(data)
-                while not (found := self._wire.receive(self._socket.recv(LONGEST + 1))):
+                while not (found := next(self._wire.receive(self._socket.recv(LONGEST + 1)), None)):
                     self._socket.settimeout(limit and max(begun + limit - time.monotonic(), 0.001))
             except TimeoutError:
                 self._wire.broken = f"{line.partition(' ')[0]} was interrupted"
@@ -118,6 +118,8 @@ class Session:
             except OSError as fault:
                 self._wire.broken = self._wire.broken or str(fault)
                 raise Broken(self._wire.broken) from fault
+        if isinstance(found, Refused):
+            raise found
         return found
 
     def reserve(self, segments: int, nodes: int) -> None:

@@ -26,6 +26,7 @@ from .command import NO_VALUE, analyst_of, ending, parser, say, teller
 
 NAME = "coluwen"
 LONGEST = 128  # bytes of a line
+BEHIND = 48  # lines that are read ahead of those that are asked: their lines are sent many at once
 Asked = concurrent.futures.Future[Result]
 
 
@@ -67,7 +68,7 @@ def answers(analyst: Analyst, lines: Iterator[str], ahead: int, timeout: float |
     """Of each line what is known of it, as soon as that and what is before it is known. Lines are read by a thread of its own, so that an
     answer doesn't wait for the next line; so many are asked at once."""
     begun: queue.SimpleQueue[Asked | Exception | None] = queue.SimpleQueue()
-    places = threading.Semaphore(ahead)
+    places = threading.Semaphore(ahead + BEHIND)
 
     def begin() -> None:
         try:

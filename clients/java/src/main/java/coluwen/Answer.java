@@ -40,8 +40,41 @@ record Answer(String state, List<Integer> numbers, int value, String move, List<
     return Pattern.compile("\\b[A-Z]\\b").matcher(FORMS.get(words[0])).replaceAll(sign -> signs.get(sign.group()));
   }
 
+  private static final String VALUE = "(0|-?[1-9][0-9]{0,5})", MOVE = "([a-h][1-8]|pass)";
+  private static final Pattern DONE = Pattern.compile("DONE ([0-9]+) " + VALUE + " (" + MOVE + "|-)");
+  private static final Pattern TABLE = Pattern.compile("TABLE ([0-9]+)( " + MOVE + "[=<>]" + VALUE + ")+");
+
   /** The answer to a line (both without LF), where so many jobs were asked before. {@code Broken} where it is none to that line. */
   static Answer parse(String line, String text, int jobs) {
+    var found = quick(line, text, jobs);
+    return found == null ? parseAny(line, text, jobs) : found;
+  }
+
+  /** The same of what comes most; null of all else. */
+  private static Answer quick(String line, String text, int jobs) {
+    if (line.startsWith("ASK ")) return text.equals("JOB " + (jobs + 1)) ? new Answer("JOB", List.of(jobs + 1), 0, "", List.of(), "") : null;
+    var isTable = line.startsWith("TABLE ");
+    if (!isTable && !line.startsWith("GET ") && !line.startsWith("WAIT ")) return null;
+    var number = line.substring(line.indexOf(' ') + 1);
+    var form = (isTable ? TABLE : DONE).matcher(text);
+    if (text.length() >= LONGEST || !form.matches() || !form.group(1).equals(number)) return null;
+    var numbers = List.of(Integer.valueOf(number));
+    if (!isTable) {
+      var value = Integer.parseInt(form.group(2));
+      return Math.abs(value) <= Score.GREATEST ? new Answer("DONE", numbers, value, form.group(3), List.of(), "") : null;
+    }
+    var entries = new ArrayList<Entry>();
+    var moves = new HashSet<String>();
+    for (var word : text.substring(7 + number.length()).split(" ")) {
+      var at = word.startsWith("pass") ? 4 : 2;
+      var entry = new Entry(word.substring(0, at), word.charAt(at), Integer.parseInt(word.substring(at + 1)));
+      if (Math.abs(entry.value()) > Score.GREATEST || !moves.add(entry.move())) return null;
+      entries.add(entry);
+    }
+    return new Answer("TABLE", numbers, 0, "", List.copyOf(entries), "");
+  }
+
+  private static Answer parseAny(String line, String text, int jobs) {
     var told = List.of(text.split(" ", -1));
     var state = told.get(0);
     var isFit = text.length() < LONGEST && text.matches("ERR [1-9][0-9]|" + form(line, jobs));

@@ -27,6 +27,7 @@ import javax.net.ssl.*;
  */
 public final class Client implements Analyst {
   private static final System.Logger LOGGER = System.getLogger("coluwen");
+  private static final int REST = 2; // milliseconds in which answers that still come aren't read
 
   /** Something that is told: {@code opened}, {@code full}, {@code silent} or {@code lost}. */
   public record Event(String name, Object detail) {}
@@ -37,6 +38,7 @@ public final class Client implements Analyst {
   private final ScheduledThreadPoolExecutor clock = Calls.clock();
   private final long origin = System.nanoTime();
   private Future<?> alarm;
+  private double alarmAt = Double.POSITIVE_INFINITY; // milliseconds from the origin
   private CompletableFuture<Void> events = CompletableFuture.completedFuture(null); // what is told, one after another
 
   private Client(Builder options) {
@@ -215,10 +217,22 @@ public final class Client implements Analyst {
   private void act(Runnable step) {
     synchronized (core) {
       core.at((System.nanoTime() - origin) / 1e6, step);
-      if (alarm != null) alarm.cancel(false);
-      var wait = (long) (1e6 * core.next()) - (System.nanoTime() - origin);
-      if (core.next() < Double.POSITIVE_INFINITY && !clock.isShutdown()) alarm = clock.schedule(() -> act(core::passed), Math.max(wait, 0), TimeUnit.NANOSECONDS);
+      if (core.next() < alarmAt && !clock.isShutdown()) {
+        if (alarm != null) alarm.cancel(false);
+        alarmAt = core.next();
+        var wait = (long) (1e6 * alarmAt) - (System.nanoTime() - origin);
+        alarm = clock.schedule(this::ring, Math.max(wait, 0), TimeUnit.NANOSECONDS);
+      }
+      var settled = core.takeSettled();
+      if (!settled.isEmpty()) CompletableFuture.runAsync(() -> settled.forEach(question -> question.heard.accept(question)));
       core.notifyAll();
+    }
+  }
+
+  private void ring() {
+    synchronized (core) {
+      alarmAt = Double.POSITIVE_INFINITY;
+      act(core::passed);
     }
   }
 
@@ -270,6 +284,13 @@ public final class Client implements Analyst {
     }
   }
 
+  /** Whether answers that still come are read a moment later, and many at once: each reading costs more than an answer. */
+  private boolean hasMuch(Core.Seat seat) {
+    synchronized (core) {
+      return core.hasMuch(seat);
+    }
+  }
+
   /** A session's thread: connects, and reads until the connection ends. */
   private void serve(Core.Seat seat) {
     try (var socket = connected(options.host, options.port, options.tls, (int) Math.min(seat.silence, Integer.MAX_VALUE))) {
@@ -278,12 +299,15 @@ public final class Client implements Analyst {
         core.opened(seat);
         if (!core.isOpen(seat)) shut(sockets.remove(seat)); // it came too late
       });
-      var block = new byte[2 * Answer.LONGEST];
+      var block = new byte[1 << 14];
       for (int count = socket.getInputStream().read(block); count >= 0; count = socket.getInputStream().read(block)) {
         var bytes = new String(block, 0, count, StandardCharsets.ISO_8859_1);
         act(() -> core.received(seat, bytes));
+        if (hasMuch(seat)) Thread.sleep(REST);
       }
       throw new EOFException("the server ended the session");
+    } catch (InterruptedException fault) {
+      act(() -> core.lost(seat, new Broken("it was interrupted"), false));
     } catch (IOException fault) {
       var isNowhere = fault instanceof UnknownHostException;
       var why = options.host + ":" + options.port + ": " + (isNowhere ? "there is no such host" : fault.getMessage());

@@ -2,7 +2,6 @@ package coluwen;
 
 import coluwen.ColuwenException.*;
 import java.util.*;
-import java.util.concurrent.CompletableFuture;
 import java.util.function.*;
 import java.util.stream.*;
 
@@ -20,6 +19,10 @@ final class Core {
   private static final int RETRY = 100; // before a server is asked again
   private static final int GRACE = 200; // for so long the answer to a line may still come where a job's time is over
   private static final int LOSSES = 4; // a question isn't asked again once so many sessions were lost with it
+  // Where many wait, and jobs are quick, a session says the lines of many questions at once: how many, and how many have to wait for each session.
+  private static final int MOST_FLYING = 32, LEAST_FLYING = 8;
+  private static final double FLIGHT = 500; // milliseconds that they may take, by what the last jobs of their depth took
+  private static final double SLOW = 1000, FORGETS = 0.7; // of a depth whose jobs weren't quick; a quick one counts for less by and by
   private static final double NEVER = Double.POSITIVE_INFINITY;
 
   // What is reserved where nobody says it: by the first session, and at most; between them RESERVE raises.
@@ -43,9 +46,11 @@ final class Core {
     double milliseconds; // of a ping
     Info info;
     private boolean isSettled, isAlone; // it was spent: it is asked once more, as the first job of a session
-    private int level, job, losses;
+    private boolean hasTrouble; // a session was lost with it
+    private int level, job, losses, number; // the last: of the job that its lines say, where they are said ahead
+    private long sequence; // among all that were asked
     private double askedAt, pollAt, until, limit; // when it is looked at, is cancelled, and nobody waits for a line's answer any more
-    private double refusedAt = NEVER;
+    private double refusedAt = NEVER, doneAt;
 
     Question(String line, int depth, double timeout, Consumer<Question> heard) {
       this.line = line;
@@ -57,7 +62,12 @@ final class Core {
     private Late late() { return new Late("a job of depth " + depth + " was cancelled after " + (long) timeout + " ms"); }
   }
 
-  /** A session, from its opening to its end, of whose lines one at most isn't answered. */
+  /** A line that isn't answered, and the question that it is for; {@code isAhead}: it was said before others were answered. */
+  private record Line(String text, Question question, boolean isAhead) {
+    String word() { return text.substring(0, text.indexOf(' ') < 0 ? text.length() : text.indexOf(' ')); }
+  }
+
+  /** A session, from its opening to its end. */
   final class Seat {
     final double silence = Math.min(limits.silence() * Math.pow(2, silences), Math.max(limits.outage(), limits.silence()));
     private final List<Question> running = new ArrayList<>(); // the questions that it has, the oldest first
@@ -65,10 +75,13 @@ final class Core {
     private final Probe probe; // of one that finds out the server's grain
     private Reservation reserved;
     private boolean isReady, isRetired; // it has been welcomed; it takes no more
-    private String line, rest = ""; // that isn't answered, and what came of its answer
-    private Question asked; // what the line is for
+    private boolean isCareful; // what was said ahead was refused: the next question is asked alone
+    private String rest = ""; // what came of an answer
+    private final ArrayDeque<Line> lines = new ArrayDeque<>(); // that aren't answered, in order
+    private final LinkedHashSet<Question> flight = new LinkedHashSet<>(); // the questions whose lines are said ahead
+    private final ArrayDeque<Question> begun = new ArrayDeque<>(); // of these, those whose ASK was said and nothing more yet
     private int jobs; // that were asked
-    private double deadline = now + silence, freeAt; // until then it is to be answered; before it asks nothing
+    private double deadline = now + silence, freeAt, lateAt = NEVER; // until then it is to be answered; before it asks nothing; then one of the flight is late
 
     private Seat(int level, Probe probe) {
       this.level = level;
@@ -78,32 +91,37 @@ final class Core {
 
     /** When it is to be looked at. */
     private DoubleStream times() {
+      if (!flight.isEmpty()) return DoubleStream.of(deadline, lateAt);
       var jobs = running.stream().flatMapToDouble(one -> DoubleStream.of(one.until, one.limit, one.pollAt));
       return DoubleStream.concat(DoubleStream.of(deadline, freeAt), jobs);
     }
 
-    private boolean isIdle() { return isReady && line == null && running.isEmpty(); }
+    private boolean isIdle() { return isReady && lines.isEmpty() && running.isEmpty(); }
 
-    private String word() { return line == null ? "" : line.split(" ")[0]; }
+    private String word() { return lines.isEmpty() ? "" : lines.peek().word(); }
 
-    /** The answer to its line; null while that has no end. {@code Broken} where it is none. */
-    private Answer receive(String bytes) {
+    /** What came: each answer that is whole is given on with its line. {@code Broken} where one is none. */
+    private void receive(String bytes, BiConsumer<Line, Answer> heard) {
       rest += bytes;
-      var end = rest.indexOf('\n');
-      if (line == null || (end >= 0 && end < rest.length() - 1)) throw new Broken("the server said what wasn't asked");
-      if ((end < 0 ? rest.length() : end) >= Answer.LONGEST) throw new Broken("an answer has more than " + Answer.LONGEST + " bytes");
-      if (end < 0) return null;
-      var text = rest.substring(0, end);
-      rest = "";
-      var answer = Answer.parse(line, text, jobs);
-      if (answer.state().equals("JOB")) jobs++;
-      return answer;
+      var begin = 0;
+      for (int end = rest.indexOf('\n'); end >= 0; end = rest.indexOf('\n', begin)) {
+        if (lines.isEmpty() || (lines.size() == 1 && end < rest.length() - 1)) throw new Broken("the server said what wasn't asked");
+        var answer = Answer.parse(lines.peek().text(), rest.substring(begin, end), jobs);
+        if (answer.state().equals("JOB")) jobs++;
+        begin = end + 1;
+        heard.accept(lines.remove(), answer);
+        if (!isOpen(this)) return;
+      }
+      rest = rest.substring(begin);
+      if (lines.isEmpty() && !rest.isEmpty()) throw new Broken("the server said what wasn't asked");
+      if (rest.length() >= Answer.LONGEST) throw new Broken("an answer has more than " + Answer.LONGEST + " bytes");
     }
   }
 
   private final Limits limits;
   private final Hands hands;
-  private final LinkedList<Question> queue = new LinkedList<>(); // questions that no session has
+  private final TreeSet<Question> queue = new TreeSet<>(Comparator.comparingLong((Question one) -> one.sequence)); // questions that no session has
+  private final Map<Integer, Double> takes = new HashMap<>(); // of a depth the milliseconds that its jobs took
   private final LinkedHashSet<Seat> seats = new LinkedHashSet<>();
   private final Map<Integer, Integer> needs = new HashMap<>(); // of a depth the level that its last job needed
   private final List<Question> deep = new ArrayList<>(); // they wait for what is known of the server's grain
@@ -112,6 +130,8 @@ final class Core {
   private double heard = -NEVER, trouble = NEVER, full = NEVER; // when the server last said anything; since when it can't be reached, or is full
   private double now, retryAt, next = NEVER;
   private int silences, probeLosses, most; // how many sessions there may be now
+  private long asked;
+  private final List<Question> settled = new ArrayList<>(); // who asked hasn't heard it
 
   Core(Limits limits, Hands hands) {
     this.limits = limits;
@@ -134,6 +154,7 @@ final class Core {
   double next() { return next; }
 
   void ask(Question question) {
+    question.sequence = ++asked;
     if (isEnded) settle(question, new Closed("client"));
     else if (question.line.equals("INFO")) tooDeep(question);
     else queue.add(question);
@@ -157,20 +178,23 @@ final class Core {
   void received(Seat seat, String bytes) {
     if (!isOpen(seat)) return;
     try {
-      var answer = seat.receive(bytes);
-      if (answer != null) answered(seat, answer);
+      seat.receive(bytes, (line, answer) -> answered(seat, line, answer));
     } catch (Broken fault) {
       lost(seat, fault, false);
     }
   }
 
-  private void answered(Seat seat, Answer answer) {
-    var word = seat.word();
-    var question = seat.asked;
+  /** Whether so many answers come in a session that it needn't be read at once. */
+  boolean hasMuch(Seat seat) { return !seat.flight.isEmpty() && seat.lines.size() > LEAST_FLYING; }
+
+  private void answered(Seat seat, Line line, Answer answer) {
+    var word = line.word();
+    var question = line.question();
     heard = now;
-    seat.line = null;
-    trouble = seat.deadline = NEVER;
-    switch (seat.probe != null && seat.isReady && !word.equals("BYE") ? "PROBE" : word) {
+    trouble = NEVER;
+    seat.deadline = seat.lines.isEmpty() ? NEVER : now + seat.silence;
+    if (line.isAhead()) landed(seat, word, question, answer);
+    else switch (seat.probe != null && seat.isReady && !word.equals("BYE") ? "PROBE" : word) {
       case "PROBE" -> probed(seat, answer);
       case "HELLO" -> welcomed(seat, answer);
       case "ASK" -> asked(seat, question, answer);
@@ -203,14 +227,15 @@ final class Core {
     var isSilent = fault instanceof Silent;
     var isGivenUp = isSilent && !isOutage();
     var again = seat.running.stream().filter(one -> !one.isSettled).toList();
-    if (seat.isReady && (seat.line != null || !again.isEmpty())) hands.tell().accept(isSilent ? "silent" : "lost", fault);
+    if (seat.isReady && (!seat.lines.isEmpty() || !again.isEmpty())) hands.tell().accept(isSilent ? "silent" : "lost", fault);
     if (seat.isReady && isSilent) silences++;
     for (var one : List.copyOf(seats)) if (one.isIdle()) close(one); // they may be lost too
     for (var one : again) {
+      one.hasTrouble = true;
       if (!isSilent) one.losses++;
       if (one.losses >= LOSSES || isGivenUp || one.line.equals("QUOTA")) settle(one, unreachable(fault));
     }
-    queue.addAll(0, again.stream().filter(one -> !one.isSettled).toList());
+    again.stream().filter(one -> !one.isSettled).forEach(queue::add);
     if (!seat.isReady) notReached(seat, fault, isFinal);
     else if (seat.probe != null && (++probeLosses >= LOSSES || isGivenUp)) fail(() -> unreachable(fault), deep);
   }
@@ -218,10 +243,22 @@ final class Core {
   /** Time goes on. */
   void passed() {
     for (var seat : List.copyOf(seats)) {
+      if (!seat.flight.isEmpty() && (now >= seat.lateAt || (now >= seat.deadline && seat.word().equals("WAIT")))) {
+        seat.lateAt = seat.flight.stream().mapToDouble(one -> one.until).min().orElse(NEVER);
+        if (now >= Math.min(seat.lateAt, seat.deadline)) dive(seat);
+        continue;
+      }
       for (var one : seat.running) if (now >= one.limit) settle(one, one.late());
-      var missed = seat.line == null ? "connection" : "answer to " + seat.word();
+      var missed = seat.lines.isEmpty() ? "connection" : "answer to " + seat.word();
       if (now >= seat.deadline) lost(seat, new Silent("no " + missed + " in " + (long) seat.silence + " ms"), false);
     }
+  }
+
+  /** Those that have ended since this was called last: who asked hears it. */
+  List<Question> takeSettled() {
+    var found = List.copyOf(settled);
+    settled.clear();
+    return found;
   }
 
   /** A question ends. Where that isn't by its answer, its job is cancelled once a line can be sent. */
@@ -231,12 +268,12 @@ final class Core {
     question.fault = fault;
     queue.remove(question);
     deep.remove(question);
-    CompletableFuture.runAsync(() -> question.heard.accept(question));
+    settled.add(question);
   }
 
   /** They end, each with a fault of its own. */
   @SafeVarargs
-  private void fail(Supplier<RuntimeException> faultOf, List<Question>... questions) {
+  private void fail(Supplier<RuntimeException> faultOf, Collection<Question>... questions) {
     probeLosses = 0;
     for (var each : questions) for (var one : List.copyOf(each)) settle(one, faultOf.get());
   }
@@ -260,10 +297,9 @@ final class Core {
   }
 
   private void send(Seat seat, String line, Question question) {
-    seat.line = line;
-    seat.asked = question;
+    seat.lines.add(new Line(line, question, false));
     seat.deadline = now + seat.silence;
-    var token = limits.token() != null && seat.word().equals("HELLO") ? " " + limits.token() : ""; // (it stands in no fault)
+    var token = limits.token() != null && line.startsWith("HELLO") ? " " + limits.token() : ""; // (it stands in no fault)
     hands.send().accept(seat, line + token + "\n");
   }
 
@@ -308,7 +344,7 @@ final class Core {
       seat.isRetired = more.isEmpty();
       more.ifPresent(to -> send(seat, "RESERVE " + Math.max(to.segments(), seat.reserved.segments()) + " " + to.nodes(), null));
     }
-    if (!question.isSettled) queue.addFirst(question);
+    if (!question.isSettled) queue.add(question);
   }
 
   private void got(Seat seat, Question question, Answer answer) {
@@ -317,6 +353,7 @@ final class Core {
       question.pollAt = now + Math.min(Math.max((now - question.askedAt) / 4, 0.2), 20);
     } else if (answer.state().equals("DONE") && !question.isSettled) {
       question.done = answer;
+      question.doneAt = now;
       send(seat, "TABLE " + question.job, question);
     } else {
       seat.running.remove(question);
@@ -329,6 +366,7 @@ final class Core {
     if (!answer.state().equals("TABLE")) throw new Broken("job " + question.job + " was DONE, and has no table");
     seat.running.remove(question);
     if (question.isAlone) needs.put(question.depth, question.level);
+    took(question.depth, question.doneAt - question.askedAt);
     silences = 0;
     question.table = answer;
     settle(question, null);
@@ -342,7 +380,7 @@ final class Core {
     if (seat.jobs > 1 || seat.level < top) {
       question.isAlone = true;
       question.level = Math.min(Math.max(question.level, seat.level) + 1, top);
-      queue.addFirst(question);
+      queue.add(question);
     } else {
       needs.put(question.depth, top);
       tooDeep(question);
@@ -377,7 +415,14 @@ final class Core {
 
   /** The next line of a session that waits for no answer. */
   private void turn(Seat seat) {
-    if (!seat.isReady || seat.line != null) return;
+    if (!seat.isReady) return;
+    if (!seat.flight.isEmpty()) {
+      if (seat.lines.size() > 1.5 * MOST_FLYING) return;
+      var there = (int) seats.stream().filter(one -> one.isReady).count();
+      fly(seat, forFlight(seat, (queue.size() + there - 1) / there, seat.lines.size() > LEAST_FLYING ? LEAST_FLYING : 1));
+      return;
+    }
+    if (!seat.lines.isEmpty()) return;
     if (seat.probe != null) {
       if (now >= seat.freeAt) send(seat, seat.probe.line, null);
       return;
@@ -385,11 +430,18 @@ final class Core {
     var gone = seat.running.stream().filter(one -> one.isSettled || now >= one.until).findFirst().orElse(null);
     var next = gone == null ? nextFor(seat) : null;
     var oldest = seat.running.isEmpty() ? null : seat.running.get(0);
+    var ahead = next == null ? List.<Question>of() : forFlight(seat, queue.size() / limits.sessions(), LEAST_FLYING);
+    if (ahead.size() >= LEAST_FLYING && oldest == null) {
+      fly(seat, ahead);
+      return;
+    }
+    if (ahead.size() >= LEAST_FLYING) next = null; // once nothing is under way any more
     if (gone != null) {
       send(seat, "CANCEL " + gone.job, gone);
     } else if (next != null) {
       queue.remove(next);
       seat.running.add(next);
+      seat.isCareful = false;
       next.askedAt = now;
       next.until = now + (next.timeout > 0 ? next.timeout : NEVER);
       next.limit = next.until + GRACE;
@@ -415,16 +467,112 @@ final class Core {
     return queue.stream().filter(one -> (!one.isAlone || (seat.jobs == 0 && seat.running.isEmpty())) && hasEnough(seat, one)).findFirst().orElse(null);
   }
 
+  // Lines that are said ahead: of each question ASK, WAIT and TABLE, before any of them is answered, with no more than `ahead` jobs alive. What can't be
+  // had so is asked again alone.
+
+  private double takes(Question one) { return takes.getOrDefault(one.depth, FLIGHT); }
+
+  private void took(int depth, double milliseconds) { takes.merge(depth, milliseconds, (before, last) -> Math.max(last, before * FORGETS)); }
+
+  /** The first of those that wait that a session may ask ahead: no more than its share, as long as none has had trouble. */
+  private List<Question> forFlight(Seat seat, int share, int least) {
+    var found = new ArrayList<Question>();
+    var unasked = (int) seat.flight.stream().filter(one -> one.job == 0).count();
+    var most = Math.min(share, Math.min(MOST_FLYING - seat.running.size(), MOST_JOBS - seat.jobs - unasked));
+    if (most < least || seat.isCareful || seat.isRetired) return found;
+    var left = FLIGHT - seat.running.stream().mapToDouble(this::takes).sum();
+    for (var one : queue) {
+      left -= takes(one);
+      var hasTrouble = one.isAlone || one.hasTrouble || (one.timeout > 0 && one.timeout < SLOW);
+      if (found.size() == most || left < 0 || hasTrouble || !one.line.startsWith("ASK") || !hasEnough(seat, one)) break;
+      found.add(one);
+    }
+    return found;
+  }
+
+  /** Says their lines; without any, those that are left of the ones before. */
+  private void fly(Seat seat, List<Question> questions) {
+    var said = new StringBuilder();
+    BiConsumer<Question, String> say = (question, text) -> {
+      seat.lines.add(new Line(text, question, true));
+      said.append(text).append('\n');
+    };
+    Runnable endOne = () -> {
+      var question = seat.begun.remove();
+      say.accept(question, "WAIT " + question.number);
+      say.accept(question, "TABLE " + question.number);
+    };
+    var left = seat.lines.size();
+    var job = seat.jobs + (int) seat.lines.stream().filter(line -> line.text().startsWith("ASK")).count();
+    for (var question : questions) {
+      queue.remove(question);
+      question.job = 0;
+      question.number = ++job;
+      question.done = null;
+      question.askedAt = now;
+      question.until = question.limit = question.pollAt = NEVER;
+      seat.running.add(question);
+      seat.flight.add(question);
+      say.accept(question, question.line);
+      seat.begun.add(question);
+      if (seat.begun.size() >= limits.ahead()) endOne.run();
+    }
+    while (!seat.begun.isEmpty() && (queue.isEmpty() || (questions.isEmpty() && left <= LEAST_FLYING))) endOne.run();
+    if (said.isEmpty()) return;
+    seat.deadline = now + seat.silence;
+    hands.send().accept(seat, said.toString());
+  }
+
+  /** What the answer to a line brings that was said ahead. Where the job has another number than its lines say, as an ASK before it was refused, they mean another job: it is asked again. */
+  private void landed(Seat seat, String word, Question question, Answer answer) {
+    var isRight = question.job == question.number;
+    if (answer.refused() > 0) {
+      seat.isCareful = true;
+      if (isRight) throw new Broken(answer.refusal().getMessage());
+    } else if (word.equals("ASK")) {
+      question.job = seat.jobs;
+      question.askedAt = now;
+      question.until = now + (question.timeout > 0 ? question.timeout : NEVER);
+      seat.lateAt = Math.min(seat.lateAt, question.until);
+    } else if (isRight && word.equals("WAIT")) {
+      question.done = answer;
+      question.until = NEVER;
+      took(question.depth, (now - question.askedAt) / limits.ahead());
+    }
+    if (!word.equals("TABLE")) return;
+    seat.running.remove(question);
+    seat.flight.remove(question);
+    if (question.done == null) {
+      if (!question.isSettled) queue.add(question);
+    } else if (question.done.state().equals("SPENT")) {
+      spent(seat, question);
+    } else {
+      if (!question.done.state().equals("DONE")) throw new Broken("job " + question.job + " was cancelled by nobody here");
+      tabled(seat, question, answer);
+    }
+  }
+
+  /** A job takes long, and others are behind it: these are asked again one by one, in another session. */
+  private void dive(Seat seat) {
+    takes.put(seat.flight.iterator().next().depth, SLOW);
+    close(seat);
+    for (var one : seat.flight) if (now >= one.until) settle(one, one.late());
+    seat.flight.stream().filter(one -> !one.isSettled).forEach(queue::add);
+  }
+
   /** Opens the sessions that are wanted; where every place is taken, and no session can take the first that waits, one ends. */
   private void staff() {
-    if (queue.isEmpty() && seats.stream().allMatch(one -> one.line == null && one.running.isEmpty())) most = limits.sessions();
+    if (queue.isEmpty() && seats.stream().allMatch(one -> one.lines.isEmpty() && one.running.isEmpty())) most = limits.sessions();
     if (now < retryAt) return;
     var before = List.copyOf(seats);
     var opening = before.stream().filter(one -> !one.isReady && one.probe == null).count();
     if (!deep.isEmpty() && before.stream().allMatch(one -> one.probe == null) && seats.size() < most) open(0, new Probe());
-    for (var one : queue.stream().skip(opening).toList()) if (seats.size() < most) open(levelOf(one), null);
+    for (var one : queue) {
+      if (seats.size() >= most) break;
+      if (opening-- <= 0) open(levelOf(one), null);
+    }
     if (seats.size() < most || before.size() < seats.size() || before.stream().anyMatch(one -> !one.isReady || one.isRetired || one.probe != null)) return;
-    var first = queue.peek();
+    var first = queue.isEmpty() ? null : queue.first();
     var isStuck = first != null && before.stream().allMatch(one -> (first.isAlone && one.jobs > 0) || !hasEnough(one, first));
     if (deep.isEmpty() && !isStuck) return;
     var least = before.stream().min(Comparator.comparingInt(one -> one.running.size())).orElseThrow();
