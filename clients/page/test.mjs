@@ -7,23 +7,25 @@ import os from "node:os";
 import path from "node:path";
 import test from "node:test";
 import { read, written } from "./js/address.js";
-import { Analyst, stepsOf } from "./js/analyst.js";
+import { App } from "./js/app.js";
+import { Analyst, bestOf, isLined, stepsOf } from "./js/analyst.js";
 import * as ggf from "./js/formats/ggf.js";
 import { filesRead, textRead, titleOf } from "./js/formats/read.js";
 import * as sgf from "./js/formats/sgf.js";
 import * as wthor from "./js/formats/wthor.js";
 import { lessonOf } from "./js/classroom.js";
 import { besides } from "./js/files.js";
-import { mistakesOf, totalsOf } from "./js/judge.js";
+import { mistakesOf, totalsOf, verdictOf } from "./js/judge.js";
+import { LOST, STARS, starOf } from "./js/measured.js";
 import { isPass, pairsOf } from "./js/moves.js";
-import { MOST_LINES } from "./js/formats/read.js";
+import { LONGEST_LINE, LONGEST_TEXT, MOST_LINES, textReading } from "./js/formats/read.js";
 import { LINES, openingOf } from "./js/openings.js";
 import { LEVELS, choiceOf } from "./js/program.js";
 import { modules } from "./js/qr.js";
 import { questionsOf } from "./js/quiz.js";
 import { SQUARES, START, isOver, legal, mirrored, played, positionOf, result, useEngine, wordsOf } from "./js/rules.js";
-import { listOf, nodeScore, pointOf, sceneOf, wantedOf } from "./js/scene.js";
-import { LIMITS, MEASURED, brief, flipped, lossOf, scoreOf, share, tintOf, tournament, words } from "./js/scores.js";
+import { listOf, pointOf, sceneOf, wantedOf } from "./js/scene.js";
+import { LIMITS, STEPS, brief, flipped, heightOf, lossOf, scoreOf, share, shownAs, stepOf, tintOf, tournament, words } from "./js/scores.js";
 import { newState } from "./js/state.js";
 import { LANGUAGES, speak, t } from "./js/texts.js";
 import { treeOf } from "./js/tree.js";
@@ -62,10 +64,10 @@ test("the spellings of games and positions", () => {
     for (const fault of found.faults) assert.ok(!fault.text.includes("⟨"), fault.text);
   }
   const lines = Array.from({ length: MOST_LINES + 1 }, () => "f5d6c3").join("\n"), before = performance.now(), many = textRead(lines);
-  assert.deepEqual([many.games.length, many.faults.map((fault) => fault.text)], [0, [`these are ${MOST_LINES + 1} lines, and the board reads ${MOST_LINES} at once`]]);
+  assert.deepEqual([many.games.length, many.faults.map((fault) => fault.text)], [0, [`These are ${MOST_LINES + 1} lines, and the board reads ${MOST_LINES} at once.`]]);
   assert.ok(performance.now() - before < 500);
-  assert.match(textRead("f5d6\nc3a1").faults[0].text, /^line 2, column 3: move 4, a1/);
-  assert.match(textRead(`${one}\n\nd6\na1`).faults[0].text, /^line 4, column 1: move 2, a1/);
+  assert.match(textRead("f5d6\nc3a1").faults[0].text, /^Line 2, column 3: move 4, a1/);
+  assert.match(textRead(`${one}\n\nd6\na1`).faults[0].text, /^Line 4, column 1: move 2, a1/);
 });
 
 test("each row of spellings is read as Python reads it", () => {
@@ -130,8 +132,11 @@ test("passes are made by themselves, and refused where a player can move", () =>
 test("what a score says", () => {
   speak(["en"]);
   assert.deepEqual([scoreOf(10, false), scoreOf(-4000, false), scoreOf(0, true), scoreOf(1184, false)], [{ sign: "=", points: 10 }, { sign: "=", discs: -2 }, { sign: "=", discs: 0 }, { sign: "=", points: 1184 }]);
-  assert.deepEqual([{ sign: "<", points: 10 }, { sign: "<", discs: 64 }, { sign: ">", discs: 0 }, { sign: "=", discs: -4 }, { sign: "=", points: 0 }].map(brief), ["≤+10", "≤W64", "≥D", "L4", "0"]);
-  assert.deepEqual([words({ sign: "=", points: -1 }), words({ sign: "<", discs: 4 })], ["-1 point", "at most win by 4"]);
+  const seen = (side, ...scores) => scores.map((score) => brief(shownAs("mover", score, side)));
+  assert.deepEqual(seen("X", { sign: "<", points: 10 }, { sign: "<", discs: 64 }, { sign: ">", discs: 0 }, { sign: "=", discs: -4 }, { sign: "=", points: 0 }), ["≤+10", "≤B+64", "≥D", "W+4", "0"]);
+  assert.deepEqual(seen("O", { sign: "=", points: 12 }, { sign: "=", discs: 38 }, { sign: "<", discs: -4 }, { sign: "=", discs: -6 }), ["+12", "W+38", "≥B+4", "B+6"]);
+  assert.deepEqual([{ sign: "=", points: 12 }, { sign: "=", discs: 38 }].map((score) => brief(shownAs("black", score, "O"))), ["-12", "W+38"]);
+  assert.deepEqual([words({ sign: "=", points: -1, side: "X" }), words({ sign: "<", discs: 4, side: "O" }), words({ sign: "=", discs: -4, side: "O" })], ["-1 point for Black", "at most White by 4 discs", "Black by 4 discs"]);
   assert.deepEqual(flipped({ sign: "<", discs: 4, empty: 2 }), { sign: ">", discs: -4, empty: 2 });
   assert.deepEqual([tournament({ discs: 10, empty: 3 }), tournament({ discs: -10, empty: 3 }), tournament({ discs: 0, empty: 4 })], [13, -13, 0]);
   assert.ok(share({ points: 0 }) === 0.5 && share({ points: 40 }) > share({ points: 10 }) && share({ discs: 64 }) > 0.99 && share({ discs: -2 }) < 0.5);
@@ -139,14 +144,14 @@ test("what a score says", () => {
 
 test("grave and weak are said of discs alone, and a loss in points is doubtful at most", () => {
   const points = (n) => ({ sign: "=", points: n }), discs = (n) => ({ sign: "=", discs: n });
-  assert.deepEqual([lossOf(points(400), points(-700)).class, lossOf(points(LIMITS.WORSE), points(0)).class, lossOf(points(LIMITS.WORSE - 1), points(0)).class], ["doubtful", "worse", "good"]);
+  assert.deepEqual([lossOf(points(400), points(-700)).class, lossOf(points(LIMITS.DOUBTFUL), points(0)).class, lossOf(points(LIMITS.DOUBTFUL - 1), points(0)).class], ["doubtful", "doubtful", "good"]);
   assert.deepEqual([lossOf(discs(10), discs(8)).class, lossOf(discs(10), discs(2)).class, lossOf(discs(2), discs(-2)).class, lossOf(discs(2), discs(0)).class, lossOf(discs(3), discs(2)).class], ["weak", "grave", "grave", "grave", "good"]);
   assert.equal(lossOf(discs(10), points(2)), null);
   assert.equal(lossOf(points(2), { sign: "<", points: -9 }), null);
   assert.deepEqual([tintOf(points(5), points(5)), tintOf(points(5), points(0)), tintOf(points(80), points(0)), tintOf(discs(8), { sign: "<", discs: 2 })], [0, 1, 4, 2]);
 });
 
-test("mistakes stand by their marks, each scale apart", () => {
+test("mistakes stand in the game's order, facts and opinions each with their own unit", () => {
   const { tree } = treeOf(GAME), line = tree.main(), table = new Map();
   const know = (node, best, score, ends = true) => table.set(node.parent.position, { best: "b", depth: 8, ends, table: new Map([["b", best], [node.move, score]]) });
   const points = (n) => ({ sign: "=", points: n }), discs = (n) => ({ sign: "=", discs: n });
@@ -154,20 +159,19 @@ test("mistakes stand by their marks, each scale apart", () => {
   know(line[1], discs(2), discs(-2)); // grave, 4
   know(line[2], discs(20), discs(14)); // weak, 6
   know(line[3], discs(20), discs(4)); // grave, 16
-  know(line[4], points(LIMITS.WORSE), points(0));
+  know(line[4], points(LIMITS.DOUBTFUL - 1), points(0)); // too little to be said
   know(line[5], discs(20), discs(2), false); // not searched to the end: no fact
   const analyst = { of: (position) => table.get(position) }, found = mistakesOf(line, analyst);
-  assert.deepEqual([found.discs.map(({ node }) => node.ply), found.points.map(({ node }) => node.ply)], [[4, 2, 3], [1, 5]]);
+  assert.deepEqual(found.map(({ node, loss }) => [node.ply, loss.unit, loss.class]), [[1, "points", "doubtful"], [2, "discs", "grave"], [3, "discs", "weak"], [4, "discs", "grave"]]);
+  assert.deepEqual(mistakesOf(line, analyst, "O").map(({ node }) => node.ply), [2, 4]);
   assert.deepEqual(totalsOf(line, "X", analyst), { discs: 6, weak: 1, grave: 0, doubtful: 1, inDiscs: 1, inPoints: 2 });
-  table.get(line[0].parent.position).depth = MEASURED.depth - 1; // less deep than was measured
-  assert.deepEqual([totalsOf(line, "X", analyst).doubtful, mistakesOf(line, analyst).points.map(({ loss }) => loss.class)], [0, ["worse", "worse"]]);
 });
 
 /** A state of a game, and an analyst that knows of the positions before its moves what is given: {best: [move, score], own: [move, score], ..}. */
 function stateOf(text, known = {}) {
   const state = newState(), analyst = new Analyst({ engine: {} }, () => {});
   state.tree = treeOf(text).tree;
-  for (const [ply, { best, ends = false, depth = MEASURED.depth, ...table }] of Object.entries(known)) {
+  for (const [ply, { best, ends = false, depth = 8, ...table }] of Object.entries(known)) {
     const { position } = state.tree.main()[ply - 1].parent;
     analyst.learn(position, { depth, best, ends, score: table[best], line: [best], table: new Map(Object.entries(table)) });
   }
@@ -206,11 +210,11 @@ test("all values have the sign that is chosen", () => {
   const { state, analyst } = stateOf("f5d6c3", { 1: { best: "f5", f5: points(8) }, 2: { best: "d6", d6: points(20) }, 3: { best: "c3", c3: discs(4), ends: true } });
   const told = () => {
     const scene = sceneOf(state, analyst), game = scene.game;
-    return [game.map((node) => brief(scene.seen(scene.of(node.parent.position).table.get(node.move), node.side))), game.slice(0, 2).map((node) => nodeScore(scene, node)).map((score) => score.points ?? score.discs), pointOf(scene, game[1]).side];
+    return [game.map((node) => brief(scene.seen(scene.of(node.parent.position).table.get(node.move), node.side))), game.slice(0, 2).map((node) => pointOf(scene, node).score).map((score) => score.points ?? score.discs)];
   };
-  assert.deepEqual(told(), [["+8", "-20", "W4"], [-20, 4], "O"]);
-  state.options.view = "mover";
-  assert.deepEqual(told(), [["+8", "+20", "W4"], [-20, -4], "O"]);
+  assert.deepEqual(told(), [["+8", "+20", "B+4"], [-20, 4]]); // the mover's, where nothing else is chosen; the graph is Black's
+  state.options.sign = "black";
+  assert.deepEqual(told(), [["+8", "-20", "B+4"], [-20, 4]]);
 });
 
 test("no pass stands behind a last move", () => {
@@ -240,8 +244,8 @@ test("where nothing gives values, or nothing is asked, counts end and it is said
 });
 
 test("the quiz asks what is certain, and else what is doubtful", () => {
-  const { state, analyst } = stateOf("f5d6c3d3c4", { 3: { best: "f4", f4: points(90), c3: points(0) }, 4: { best: "c4", c4: points(30), d3: points(0) } }), ask = () => questionsOf(state.tree.main(), "", analyst).map(({ node }) => node.move);
-  assert.deepEqual(ask(), ["c3"]);
+  const { state, analyst } = stateOf("f5d6c3d3c4", { 3: { best: "f4", f4: points(90), c3: points(0) }, 4: { best: "c4", c4: points(90), d3: points(0) } }), ask = () => questionsOf(state.tree.main(), "", analyst).map(({ node }) => node.move);
+  assert.deepEqual(ask(), ["c3", "d3"]);
   analyst.learn(state.tree.main()[4].parent.position, { depth: 12, ends: true, best: "b4", line: [], score: discs(8), table: new Map([["b4", discs(8)], ["c4", discs(2)]]) });
   assert.deepEqual(ask(), ["c4"]);
 });
@@ -364,7 +368,7 @@ test("all languages say the same things, and every text that is named is there",
   const folder = new URL("js/", import.meta.url), formats = new URL("formats/", folder);
   const source = [...[folder, formats].flatMap((one) => fs.readdirSync(one).filter((name) => name.endsWith(".js")).map((name) => new URL(name, one))), new URL("index.html", import.meta.url)].map((name) => fs.readFileSync(name, "utf8")).join("\n");
   for (const name of [...source.matchAll(/\bt\("([^"$]+)"|data-(?:text|label|hint)="([^"]+)"/g)].map(([, one, two]) => one ?? two)) assert.ok(LANGUAGES.en[name], name);
-  const used = (name) => source.includes(`"${name}"`) || ["read.", "glyph.", "export.", "state.", "class.", "lost.", "mistakes.", "legend.", "said.", "quiz.", "strip.", "sign."].some((start) => name.startsWith(start));
+  const used = (name) => source.includes(`"${name}"`) || ["read.", "glyph.", "export.", "state.", "class.", "mistakes.", "legend.", "said.", "quiz.", "strip.", "sign.", "why.", "step.", "value.", "letter.", "unit.", "moves.lost."].some((start) => name.startsWith(start));
   assert.deepEqual(Object.keys(LANGUAGES.en).filter((name) => !used(name)), []);
   assert.equal(t("no.such"), "⟨no.such⟩");
 });

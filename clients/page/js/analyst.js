@@ -6,7 +6,7 @@
 
 import { ServiceFault, lines, pause } from "./lines.js";
 import { count, isOver, result, sideOf } from "./rules.js";
-import { flipped, isExact } from "./scores.js";
+import { flipped, isExact, rank } from "./scores.js";
 
 export const TO_THE_END = 12; // empty squares with which a position is searched to the end of the game
 export const DEEPEST = 12; // plies that the engine looks
@@ -33,9 +33,10 @@ export class Analyst {
   /** `changed` is called when something was learnt, or how a question stands. `local` gives values here, `service` has the depths that the page's service offers. */
   constructor(local, changed) {
     Object.assign(this, { local, changed, known: new Map(), asked: new Map(), faults: new Map(), wanted: [], service: [], pace: 0.4, since: 0, work: 0 });
+    this.lines = 1; // behind so many moves of the position that is looked at
   }
 
-  /** What is known: {depth, score, best, table, line, ends}, or nothing; `ends`: all was searched to the game's end, as of a finished one. */
+  /** What is known: {depth, score, best, table, line, lines, ends}, or nothing; `ends`: all was searched to the game's end, as of a finished one. */
   of(position) {
     if (!this.known.has(position) && isOver(position)) this.known.set(position, ended(position));
     return this.known.get(position);
@@ -133,19 +134,25 @@ export class Analyst {
     this.go();
   }
 
-  /** The line of best moves of the position that is looked at. */
+  /** The lines behind the best moves of the position that is looked at, as many as are wanted. */
   async askLine(position) {
     const known = this.of(position), { local } = this;
-    if (!known?.best || known.lined || !local.engine) return;
-    known.lined = true;
+    if (!known?.best || known.isLining || !local.engine) return;
+    const open = bestOf(known).slice(0, this.lines).find((move) => !known.lines.has(move));
+    if (!open) return;
+    known.isLining = true;
     try {
-      const { line, empty } = await local.line(position, known, undefined);
-      known.line = line;
-      if (empty !== undefined) known.score.empty = empty;
+      const { line, end } = await local.line(position, known.depth, open);
+      known.lines.set(open, line);
+      if (open === known.best) known.line = line;
+      if (open === known.best && end && known.score.discs === end.discs) known.score.empty = end.empty;
       this.changed();
     } catch {
-      known.lined = false; // it was stopped
+      known.isFaulty = true; // it was stopped, or left
     }
+    known.isLining = false;
+    if (!known.isFaulty && this.wanted[0]?.position === position) this.askLine(position);
+    known.isFaulty = false;
   }
 
   /** What was learnt: of two depths the greater counts. */
@@ -153,6 +160,7 @@ export class Analyst {
     const before = this.known.get(position);
     if (before && found.depth < before.depth) return;
     if (before?.best === found.best && before.line.length > found.line.length) found.line = before.line; // until its own is known
+    found.lines ??= new Map();
     this.known.set(position, found);
   }
 
@@ -193,7 +201,8 @@ function stepOf(position, told, before) {
   const bare = ({ discs, empty = 0, ...score }) => (discs === undefined ? score : { ...score, discs: discs - Math.sign(discs) * empty });
   const table = new Map(Object.entries(told.table).map(([move, score]) => [move, bare(score)]));
   if (before?.depth === told.depth) for (const [move, score] of before.table) if (isExact(score) && !isExact(table.get(move))) table.set(move, score);
-  return { ...told, ends: told.depth >= count(position, "-"), score: { ...bare(told.score), empty: told.score.empty }, table, lined: told.line.length > 1 };
+  const lines = new Map(told.line.length > 1 ? [[told.best, told.line]] : []);
+  return { ...told, ends: told.depth >= count(position, "-"), score: { ...bare(told.score), empty: told.score.empty }, table, lines };
 }
 
 /** What a fault means: that the service has no room now, refuses the question, or can't be reached. */
@@ -206,5 +215,14 @@ function kindOf(fault) {
 /** What is known of a finished game. */
 function ended(position) {
   const score = { sign: "=", ...result(position) };
-  return { depth: 0, score: sideOf(position) === "X" ? score : flipped(score), best: "", table: new Map(), line: [], ends: true, lined: true };
+  return { depth: 0, score: sideOf(position) === "X" ? score : flipped(score), best: "", table: new Map(), line: [], lines: new Map(), ends: true };
 }
+
+/** The moves of a position that is known, the best one first. */
+export function bestOf(known) {
+  const worth = (move) => (move === known.best ? Infinity : rank(known.table.get(move)));
+  return known ? [...known.table.keys()].sort((one, two) => (worth(one) === worth(two) ? 0 : worth(two) - worth(one))) : [];
+}
+
+/** Whether the lines behind so many of its best moves are known. */
+export const isLined = (known, many) => bestOf(known).slice(0, many).every((move) => known.lines.has(move));

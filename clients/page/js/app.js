@@ -3,6 +3,7 @@
 import { Changes, FIELDS, read, startOf, written } from "./address.js";
 import { turnText } from "./board.js";
 import { $, say } from "./dom.js";
+import { Unread } from "./formats/unread.js";
 import { START, isOver, sideOf } from "./rules.js";
 import { DEPTH, keepOptions, newState } from "./state.js";
 import { t } from "./texts.js";
@@ -28,8 +29,8 @@ export class App {
 
   /** The state as an address; `follow` names a class that is followed. */
   address(follow = this.state.lesson.follow) {
-    const { depth, view } = this.state.options;
-    return written({ ...this.snapshot(), depth: depth === DEPTH ? "" : String(depth), view: view === "mover" ? "mover" : "", follow });
+    const { depth, sign } = this.state.options;
+    return written({ ...this.snapshot(), depth: depth === DEPTH ? "" : String(depth), view: sign === "black" ? sign : "", follow });
   }
 
   /** Writes the state into the address: as a new entry of the browser's list, or in the place of the last one. */
@@ -46,11 +47,11 @@ export class App {
     const start = startOf(said), { tree, faults } = treeOf(said.moves ?? "", start ?? START), { state } = this;
     state.tree = tree;
     state.info = Object.fromEntries(FIELDS.filter((name) => said[name]).map((name) => [name, said[name]]));
-    state.faults = [...(start ? [] : [t("fault.start")]), ...faults.map(({ kind, word, number }) => t(`read.${kind}`, { word, number }))];
+    state.faults = [...(start ? [] : [t("fault.start")]), ...faults.map(({ kind, word, number }) => new Unread(kind, { word, number }).text)];
     if (said.at === undefined) tree.last();
     else tree.goTo(Number(said.at));
     if (said.depth) state.options.depth = Math.min(Math.max(Number(said.depth) || DEPTH, 1), 60);
-    if (["mover", "black"].includes(said.view)) state.options.view = said.view;
+    if (["mover", "black"].includes(said.view)) state.options.sign = said.view;
   }
 
   /** Opens what an address says. */
@@ -67,7 +68,7 @@ export class App {
   set(options) {
     Object.assign(this.state.options, options);
     keepOptions(this.state.options);
-    if ("depth" in options || "view" in options) this.remember(false);
+    if ("depth" in options || "sign" in options) this.remember(false);
     this.show();
   }
 
@@ -81,10 +82,10 @@ export class App {
   }
 
   /** Goes to another move; steps after one another are one entry of the browser's list. */
-  step(make, mistake = null) {
-    const { state } = this, before = state.tree.current;
+  step(make, mistake = this.state.mistake) {
+    const { state } = this, before = state.tree.current, was = state.mistake;
     make();
-    if (state.tree.current === before && state.mistake === mistake) return;
+    if (state.tree.current === before && was === mistake) return;
     state.mistake = mistake;
     this.moved(!this.collapses, true);
     this.tell(this.where());
@@ -95,14 +96,16 @@ export class App {
     this.step(() => this.tree.go(node.parent), node);
   }
 
-  /** From a variation back to where it left the game. */
+  /** From a variation back to where it left the game; and from a mistake to the game. */
   toGame() {
-    this.step(() => this.tree.go(this.tree.left));
+    if (this.tree.current.isMain) this.step(() => {}, null);
+    else this.step(() => this.tree.go(this.tree.left));
   }
 
   moved(entry, collapses = false) {
     this.collapses = collapses;
-    if (!collapses) this.state.mistake = null;
+    const { mistake, tree } = this.state;
+    if (mistake && tree.left !== mistake.parent) this.state.mistake = null; // a variation from its position leads back to it
     this.state.hint = "";
     for (const leave of this.leavers) leave();
     this.remember(entry);

@@ -23,9 +23,9 @@ function widthOf(text, family) {
 }
 
 export class Board {
-  /** Shows a board in an element; `chosen` is called with a square that was clicked or pressed. */
-  constructor(element, chosen) {
-    this.element = element;
+  /** Shows a board in an element; `chosen` is called with a square that was clicked or pressed, `told` with what a number of the line is. */
+  constructor(element, chosen, told = () => {}) {
+    Object.assign(this, { element, told });
     this.signs = new Array(64).fill("");
     this.squares = SQUARES.map((name, at) => {
       const button = made("button", { type: "button", class: "square", tabindex: -1, "data-square": name, "aria-label": name });
@@ -82,18 +82,22 @@ export class Board {
 
   /**
    * Shows a position: `last` is the square of the move that led here, `next` {move, ply} the one that was played here, `table` what is known of
-   * each move (a map from square to score), `seen` gives these the sign that is chosen, `best` is the best one, `better` are those that are better than a
-   * mistake `next`, `line` is the best line; `setting` says that the start is set up, `hint` names a square that is pointed at, `tinted` says whether
-   * squares are tinted, `turned` how the board lies.
+   * each move (a map from square to score), `seen` gives these the sign that is chosen, `best` is the best one, and `certain` says that this is a
+   * fact; `better` are those that are better than a mistake `next`, `line` is the best line; `setting` says that the start is set up, `hint` names a
+   * square that is pointed at, `tinted` says whether squares are tinted, `turned` how the board lies.
    */
-  show({ position, last = "", next = null, table = new Map(), seen = (score) => score, best = "", better = null, line = [], setting = false, hint = "", tinted = true, turned = 0 }) {
-    this.turn(turned);
+  show(what) {
+    const { position, last = "", next = null, table = new Map(), seen = (score, side) => ({ ...score, side }) } = what;
+    const { best = "", certain = false, better = null, line = [], setting = false, hint = "", tinted = true } = what;
+    this.turn(what.turned ?? 0);
     const free = new Set(setting ? [] : legal(position)), family = (this.family ??= getComputedStyle(this.element).fontFamily); // asked once, as each asking lays out the page
     let widest = LEAST_WIDTH;
     SQUARES.forEach((name, at) => {
       const own = free.has(at) ? table.get(name) : undefined, score = own && seen(own, sideOf(position)), text = score ? brief(score) : "";
       if (text) widest = Math.max(widest, widthOf(text, family));
-      const square = { name, cell: position[at], legal: free.has(at), score, text, last: name === last, next: name === next?.move ? next.ply : 0, best: name === best, hint: name === hint, setting };
+      const square = { name, cell: position[at], legal: free.has(at), score, text, last: name === last, hint: name === hint, setting };
+      Object.assign(square, { next: name === next?.move ? next.ply : 0, best: name === best, thought: name === best && !certain });
+      square.number = line.indexOf(name) + 1;
       square.tint = tinted && own ? tintOf(table.get(best), own) : null;
       square.slip = Boolean(better) && square.next > 0;
       square.better = Boolean(better?.includes(name));
@@ -115,17 +119,18 @@ export class Board {
       if (square.last) label.push(t("square.last"));
     } else if (square.legal) {
       label.push(t("square.legal"));
-      if (square.best) label.push(t("square.best"));
+      if (square.best) label.push(t(square.thought ? "square.thought" : "square.best"));
       if (square.better && !square.best) label.push(t("square.better"));
       if (square.next) label.push(square.slip ? t("square.mistake", { lost: square.lost || t("lost.unknown") }) : t("square.next"));
       if (square.hint) label.push(t("square.hint"));
       if (score) label.push(t("square.value", { text: words(score) }));
     } else label.push(t("square.empty"));
+    if (square.number > 1 && square.number <= NUMBERED) label.push(t("square.number", { n: square.number }));
     if (text) parts.push(made("span", { class: "score", "aria-hidden": "true" }, text));
     else if (square.legal) parts.push(made("span", { class: "dot", "aria-hidden": "true" }));
-    if (square.legal && square.best) parts.push(made("span", { class: "star", "aria-hidden": "true" }, "★"));
+    if (square.legal && square.best) parts.push(made("span", { class: "star", "aria-hidden": "true" }, square.thought ? "☆" : "★"));
     if (square.legal && square.next) parts.push(made("span", { class: "next", "aria-hidden": "true" }, String(square.next)));
-    const kinds = ["legal", "best", "better", "next", "slip", "hint"].filter((kind) => square.legal && square[kind]);
+    const kinds = ["legal", "best", "thought", "better", "next", "slip", "hint"].filter((kind) => square.legal && square[kind]);
     button.className = ["square", ...kinds, ...(square.tint === null ? [] : [`tint${square.tint}`])].join(" ");
     button.setAttribute("aria-label", label.join(", "));
     button.setAttribute("aria-disabled", String(!square.legal && !square.setting));
@@ -139,7 +144,8 @@ export class Board {
     this.line = sign;
     const parts = line.slice(1).flatMap((move, at) => {
       const place = this.places[SQUARES.indexOf(move)], x = (place % 8) + 0.82, y = (place >> 3) + 0.82;
-      return [shape("circle", { class: "knob", cx: x, cy: y, r: 0.14 }), shape("text", { x, y: y + 0.07, "text-anchor": "middle" }, String(at + 2))];
+      const text = t("line.number", { n: at + 2, move }), knob = { class: "knob", cx: x, cy: y, r: 0.14, onclick: () => this.told(text) };
+      return [shape("circle", knob, shape("title", {}, text)), shape("text", { x, y: y + 0.07, "text-anchor": "middle" }, String(at + 2))];
     });
     this.marks.replaceChildren(...parts);
   }

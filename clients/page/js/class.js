@@ -47,6 +47,7 @@ export class Teacher {
       try {
         await lines(`class/${room}/pupils`, { method: "POST", body: { key }, signal }, (told) => {
           wait = 1;
+          this.told("");
           this.heard(told);
         });
       } catch (fault) {
@@ -54,6 +55,7 @@ export class Teacher {
           this.keep(null);
           return this.told("closed");
         }
+        if (!signal.aborted) this.told("lost");
       }
       await pause(wait, signal);
     }

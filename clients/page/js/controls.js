@@ -77,8 +77,10 @@ export class Controls {
   }
 
   key(event) {
-    if (event.defaultPrevented || event.altKey || event.target.closest?.(FIELDS)) return;
+    if (event.defaultPrevented || event.altKey || event.target.closest?.("dialog *")) return;
     const name = event.key, { app } = this;
+    if (name === "Escape") return this.leave(event);
+    if (event.target.closest?.(FIELDS)) return;
     if (event.ctrlKey || event.metaKey) {
       const kind = name.toLowerCase() === "y" || (name.toLowerCase() === "z" && event.shiftKey) ? "redo" : name.toLowerCase() === "z" ? "undo" : null;
       if (!kind) return;
@@ -89,6 +91,14 @@ export class Controls {
     if (steps[name]) app.step(() => this.tree[steps[name]]());
     else if ((name === "ArrowUp" || name === "ArrowDown") && this.tree.current.parent?.children.length > 1) app.step(() => this.tree.beside(name === "ArrowUp" ? -1 : 1));
     else if (!this.strip.press(name)) return;
+    event.preventDefault();
+  }
+
+  /** Back to the game: out of a field, a variation, a question, a mistake, or the setting up of a start. */
+  leave(event) {
+    document.activeElement?.blur();
+    if (this.app.state.setting) $("setting").click();
+    else if (!this.strip.press("Escape")) this.app.toGame();
     event.preventDefault();
   }
 

@@ -3,11 +3,12 @@
 import { FIELDS, read } from "./address.js";
 import { $, made, reveal, say } from "./dom.js";
 import * as ggf from "./formats/ggf.js";
-import { filesRead, textRead, titleOf } from "./formats/read.js";
+import { filesReading, textReading, titleOf } from "./formats/read.js";
 import * as sgf from "./formats/sgf.js";
 import { Unread } from "./formats/unread.js";
 import * as wthor from "./formats/wthor.js";
 import { Shelf, copy, save } from "./keep.js";
+import { pause } from "./lines.js";
 import { painted, pictureText } from "./picture.js";
 import { START } from "./rules.js";
 import { t } from "./texts.js";
@@ -15,6 +16,7 @@ import { able } from "./told.js";
 import { treeOf } from "./tree.js";
 
 const KINDS = ["txt", "ggf", "sgf", "wtb", "svg", "png"];
+const SLICE = 40, AT_ONCE = 500; // milliseconds of reading, and games of the list, before others get their turn
 const MAIN_LINES = ["ggf", "wtb"]; // these have no variations and no notes
 const FIELD = "textarea, select, input:not([type=checkbox], [type=file], [type=range])";
 
@@ -23,7 +25,7 @@ export class Files {
     Object.assign(this, { app, shelf: new Shelf() });
     $("save-as").replaceChildren(...KINDS.map((kind) => made("option", { value: kind }, t(`export.${kind}`))));
     const on = (id, event, does) => $(id).addEventListener(event, does);
-    on("import", "click", () => this.took(textRead($("pasted").value)));
+    on("import", "click", () => this.read(textReading($("pasted").value)));
     on("file", "change", () => this.open([...$("file").files]).then(() => ($("file").value = "")));
     on("games", "change", () => this.choose(Number($("games").value)));
     on("copy-text", "click", () => this.copied(app.tree.text({ variations: false, notes: false })));
@@ -37,21 +39,35 @@ export class Files {
       const text = event.clipboardData?.getData("text") ?? "";
       if (event.target.closest?.(FIELD) || !text.trim()) return;
       event.preventDefault();
-      this.took(textRead(text), true);
+      this.read(textReading(text), true);
     });
     document.addEventListener("dragover", (event) => event.preventDefault());
     document.addEventListener("drop", (event) => {
       event.preventDefault();
       const { files } = event.dataTransfer;
       if (files.length) this.open([...files]);
-      else this.took(textRead(event.dataTransfer.getData("text")));
+      else this.read(textReading(event.dataTransfer.getData("text")));
     });
     this.showShelf();
   }
 
   async open(files) {
     const read = await Promise.all(files.map(async (file) => ({ name: file.name, bytes: new Uint8Array(await file.arrayBuffer()) })));
-    if (read.length) this.took(filesRead(read));
+    if (read.length) await this.read(filesReading(read));
+  }
+
+  /** Reads in slices, so that nothing waits for it; what is begun last counts. */
+  async read(steps, pasted = false) {
+    const own = (this.reading = {});
+    for (;;) {
+      const begun = performance.now();
+      let step = steps.next();
+      while (!step.done && performance.now() - begun < SLICE) step = steps.next();
+      if (step.done) return this.took(step.value, pasted);
+      this.app.tell(t("said.reading", { n: step.value }));
+      await pause(0);
+      if (this.reading !== own) return;
+    }
   }
 
   /** Takes over what was read: the first game is opened, and all are in a list; where it was `pasted` anywhere, what there is to choose or to mend is shown. */
@@ -60,7 +76,8 @@ export class Files {
     state.found = games;
     reveal($("found"), games.length > 1);
     if (pasted && (games.length > 1 || faults.length)) this.app.choose?.("files");
-    $("games").replaceChildren(...games.map((game, at) => made("option", { value: at }, `${at + 1}. ${titleOf(game) || t("import.position", { n: game.start.split("-").length - 1 })}`)));
+    $("games").replaceChildren();
+    this.list(games, 0);
     if (games.length) {
       $("games").value = "0";
       this.choose(0);
@@ -71,10 +88,19 @@ export class Files {
     if (!state.faults.length) this.app.tell(t("said.read", { n: games.length }));
   }
 
+  /** Puts games into the list, so many at once. */
+  async list(games, from) {
+    const nameOf = (game) => titleOf(game) || t("import.position", { n: game.start.split("-").length - 1 }), some = games.slice(from, from + AT_ONCE);
+    $("games").append(...some.map((game, at) => made("option", { value: from + at }, `${from + at + 1}. ${nameOf(game)}`)));
+    if (from + AT_ONCE >= games.length) return;
+    await pause(0);
+    if (this.app.state.found === games) this.list(games, from + AT_ONCE);
+  }
+
   /** Opens a game of the list. */
   choose(at) {
     const { state } = this.app, { start = START, moves, ...info } = state.found[at], { tree, faults } = treeOf(moves, start);
-    state.faults = faults.map(({ kind, word, number }) => t(`read.${kind}`, { word, number }));
+    state.faults = faults.map(({ kind, word, number }) => new Unread(kind, { word, number }).text);
     this.app.change(() => {
       state.tree = tree;
       state.info = Object.fromEntries(FIELDS.filter((name) => info[name]).map((name) => [name, info[name]]));

@@ -1,27 +1,22 @@
 // The graph of values over the game, as a picture; the list of moves says the same in words. A variation that is looked at is drawn beside it.
 //
-// By Black's sign it is one curve, above whose middle Black is better; by the mover's, one for the moves of each player. Points and discs have scales
-// of their own, the one's at the left and the other's at the right, and a line between them where exact values begin, so that nothing falls where only
-// the unit changes. Marks are rings: a full one where discs were lost for certain, the larger the graver, and an empty one for a doubtful move.
+// It is one curve, above whose middle Black is better. Points have their scale at the left, in words, whose steps are those of docs/VALUES.md;
+// discs at the right, by the side that has them; and a line stands where exact values begin, so that nothing falls where only the unit changes.
+// One mark shows where the game was lost.
 
 import { shape } from "./dom.js";
-import { isEnd } from "./scores.js";
+import { STEPS, brief, heightOf, isEnd } from "./scores.js";
 import { t } from "./texts.js";
 
-const TOP = 6, BOTTOM = 18, LEFT = 40, RIGHT = 50;
-const ROUND = { points: [20, 50, 100, 200, 500, 1184], discs: [8, 16, 32, 64] };
-
-/** The greatest number that a scale shows: a round one at least as great as all there are. */
-function scaleOf(points, unit) {
-  const most = Math.max(0, ...points.filter(({ score }) => score && isEnd(score) === (unit === "discs")).map(({ score }) => Math.abs(score[unit])));
-  return ROUND[unit].find((round) => most <= round) ?? ROUND[unit].at(-1);
-}
+const TOP = 6, BOTTOM = 18, LEFT = 92, RIGHT = 44;
+const BANDS = STEPS.length + 1;
+const MOST_DISCS = [8, 16, 24, 32, 40, 48, 64]; // at the scale's end
 
 export class Graph {
   /** `chosen` is called with the number of a move of the game that was clicked, 0 for the start. */
   constructor(element, chosen) {
     this.element = element;
-    this.shown = { points: [], beside: [], from: 0, current: 0, isSplit: false };
+    this.shown = { points: [], beside: [], from: 0, current: 0, turn: 0 };
     element.addEventListener("click", (event) => {
       const last = this.last, box = element.getBoundingClientRect();
       const ply = Math.round(((event.clientX - box.left - LEFT) / (box.width - LEFT - RIGHT)) * last);
@@ -37,8 +32,8 @@ export class Graph {
   }
 
   /**
-   * `points` has for the start and each move of the game {score, side, mark (grave, weak, doubtful or null)}, `beside` the same of a variation behind move
-   * `from`; `isSplit` says that each player's moves are a curve of their own.
+   * `points` has for the start and each move of the game {score}, as black sees it, `beside` the same of a variation behind move `from`; `turn` is
+   * the number of the move that is marked, or 0.
    */
   show(shown) {
     this.shown = shown;
@@ -46,31 +41,35 @@ export class Graph {
   }
 
   draw(resized = false) {
-    const { points, beside, from, current, isSplit } = this.shown;
-    if (resized || !this.width) [this.width, this.height] = [Math.max(this.element.clientWidth, 200), Math.max(this.element.clientHeight, 80)];
-    const { width, height, last } = this, sign = JSON.stringify([points, beside, from, isSplit, width, height]);
+    const { points, beside, from, current, turn } = this.shown;
+    if (resized || !this.width) {
+      [this.width, this.height] = [Math.max(this.element.clientWidth, 200), Math.max(this.element.clientHeight, 80)];
+    }
+    const { width, height, last } = this, sign = JSON.stringify([points, beside, from, turn, width, height]);
     const x = (at) => LEFT + ((width - LEFT - RIGHT) * at) / Math.max(last, 1);
-    if (sign !== this.sign) this.element.replaceChildren((this.svg = this.picture(x)));
+    if (sign !== this.sign) this.element.replaceChildren(this.picture(x));
     this.sign = sign;
-    for (const [name, value] of [["x1", x(current)], ["x2", x(current)]]) this.here.setAttribute(name, value);
+    for (const name of ["x1", "x2"]) this.here.setAttribute(name, x(current));
   }
 
   picture(x) {
-    const { width, height, last } = this, { points, beside, from, isSplit } = this.shown, half = (height - TOP - BOTTOM) / 2, middle = TOP + half;
-    const whole = [...points, ...beside], scales = { points: scaleOf(whole, "points"), discs: scaleOf(whole, "discs") };
-    const y = (score) => middle - half * (isEnd(score) ? score.discs / scales.discs : score.points / scales.points);
+    const { width, height, last } = this, { points, beside, from, turn } = this.shown, half = (height - TOP - BOTTOM) / 2;
+    const whole = [...points, ...beside], discs = whole.filter(({ score }) => score && isEnd(score)).map(({ score }) => Math.abs(score.discs));
+    const most = MOST_DISCS.find((round) => Math.max(0, ...discs) <= round);
+    const y = (score) => TOP + half * (1 - (isEnd(score) ? score.discs / most : heightOf(score)));
     const svg = shape("svg", { viewBox: `0 0 ${width} ${height}`, width, height, role: "img", "aria-label": this.label() });
-    this.drawScales(svg, scales, whole, y);
+    this.drawScales(svg, discs.length ? most : 0, y);
     this.here = shape("line", { class: "here", y1: TOP, y2: height - BOTTOM });
     svg.append(this.here);
-    const game = points.map((point, at) => ({ ...point, at })), left = beside.length ? [game[from], ...beside.map((point, at) => ({ ...point, at: from + 1 + at }))] : [];
-    for (const [some, name] of left.length ? [[game, "curve"], [left, "curve beside"]] : [[game, "curve"]]) {
-      for (const side of isSplit ? ["X", "O"] : [""]) this.drawCurve(svg, some.filter((point) => !side || point.side === side), x, y, `${name}${side && ` of-${side}`}`);
-    }
-    const first = points.findIndex(({ score }) => score && isEnd(score));
-    if (first > 0) svg.append(shape("line", { class: "border", x1: (x(first - 1) + x(first)) / 2, x2: (x(first - 1) + x(first)) / 2, y1: TOP, y2: height - BOTTOM }));
-    for (const { score, mark, at } of game) if (score && mark) svg.append(shape("circle", { class: mark, cx: x(at), cy: y(score), r: { grave: 5.5, weak: 4, doubtful: 4 }[mark] }));
-    for (let at = 0; at <= last; at += last > 30 && width < 420 ? 20 : 10) svg.append(shape("text", { x: x(at), y: height - 4, "text-anchor": "middle" }, String(at)));
+    const game = points.map((point, at) => ({ ...point, at }));
+    this.drawCurve(svg, game, x, y, "curve");
+    if (beside.length) this.drawCurve(svg, [game[from], ...beside.map((point, at) => ({ ...point, at: from + 1 + at }))], x, y, "curve beside");
+    const first = points.findIndex(({ score }) => score && isEnd(score)), border = (x(first - 1) + x(first)) / 2;
+    if (first > 0) svg.append(shape("line", { class: "border", x1: border, x2: border, y1: TOP, y2: height - BOTTOM }));
+    const marked = turn && points[turn]?.score;
+    if (marked) svg.append(shape("path", { class: "turn", d: `M${x(turn)} ${Math.max(y(marked) - 4, TOP + 10)}l-6 -10h12z` }));
+    const step = last > 30 && width < 480 ? 20 : 10;
+    for (let at = 0; at <= last; at += step) svg.append(shape("text", { x: x(at), y: height - 4, "text-anchor": "middle" }, String(at)));
     return svg;
   }
 
@@ -79,30 +78,33 @@ export class Graph {
     for (const ends of [false, true]) {
       let path = "";
       some.forEach(({ score, at }, number) => {
-        const before = some[number - 1]?.score;
-        if (score && isEnd(score) === ends) path += `${before && isEnd(before) === ends ? "L" : "M"}${x(at).toFixed(1)} ${y(score).toFixed(1)}h.01`;
+        const before = some[number - 1]?.score, sign = before && isEnd(before) === ends ? "L" : "M";
+        if (score && isEnd(score) === ends) path += `${sign}${x(at).toFixed(1)} ${y(score).toFixed(1)}h.01`;
       });
       svg.append(shape("path", { class: ends ? `${name} end` : name, d: path }));
     }
   }
 
-  drawScales(svg, scales, points, y) {
-    const { width } = this, has = (unit) => points.some(({ score }) => score && isEnd(score) === (unit === "discs"));
-    const row = (score, left, right) => {
-      const height = y(score);
-      svg.append(shape("line", { class: score.points === 0 ? "zero" : "grid", x1: LEFT, x2: width - RIGHT, y1: height, y2: height }));
-      if (left) svg.append(shape("text", { x: LEFT - 5, y: height + 4, "text-anchor": "end" }, left));
-      if (right) svg.append(shape("text", { x: width - RIGHT + 5, y: height + 4 }, right));
-    };
-    row({ points: 0 }, "0", has("discs") ? t("draw.short") : "");
-    for (const sign of [1, -1]) {
-      row({ points: sign * scales.points }, `${sign > 0 ? "+" : "-"}${scales.points}`, "");
-      if (has("discs")) row({ discs: sign * scales.discs }, "", t("graph.by", { n: scales.discs }));
+  /** The steps of points with their names and whose they are, and where there are discs their greatest number and none. */
+  drawScales(svg, most, y) {
+    const { width, height } = this, half = (height - TOP - BOTTOM) / 2, place = (step) => TOP + half * (1 - step / BANDS);
+    for (let edge = -BANDS; edge <= BANDS; edge += 1) {
+      const [y1, y2] = [place(edge), place(edge)];
+      svg.append(shape("line", { class: edge ? "grid" : "zero", x1: LEFT, x2: width - RIGHT, y1, y2 }));
+    }
+    for (let step = 1 - BANDS; step < BANDS; step += 1) {
+      const middle = place(step + Math.sign(step) / 2), name = t(`step.${Math.abs(step)}`);
+      svg.append(shape("text", { x: LEFT - 6, y: middle + 4, "text-anchor": "end" }, name));
+      if (step) svg.append(shape("circle", { class: `whose ${step > 0 ? "black" : "white"}`, cx: 6, cy: middle, r: 4.5 }));
+    }
+    for (const discs of most ? [most, 0, -most] : []) {
+      const score = { sign: "=", discs, side: "X" }, down = discs > 0 ? 9 : discs ? 0 : 4;
+      svg.append(shape("text", { x: width - RIGHT + 5, y: y(score) + down }, brief(score)));
     }
   }
 
   label() {
-    const { points, isSplit } = this.shown, known = points.filter((one) => one.score).length;
-    return `${t("graph.label", { n: points.length - 1, known })} ${t(isSplit ? "sign.mover" : "sign.black")}`;
+    const { points } = this.shown, known = points.filter((one) => one.score).length;
+    return t("graph.label", { n: points.length - 1, known });
   }
 }

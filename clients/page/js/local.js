@@ -3,7 +3,9 @@
 import { PASS, moduleName } from "../engine/module.js";
 import { Engine } from "../engine/pool.js";
 import { SQUARES, after, count, isOver, legal, result, settled, useEngine, wordsOf } from "./rules.js";
-import { isEnd, scoreOf } from "./scores.js";
+import { scoreOf } from "./scores.js";
+
+const LONGEST_LINE = 12; // moves
 
 /** The engine is another's; here it speaks of positions. */
 export class Local {
@@ -44,17 +46,16 @@ export class Local {
     return choice === null || choice === PASS ? "" : SQUARES[choice];
   }
 
-  /** The line of best moves behind a move, to its depth; and how many squares stay empty where it ends the game with this score. */
-  async line(position, found, signal) {
-    const line = [found.best];
-    let here = settled(after(position, SQUARES.indexOf(found.best))).position;
-    for (let left = found.depth - 1; left > 0 && !isOver(here) && line.length < 12; left -= 1) {
-      const move = await this.best(here, left, signal);
-      line.push(move);
-      here = settled(after(here, SQUARES.indexOf(move))).position;
+  /** A move with the best ones behind it, to a depth; and where that ends the game, its end as the mover sees it: discs, and squares that stay empty. */
+  async line(position, depth, move, signal) {
+    const line = [move];
+    let here = settled(after(position, SQUARES.indexOf(move))).position;
+    for (let left = depth - 1; left > 0 && !isOver(here) && line.length < LONGEST_LINE; left -= 1) {
+      line.push(await this.best(here, left, signal));
+      here = settled(after(here, SQUARES.indexOf(line.at(-1)))).position;
     }
-    const { discs, empty } = result(here), own = position[65] === "X" ? discs : -discs;
-    return { line, empty: isOver(here) && isEnd(found.score) && found.score.discs === own ? empty : undefined };
+    const { discs, empty } = result(here);
+    return { line, end: isOver(here) ? { discs: position[65] === "X" ? discs : 0 - discs, empty } : null };
   }
 
   stop() {

@@ -19,12 +19,13 @@ import { Program } from "./program.js";
 import { Quiz } from "./quiz.js";
 import { isOver, sideOf } from "./rules.js";
 import { pointOf, sceneOf, wantedOf } from "./scene.js";
-import { LIMITS, forBlack, words } from "./scores.js";
+import { LIMITS, STEPS, words } from "./scores.js";
 import { fillSheet } from "./sheet.js";
 import { Strip } from "./strip.js";
 import { Tabs } from "./tabs.js";
 import * as texts from "./texts.js";
 import { Told, restText } from "./told.js";
+import { SAMPLE, Why } from "./why.js";
 
 const { t } = texts;
 const DEPTHS = [2, 4, 6, 8, 10, 12]; // that the engine here looks
@@ -32,7 +33,7 @@ const KEPT_AFTER = 3000; // milliseconds, as the first values come before
 const LISTS = 120; // milliseconds after which the lists are drawn again while values come in
 
 const app = new App(), local = new Local(), analyst = new Analyst(local, learnt);
-let board, moves, mistakes, graph, told, strip, program, quiz, files, classroom, controls, tabs;
+let board, moves, mistakes, graph, told, why, strip, program, quiz, files, classroom, controls, tabs;
 
 // --- What is shown ---
 
@@ -57,6 +58,7 @@ function drawBoard(scene) {
     table: options.values || mistake ? known?.table : undefined,
     seen: scene.seen,
     best: options.values || mistake ? known?.best : "",
+    certain: known?.ends,
     better: mistake && !veil ? mistake.better : null,
     line: options.line ? known?.line : [],
     hint: state.hint,
@@ -70,15 +72,17 @@ function drawBoard(scene) {
 }
 
 function drawLists(scene) {
-  const rest = restText(scene, analyst), { tree, game, variation, left, current, options } = scene;
+  const rest = restText(scene, analyst), { tree, game, variation, left, current } = scene;
+  why.show(scene, rest);
   moves.show(scene, rest);
-  if (tabs.chosen === "mistakes") mistakes.show(scene, rest);
+  if (tabs.chosen === "mistakes") mistakes.show(scene, rest, why.node);
   const points = [tree.root, ...game].map((node) => pointOf(scene, node)), beside = variation.map((node) => pointOf(scene, node));
-  graph.show({ points, beside, from: left.ply, current: current.ply, isSplit: options.view === "mover" });
+  graph.show({ points, beside, from: left.ply, current: current.ply, turn: why.node?.ply ?? 0 });
 }
 
 function want() {
   const { state } = app, scene = sceneOf(state, analyst);
+  analyst.lines = state.options.three ? 3 : 1;
   if (!state.setting && !scene.rest && !document.hidden) analyst.want(wantedOf(state));
   else {
     analyst.dropAll();
@@ -104,11 +108,12 @@ function learnt() {
 }
 
 /** Says the value of the position that is looked at, once it is known. */
-function sayValue({ position, known, veil, state }) {
+function sayValue({ position, known, veil, state, seen }) {
   const [need] = wantedOf(state);
   if (!known || veil || isOver(position) || !analyst.isKnown(need)) return;
   const sign = `${position} ${known.depth} ${known.best}`;
-  if (sign !== said) $("live-value").textContent = t("said.value", { depth: known.depth, move: known.best, value: words(forBlack(known.score, sideOf(position))) });
+  const value = words(seen(known.score, sideOf(position))), name = known.ends ? "said.value.certain" : "said.value";
+  if (sign !== said) $("live-value").textContent = t(name, { n: known.depth, move: known.best, value });
   said = sign;
 }
 
@@ -126,8 +131,15 @@ const DOES = {
   show: () => classroom.share(),
 };
 
+/** A game to try all this on. */
+function sample() {
+  const { moves: text, ...info } = SAMPLE;
+  app.change(() => app.take({ ...info, moves: text, at: "0" }), () => t("said.sample"));
+}
+
 function legend() {
-  const rows = ["points", "end", "signs", "tints", "loss", "bar", "keys"], limits = { weak: LIMITS.WEAK, grave: LIMITS.GRAVE, worse: LIMITS.WORSE, doubtful: LIMITS.DOUBTFUL };
+  const rows = ["points", "end", "steps", "signs", "tints", "loss", "bar", "keys"], limits = { weak: LIMITS.WEAK, grave: LIMITS.GRAVE, doubtful: LIMITS.DOUBTFUL };
+  Object.assign(limits, { better: STEPS[0], much: STEPS[1] });
   $("legend-list").replaceChildren(...rows.flatMap((name) => [made("dt", {}, t(`legend.${name}.name`)), made("dd", {}, t(`legend.${name}`, limits))]));
 }
 
@@ -173,11 +185,12 @@ async function begin() {
   $("language").value = texts.speak([...search.getAll("lang"), ...(kept("language") ? [kept("language")] : []), ...navigator.languages]);
   texts.fill(document);
   legend();
-  board = new Board($("board"), (square) => controls.chosen(square));
+  board = new Board($("board"), (square) => controls.chosen(square), (text) => app.tell(text));
   moves = new Moves($("moves"), (node) => app.step(() => app.tree.go(node)));
   mistakes = new Mistakes($("mistakes"), (node) => app.showMistake(node));
   graph = new Graph($("graph"), (ply) => controls.toPly(ply));
   told = new Told(analyst, new Bar($("bar")));
+  why = new Why({ show: (node) => app.showMistake(node), open: () => $("file").click(), sample });
   strip = new Strip(app, DOES);
   program = new Program(app, local, analyst);
   quiz = new Quiz(app, analyst);

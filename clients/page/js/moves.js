@@ -88,7 +88,7 @@ export class Moves {
 
   /** The button of a move, with what is known now; nothing is worded anew where nothing else is known than before. */
   cell(node, scene) {
-    const cell = this.cells.get(node) ?? this.newCell(node), known = scene.of(node.parent.position), sign = `${scene.options.view}${node.glyph}`;
+    const cell = this.cells.get(node) ?? this.newCell(node), known = scene.of(node.parent.position), sign = `${scene.options.sign}${node.glyph}`;
     if (cell.known === known && cell.sign === sign) return cell.button;
     Object.assign(cell, { known, sign });
     const { score, loss, best, bestMove, depth } = judged(node, scene), seen = (one) => scene.seen(one, node.side);
@@ -96,9 +96,12 @@ export class Moves {
     say(cell.value, value);
     say(cell.mark, mark);
     const kind = node.glyph ? "glyph" : (loss?.class ?? "good");
-    put(cell.button, "class", `move ${kind} ${loss?.unit === "points" && loss.tint ? `lost${loss.tint}` : ""}`.trim());
-    put(cell.button, "aria-label", [cell.name, mark && t(`glyph.${mark}`), score && words(seen(score)), lossWords(loss) && t("moves.lost", { lost: lossWords(loss) })].filter(Boolean).join(", "));
-    put(cell.button, "title", best ? t(score === best ? "moves.best" : "moves.told", { best: bestMove, worth: words(seen(best)), lost: lossWords(loss) || t("lost.unknown"), depth }) : "");
+    const lost = lossWords(loss), unit = loss?.unit ?? "";
+    put(cell.button, "class", `move ${kind} ${unit} ${unit === "points" && loss.tint ? `lost${loss.tint}` : ""}`.trim());
+    const name = [cell.name, mark && t(`glyph.${mark}`), score && words(seen(score)), lost && t(`moves.lost.${unit}`, { lost })];
+    put(cell.button, "aria-label", name.filter(Boolean).join(", "));
+    const told = best && { best: bestMove, worth: words(seen(best)), lost: lost || t("lost.unknown"), n: depth };
+    put(cell.button, "title", best ? t(score === best ? "moves.best" : "moves.told", told) : "");
     return cell.button;
   }
 

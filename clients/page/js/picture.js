@@ -12,7 +12,7 @@ const INK = { ...COLOURS, felt: "#ffffff", line: "#444444", white: "#ffffff", be
  * What a picture has, as shapes that SVG and a canvas both can draw: discs, coordinates, and what is known of each legal square; `numbers`
  * has numbers that stand on squares, and `ink` says that it is printed.
  */
-function* shapesOf({ position, table = new Map(), seen = (score) => score, best = "", last = "", numbers = new Map(), ink = false }) {
+function* shapesOf({ position, table = new Map(), seen = (score, side) => ({ ...score, side }), best = "", last = "", numbers = new Map(), ink = false }) {
   const colours = ink ? INK : COLOURS;
   yield { kind: "rect", x: 0, y: 0, width: SIDE, height: SIDE, fill: "#ffffff" };
   const free = new Set(legal(position));

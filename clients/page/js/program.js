@@ -1,7 +1,7 @@
 // A game against the program: it looks ahead as its level says, and now and then chooses another move than the best.
 
 import { able } from "./told.js";
-import { $, made, say } from "./dom.js";
+import { $, made, reveal, say } from "./dom.js";
 import { START, count, isOver, other, sideOf } from "./rules.js";
 import { rank } from "./scores.js";
 import { t } from "./texts.js";
@@ -80,8 +80,8 @@ export class Program {
   show(scene) {
     const { state, current, setting } = scene, { match } = state, [depth, mistakes] = LEVELS[match?.level ?? state.options.level];
     say($("level-told"), t("play.level.told", { n: depth, share: mistakes }));
-    able("play-end", match);
-    able("take-back", match && current.parent);
+    for (const id of ["play-end", "take-back"]) reveal($(id), match);
+    able("take-back", current.parent);
     able("hint", !isOver(current.position) && this.local.engine && !state.lesson.hidden);
     say($("play-told"), this.textOf(scene));
     const isTurn = match && !setting && sideOf(current.position) !== match.side;

@@ -1,12 +1,12 @@
 // What is to be seen, as it follows from the page's state and from what is known of positions: worked out once, and drawn by all views.
 //
 // The game is the tree's main line, and stays what it is while a variation is looked at: graph, list and mistakes are the game's, and the variation
-// stands beside it. All values have one side's sign: Black's, or that of the player who moves, as it is chosen.
+// stands beside it.
 
-import { TO_THE_END } from "./analyst.js";
+import { TO_THE_END, bestOf } from "./analyst.js";
 import { blackScore, judged, mistakesOf } from "./judge.js";
-import { count, isOver, sideOf } from "./rules.js";
-import { flipped, forBlack, rank } from "./scores.js";
+import { count, isOver } from "./rules.js";
+import { rank, shownAs } from "./scores.js";
 
 const GAME_DEPTH = 8; // of the whole game, at most
 const NOTHING = { of: () => undefined };
@@ -38,11 +38,11 @@ export function wantedOf({ tree, options }) {
 /** The scene of a state. */
 export function sceneOf(state, analyst) {
   const { tree, options, setting } = state, { current } = tree, veil = veilOf(state), known = veil ? NOTHING : analyst;
-  const position = setting ? tree.start : current.position, game = tree.main(), variation = tree.variation();
-  const seen = (score, side) => (score && options.view === "black" ? forBlack(score, side) : score);
-  const scene = { state, options, tree, current, position, game, variation, left: tree.left, setting, veil, rest: restOf(state, analyst), of: known.of.bind(known), seen };
+  const position = setting ? tree.start : current.position, rest = restOf(state, analyst);
+  const scene = { state, options, tree, current, position, setting, veil, rest, game: tree.main(), variation: tree.variation(), left: tree.left };
+  Object.assign(scene, { of: known.of.bind(known), seen: (score, side) => score && shownAs(options.sign, score, side) });
   scene.known = setting ? undefined : known.of(position);
-  scene.progress = scene.rest ? { known: 0, all: 0, left: 0 } : analyst.progress();
+  scene.progress = rest ? { known: 0, all: 0, left: 0 } : analyst.progress();
   scene.question = analyst.stateOf(position);
   scene.mistake = mistakeOf(state, known);
   return scene;
@@ -52,25 +52,16 @@ export function sceneOf(state, analyst) {
 function mistakeOf({ mistake, tree, setting }, analyst) {
   if (!mistake || setting || mistake.parent !== tree.current) return null;
   const known = analyst.of(mistake.parent.position), own = known?.table.get(mistake.move);
-  const better = own ? [...known.table].filter(([, score]) => rank(score) > rank(own)).sort(([, one], [, two]) => rank(two) - rank(one)).map(([move]) => move) : [];
-  return { node: mistake, better: known ? [known.best, ...better.filter((move) => move !== known.best)].filter((move) => move !== mistake.move) : [], ...judged(mistake, analyst) };
+  const isBetter = (move) => own && rank(known.table.get(move)) > rank(own);
+  const better = bestOf(known).filter((move) => move !== mistake.move && (move === known.best || isBetter(move)));
+  return { node: mistake, better, ...judged(mistake, analyst) };
 }
 
-/** The score of a node's position with the sign that is chosen: Black's, or that of whoever made the move that led there. */
-export function nodeScore(scene, node) {
-  const score = blackScore(node, scene);
-  const side = node.side || sideOf(node.position);
-  return score && scene.options.view === "mover" && side === "O" ? flipped(score) : score;
-}
-
-/** A point of the graph: {score, mark, side}. */
+/** A point of the graph: {score}, as black sees it. */
 export function pointOf(scene, node) {
-  const { loss } = judged(node, scene), score = nodeScore(scene, node);
-  return { score: score && { points: score.points, discs: score.discs }, side: node.side || sideOf(node.position), mark: loss && ["doubtful", "weak", "grave"].includes(loss.class) ? loss.class : null };
+  const score = blackScore(node, scene);
+  return { score: score && { points: score.points, discs: score.discs, side: "X" } };
 }
 
-/** The mistakes of the game, in the order of their list. */
-export function listOf(scene) {
-  const { discs, points } = mistakesOf(scene.game, scene);
-  return [...discs, ...points];
-}
+/** The mistakes of the game, in the order of their list, of the side that is chosen. */
+export const listOf = (scene) => mistakesOf(scene.game, scene, scene.options.side);

@@ -10,6 +10,7 @@ import { openingOf } from "./openings.js";
 import { picture } from "./picture.js";
 import { brief } from "./scores.js";
 import { t } from "./texts.js";
+import { whyOf } from "./why.js";
 
 /** What is told of a game in one line. */
 export function namesText({ black, white, event, date, result }) {
@@ -28,15 +29,13 @@ function movesPart(scene, answers) {
 
 /** What was worth what: comments, mistakes and sums. */
 function answersOf(scene) {
-  const { game } = scene, { discs, points } = mistakesOf(game, scene);
-  const list = (unit, rows) => (rows.length ? [made("h2", {}, t(`mistakes.${unit}`)), made("p", {}, helpText(unit, scene.options)), made("ol", {}, ...rows.map((row) => made("li", {}, `${MARKS[row.loss.class] ?? ""} ${rowText(unit, row, scene)}`)))] : []);
+  const { game } = scene, rows = mistakesOf(game, scene), list = rows.map((row) => made("li", {}, `${MARKS[row.loss.class]} ${rowText(row, scene)}`));
   const comments = game.filter(({ comment }) => comment).map((node) => made("li", {}, `${node.ply}. ${node.move}: ${node.comment}`));
   const deepest = Math.max(0, ...game.map((node) => judged(node, scene)).filter(({ loss }) => loss?.unit === "points").map(({ depth }) => depth));
   return [
     ...(comments.length ? [made("ol", {}, ...comments)] : []),
-    ...list("discs", discs),
-    ...list("points", points.slice(0, 10)),
-    ...(game.length ? totalsText(game, scene).map((text) => made("p", {}, text)) : []),
+    ...(game.length ? [made("p", {}, whyOf(scene).text), ...totalsText(scene).map((text) => made("p", {}, text))] : []),
+    ...(rows.length ? [made("h2", {}, t("mistakes")), made("ol", {}, ...list), made("p", {}, helpText(scene.options))] : []),
     made("p", {}, t("sheet.depth", { n: deepest })),
   ];
 }

@@ -10,16 +10,17 @@ export const DEPTH = DEEPEST; // of the position that is looked at, where nothin
 /** What one chooses, and what it is at first. */
 const OPTIONS = {
   analyse: true, game: true, depth: DEPTH,
-  view: "black", // whose sign values have: Black's, or that of the player who moves
+  sign: "mover", // of points: that of the player who moves, or Black's
+  three: false, // the three best lines
   values: true, tints: true, line: true, bar: true,
   turned: 0, // quarter turns of the board
   answers: false, // printed with the sheet
   address: "", // of the page, as others reach it
   level: 2, seat: "X", matchValues: false, // against the program
-  quizSide: "",
+  side: "", // whose mistakes are listed and asked: both players', or one's
   saveAs: "txt",
 };
-const KEPT = ["view", "values", "tints", "line", "bar", "turned", "answers", "address"]; // by the browser
+const KEPT = ["sign", "three", "values", "tints", "line", "bar", "turned", "answers", "address"]; // by the browser
 
 /** A state as it is when the page begins, with the options that the browser has kept. */
 export function newState() {

@@ -3,6 +3,7 @@
 
 import { $, made, reveal, say } from "./dom.js";
 import { openingOf } from "./openings.js";
+import { sideOf } from "./rules.js";
 import { listOf } from "./scene.js";
 import { brief, lossWords } from "./scores.js";
 import { t } from "./texts.js";
@@ -10,10 +11,12 @@ import { t } from "./texts.js";
 /** What a mistake was: the move, what it lost, and the better ones with their values. */
 function mistakeText({ mistake: { node, better, loss, score }, known, seen, position }) {
   if (!known) return t("strip.waits", { ply: node.ply, move: node.move });
-  const worth = (move) => `${move} ${known.table.get(move) ? brief(seen(known.table.get(move), position[65])) : ""}`.trim();
-  const lost = lossWords(loss), name = { grave: "strip.lost", weak: "strip.lost", doubtful: "strip.doubtful", worse: "strip.worse" }[loss?.class];
-  const own = `${node.ply}. ${node.move}${score ? ` (${brief(seen(score, position[65]))})` : ""}`;
-  return [lost && name ? t(name, { move: own, lost }) : t("strip.fine", { move: own }), better.length ? t("strip.better", { moves: better.slice(0, 3).map(worth).join(", ") }) : ""].filter(Boolean).join(" ");
+  const value = (one) => brief(seen(one, sideOf(position))), lost = lossWords(loss);
+  const worth = (move) => `${move} ${known.table.get(move) ? value(known.table.get(move)) : ""}`.trim();
+  const move = `${node.ply}. ${node.move}${score ? ` (${value(score)})` : ""}`;
+  const name = { grave: "strip.lost", weak: "strip.lost", doubtful: "strip.doubtful" }[loss?.class] ?? "strip.fine";
+  const others = better.slice(0, 3).map(worth).join(", ");
+  return [t(name, { move, lost }), others && t("strip.better", { moves: others })].filter(Boolean).join(" ");
 }
 
 export class Strip {
@@ -24,13 +27,22 @@ export class Strip {
 
   /** The text and the buttons of a scene: {name, label, key}. */
   of(scene) {
-    const { state, variation, mistake, left, veil } = scene, { lesson, quiz } = state, button = (name, key, values = {}) => ({ name, key, label: t(`strip.${name}`, values) });
-    const more = listOf(scene).length ? [button("next", "n")] : [];
-    if (lesson.looking) return { text: t("strip.looking", { name: lesson.looking.name || t("class.nameless") }), buttons: [button("mine", "Escape"), button("show", "")] };
-    if (quiz) return { text: quiz.said, buttons: [...(quiz.open ? [button("answer", "a")] : [button("question", "n")]), button("end", "Escape")] };
-    if (variation.length) return { text: t(left.parent ? "strip.variation" : "strip.start", { ply: left.ply, moves: variation.map(({ move }) => move).join(" ") }), buttons: [button("game", "Escape")] };
-    if (mistake && !veil) return { text: mistakeText(scene), buttons: [...(mistake.better.length ? [button("try", "t", { move: mistake.better[0] })] : []), ...more] };
-    return { text: openingOf(scene.current), buttons: [] };
+    const { state: { lesson, quiz }, variation, mistake, left, veil } = scene;
+    const button = (name, key, values = {}) => ({ name, key, label: t(`strip.${name}`, values) });
+    const more = !veil && listOf(scene).length ? [button("next", "n")] : [], question = quiz ? [button("question", "n")] : [];
+    if (lesson.looking) {
+      return { text: t("strip.looking", { name: lesson.looking.name || t("class.nameless") }), buttons: [button("mine", "Escape"), button("show", "")] };
+    }
+    if (quiz && !(variation.length && !quiz.open)) {
+      return { text: quiz.said, buttons: [...(quiz.open ? [button("answer", "a")] : question), button("end", "Escape")] };
+    }
+    if (variation.length) {
+      const values = { ply: left.ply, moves: variation.map(({ move }) => move).join(" ") };
+      return { text: t(left.parent ? "strip.variation" : "strip.start", values), buttons: [button("game", "Escape"), ...question] };
+    }
+    if (!mistake || veil) return { text: openingOf(scene.current), buttons: more };
+    const best = mistake.better.length ? [button("try", "t", { move: mistake.better[0] })] : [];
+    return { text: mistakeText(scene), buttons: [...best, ...more] };
   }
 
   show(scene) {
@@ -42,7 +54,11 @@ export class Strip {
     if (sign === this.sign) return;
     this.sign = sign;
     const focused = document.activeElement?.dataset.does, there = $("strip-buttons");
-    there.replaceChildren(...buttons.map(({ name, label, key }) => made("button", { type: "button", "data-does": name, "aria-keyshortcuts": key || null, onclick: () => this.does[name]() }, label, key ? made("kbd", { "aria-hidden": "true" }, key === "Escape" ? "Esc" : key.toUpperCase()) : "")));
+    const shown = (key) => made("kbd", { "aria-hidden": "true" }, key === "Escape" ? "Esc" : key.toUpperCase());
+    there.replaceChildren(...buttons.map(({ name, label, key }) => {
+      const words = { type: "button", "data-does": name, "aria-keyshortcuts": key || null, onclick: () => this.does[name]() };
+      return made("button", words, label, key ? shown(key) : "");
+    }));
     reveal(there, buttons.length);
     if (focused) there.querySelector(`[data-does="${focused}"]`)?.focus();
   }
@@ -52,10 +68,10 @@ export class Strip {
     return this.scene.mistake?.better[0] ?? "";
   }
 
-  /** Opens the next mistake of the list, and behind the last one the first. */
+  /** Opens the next mistake of the list, or the first behind where one is, and behind the last one the first. */
   next() {
-    const all = listOf(this.scene), at = all.findIndex(({ node }) => node === this.scene.mistake?.node);
-    if (all.length) this.app.showMistake(all[(at + 1) % all.length].node);
+    const { mistake, current } = this.scene, all = listOf(this.scene), at = mistake ? mistake.node.ply : current.ply;
+    if (all.length) this.app.showMistake((all.find(({ node }) => node.ply > at) ?? all[0]).node);
   }
 
   /** Does what a key stands for, if it stands for something here. */

@@ -1,4 +1,5 @@
-// Tabs: one of them is chosen and shows its panel; arrow keys go from one to the next.
+// Tabs: one of them is chosen and shows its panel; arrow keys go from one to the next where the focus is among them. A click takes no focus, so that
+// arrow keys go on through the game.
 
 import { $ } from "./dom.js";
 
@@ -8,6 +9,10 @@ export class Tabs {
     this.tabs = [...element.querySelectorAll("[role=tab]")];
     this.changed = changed;
     for (const tab of this.tabs) tab.addEventListener("click", () => this.choose(tab));
+    element.addEventListener("mousedown", (event) => {
+      event.preventDefault();
+      document.activeElement?.blur();
+    });
     element.addEventListener("keydown", (event) => {
       const at = this.tabs.indexOf(document.activeElement), last = this.tabs.length - 1;
       const to = { ArrowRight: at === last ? 0 : at + 1, ArrowLeft: at ? at - 1 : last, Home: 0, End: last }[event.key];

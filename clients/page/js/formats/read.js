@@ -8,6 +8,7 @@ import { START, isOver, result as resultOf } from "../rules.js";
 import { tournament } from "../scores.js";
 import { treeOf } from "../tree.js";
 import * as ggf from "./ggf.js";
+import { headsOf, unwrapped } from "./heads.js";
 import * as pgn from "./pgn.js";
 import { PLACED, boardRead, lineRead } from "./positions.js";
 import * as sgf from "./sgf.js";
@@ -17,11 +18,24 @@ import * as wthor from "./wthor.js";
 
 export const LONGEST = 64 << 20; // bytes of a file
 export const MOST_LINES = 20000; // of a text
+export const LONGEST_TEXT = 16 << 20, LONGEST_LINE = 100000; // letters
+const LONGEST_GAME = 200, LONGEST_DRAWN = 4000; // lines of one game, letters of a drawn board
 
 const suffixOf = (name) => name.toLowerCase().split(".").pop();
 
-/** All that some files have: {games, faults}. Names of players and tournaments are taken from the .jou and .trn among them. */
-export function filesRead(files) {
+/** What a generator returns at its end. */
+function ended(steps) {
+  for (;;) {
+    const { done, value } = steps.next();
+    if (done) return value;
+  }
+}
+
+/**
+ * All that some files have: {games, faults}. Names of players and tournaments are taken from the .jou and .trn among them. Where there is much it
+ * is read in steps, and each gives how many games there are by then.
+ */
+export function* filesReading(files) {
   const found = { games: [], faults: [] }, names = {};
   const guarded = (name, read) => {
     try {
@@ -31,15 +45,14 @@ export function filesRead(files) {
       found.faults.push(fault.at(0, name));
     }
   };
-  for (const { name, bytes } of files) if (["jou", "trn"].includes(suffixOf(name))) guarded(name, () => (names[suffixOf(name)] = wthor.namesRead(bytes, suffixOf(name))));
+  for (const { name, bytes } of files) {
+    const kind = suffixOf(name);
+    if (["jou", "trn"].includes(kind)) guarded(name, () => (names[kind] = wthor.namesRead(bytes, kind)));
+  }
   for (const { name, bytes } of files) {
     if (bytes.length > LONGEST) found.faults.push(new Unread("long", { number: LONGEST >> 20 }).at(0, name));
     else if (suffixOf(name) === "wtb") guarded(name, () => found.games.push(...wthor.read(bytes, names.jou, names.trn)));
-    else if (!["jou", "trn"].includes(suffixOf(name))) {
-      const { games, faults } = textRead(textOf(bytes), name);
-      found.games.push(...games);
-      found.faults.push(...faults);
-    }
+    else if (!["jou", "trn"].includes(suffixOf(name))) yield* textReading(textOf(bytes), name, found);
   }
   if (!found.games.length && !found.faults.length) found.faults.push(new Unread("nothing").at(0, files[0]?.name));
   return found;
@@ -54,33 +67,50 @@ function textOf(bytes) {
   }
 }
 
-/** The same of a text. */
-export function textRead(whole, name = "") {
-  const text = whole.replace(/^\ufeff/, "").replace(/\r\n?/g, "\n"), found = { games: [], faults: [] };
-  const take = (games) => {
-    try {
-      for (const game of games) (game instanceof Unread ? found.faults : found.games).push(game);
-    } catch (fault) {
-      if (!(fault instanceof Unread)) throw fault;
-      found.faults.push(fault.at(0, name));
-    }
-  };
-  const lines = text.split("\n").length;
-  if (lines > MOST_LINES) {
-    found.faults.push(new Unread("many", { number: lines, most: MOST_LINES }).at(0, name));
-    return found;
+/** What a text is too large for, before anything of it is read. */
+function tooLarge(text) {
+  if (text.length > LONGEST_TEXT) throw new Unread("large", { number: (text.length / 1e6).toFixed(1), most: LONGEST_TEXT >> 20 });
+  let lines = 1;
+  for (let from = 0, end = 0; end >= 0; from = end + 1, lines += 1) {
+    end = text.indexOf("\n", from);
+    const length = (end < 0 ? text.length : end) - from;
+    if (length > LONGEST_LINE) throw new Unread("wide", { number: length, most: LONGEST_LINE }, 0, lines);
   }
+  if (lines - 1 > MOST_LINES) throw new Unread("many", { number: lines - 1, most: MOST_LINES });
+}
+
+/** The same of a text. */
+export function* textReading(whole, name = "", found = { games: [], faults: [] }) {
+  try {
+    tooLarge(whole);
+    for (const game of gamesOf(whole.replace(/^\ufeff/, "").replace(/\r\n?/g, "\n"), name)) {
+      (game instanceof Unread ? found.faults : found.games).push(game);
+      yield found.games.length;
+    }
+  } catch (fault) {
+    if (!(fault instanceof Unread)) throw fault;
+    found.faults.push(fault.at(0, name));
+  }
+  return found;
+}
+
+export const textRead = (text, name) => ended(textReading(text, name));
+export const filesRead = (files) => ended(filesReading(files));
+
+/** The games of a text and the faults among them, one after another. */
+function* gamesOf(text, name) {
   const address = /^\s*\S*[#?]((?:moves|start)=\S+)\s*$/.exec(text);
-  const drawn = boardRead(text);
-  if (!text.trim()) found.faults.push(new Unread("nothing").at(0, name));
+  if (!text.trim()) yield new Unread("nothing").at(0, name);
   else if (address) {
     const state = addressRead({ hash: address[1] });
-    found.games.push({ ...state, start: startOf(state) ?? START, moves: state.moves ?? "" });
-  } else if (/^\s*(\d+\s+)?\(;/.test(text)) take(/\bGM\s*\[\s*(othello|reversi)|\bBO\s*\[/i.test(text) ? ggf.read(text) : sgf.read(text));
-  else if (pgn.isPgn(text)) take(pgnRead(text, name));
-  else if (drawn) found.games.push({ start: drawn, moves: "" });
-  else linesRead(text, found, name);
-  return found;
+    yield { ...state, start: startOf(state) ?? START, moves: state.moves ?? "" };
+  } else if (/^\s*(\d+\s+)?\(;/.test(text)) yield* /\bGM\s*\[\s*(othello|reversi)|\bBO\s*\[/i.test(text) ? ggf.read(text) : sgf.read(text);
+  else if (pgn.isPgn(text)) yield* pgnRead(text, name);
+  else {
+    const inside = unwrapped(text), drawn = boardRead(inside.slice(0, LONGEST_DRAWN));
+    if (drawn) yield { start: drawn, moves: "" };
+    else yield* linesRead(inside, name);
+  }
 }
 
 /** The games of transcripts with heads, and their faults. */
@@ -94,26 +124,31 @@ function* pgnRead(text, name) {
 }
 
 /** The games of lines: all of them as one game, from a start in the first where it has one; else each line by itself. */
-function linesRead(told, found, name) {
-  const text = narrow(told).replace(/^\s*[#%].*$/gm, ""), lines = text.split("\n").map((line, at) => ({ line, number: at + 1 })).filter(({ line }) => line.trim());
-  if (!lines.length) return void found.faults.push(new Unread("nothing").at(0, name));
-  const whole = { games: [], faults: [] }, single = { games: [], faults: [] }, first = lines[0];
-  if (PLACED.test(first.line)) {
-    oneRead(first, whole, name);
-    const rest = lines.slice(1), [start] = whole.games;
+function* linesRead(told, name) {
+  const text = narrow(told).replace(/^\s*[#%].*$/gm, ""), all = text.split("\n").map((line, at) => ({ line, number: at + 1 }));
+  const { info, count } = headsOf(all.filter(({ line }) => line.trim()).slice(0, LONGEST_GAME)), lines = all.filter(({ line }) => line.trim()).slice(count);
+  const from = (line) => text.split("\n").slice(line.number - 1).join("\n"), found = { games: [], faults: [] };
+  if (!lines.length) return void (yield new Unread("nothing").at(0, name));
+  if (PLACED.test(lines[0].line)) {
+    oneRead(lines[0], found, name);
+    const [start] = found.games, rest = lines.slice(1);
     if (start && rest.length && rest.every(({ line }) => !PLACED.test(line))) {
-      whole.games.pop();
-      movesRead(text.split("\n").slice(rest[0].number - 1).join("\n"), rest[0].number, whole, name, start.start);
-    } else for (const line of rest) oneRead(line, whole, name);
-    found.games.push(...whole.games);
-    found.faults.push(...whole.faults);
-    return;
+      found.games.pop();
+      movesRead(from(rest[0]), rest[0].number, found, name, start.start);
+      return yield* [...found.games, ...found.faults];
+    }
+  } else if (lines.length <= LONGEST_GAME) {
+    const single = { games: [], faults: [] };
+    movesRead(from(lines[0]), lines[0].number, found, name);
+    if (found.faults.length) for (const line of lines) oneRead(line, single, name);
+    const isList = found.faults.length && (single.faults.length < found.faults.length || single.games.length > 1), { games, faults } = isList ? single : found;
+    return yield* [...games.map((game) => ({ ...info, ...game })), ...faults];
   }
-  movesRead(text, 1, whole, name);
-  for (const line of lines) oneRead(line, single, name);
-  const { games, faults } = whole.faults.length && (single.faults.length < whole.faults.length || single.games.length > 1) ? single : whole;
-  found.games.push(...games);
-  found.faults.push(...faults);
+  for (const line of lines) {
+    const one = { games: [], faults: [] };
+    oneRead(line, one, name);
+    yield* [...one.games, ...one.faults];
+  }
 }
 
 function oneRead({ line, number }, found, name) {

@@ -13,12 +13,15 @@ const squareOf = (word) => (/^[a-h][1-8]$/i.test(word) ? word.toLowerCase() : /^
 /** The games of a text. */
 export function* read(text) {
   const pattern = /\s*(?:([();])|([A-Za-z]+)((?:\s*\[(?:[^\]\\]|\\[\s\S])*\])+))/y, end = text.trimEnd().length;
-  let at = 0, open = [];
+  let at = 0, open = [], before = 0, line = 1;
   while (at < end) {
     pattern.lastIndex = at;
-    const found = pattern.exec(text), { line, column } = placeOf(text, at), tree = open.at(-1);
-    const [, sign, name, values] = found ?? [];
-    if (!found || (sign !== "(" && !tree) || (name && !tree.nodes.length)) throw new Unread("sgf", {}, column, line);
+    const found = pattern.exec(text), tree = open.at(-1), [, sign, name, values] = found ?? [];
+    if (!found || (sign !== "(" && !tree) || (name && !tree.nodes.length)) {
+      const { line, column } = placeOf(text, at);
+      throw new Unread("sgf", {}, column, line);
+    }
+    for (; before < at; before += 1) line += text[before] === "\n" ? 1 : 0;
     at = pattern.lastIndex;
     if (sign === "(") open.push({ nodes: [], trees: [], line });
     else if (sign === ";") tree.nodes.push({});

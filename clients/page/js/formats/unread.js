@@ -17,7 +17,8 @@ export class Unread extends Error {
 
   get text() {
     const where = [this.file, this.line ? t("fault.line", { line: this.line }) : "", this.column ? t("fault.column", { column: this.column }) : ""].filter(Boolean).join(", ");
-    return `${where && `${where}: `}${t(`read.${this.message}`, this.words)}`;
+    const text = `${where && `${where}: `}${t(`read.${this.message}`, this.words)}`;
+    return text[0].toUpperCase() + text.slice(1) + (/[.。]$/.test(text) ? "" : t("stop.full"));
   }
 }
 
