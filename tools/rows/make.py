@@ -30,7 +30,7 @@ def main():
         path.unlink()
     MADE.unlink(missing_ok=True)
     with ThreadPoolExecutor() as pool:
-        runs = [pool.submit(subprocess.run, [sys.executable, HERE / f"{kind}.py", DATA, seed], check=True) for kind in ("steps", "sessions", "solve")]
+        runs = [pool.submit(subprocess.run, [sys.executable, HERE / f"{kind}.py", DATA, seed], check=True) for kind in ("steps", "sessions", "solve", "windows")]
         for run in runs:
             run.result()
     MADE.parent.mkdir(exist_ok=True)

@@ -117,19 +117,22 @@ def rank(choice):
     return 2 if choice == PASS else 2 - (choice % 8 in (2, 3, 4, 5) and choice // 8 in (0, 7) or choice // 8 in (2, 3, 4, 5) and choice % 8 in (0, 7))
 
 
-def search(board, player, depth, alpha, beta, first=True):
-    """The search of a leaf of at most 2 plies: its score, which may lie outside the window (fail-soft), and how many positions it entered. Below
-    the first position it takes corners first, then the squares of the edges that touch no corner, then the others."""
-    moves = choices(board, player) if first else sorted(choices(board, player), key=rank)
+def search(board, player, depth, alpha, beta, below=None, key=None):
+    """The serial window search: takes the choices in order with window (-beta, -max(alpha, best)) and stops as soon as best >= beta. Its score,
+    which may lie outside the window (fail-soft), how many positions it entered, and the first choice that has the score. Below the first position
+    the choices are ordered by a key, where one is given, as `rank` in the search of a leaf of at most 2 plies."""
+    moves = sorted(choices(board, player), key=key) if key else choices(board, player)
     if depth == 0 or not moves:
-        return static(board, player), 1
-    best, entered = -200000, 1
+        return static(board, player), 1, None
+    best, entered, first = -200000, 1, None
     for choice in moves:
-        below = search(after(board, player, choice), other(player), depth - plies(choice), -beta, -max(alpha, best), False)
-        best, entered = max(best, -below[0]), entered + below[1]
+        score, more, _ = search(after(board, player, choice), other(player), depth - plies(choice), -beta, -max(alpha, best), below, below)
+        entered += more
+        if -score > best:
+            best, first = -score, choice
         if best >= beta:
             break
-    return best, entered
+    return best, entered, first
 
 
 def name(choice):

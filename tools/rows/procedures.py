@@ -206,7 +206,7 @@ class Jamboree:
     def accept(self, own, answer):
         own, opp, depth, alpha, beta = answer
         board = othello.board_of(own, opp)
-        score = othello.search(board, "X", depth, alpha, beta)[0]
+        score = othello.search(board, "X", depth, alpha, beta, othello.rank)[0]
         within = alpha < score < beta and depth > 0
         choice = othello.minimax(board, "X", depth)[1] if within else None
         return [(BEST, score + ZERO), (CHOICE, NO_CHOICE if choice is None else choice), (PHASE, DONE)]

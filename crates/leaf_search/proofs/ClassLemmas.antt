@@ -1,6 +1,8 @@
 -- For the ordered serial search: the choices of a board by classes of squares, which are a rearrangement of its
 -- choices, and what is left when the first is taken.
 use Rattle.leaf_search.proofs.Common.{append_assoc, ◌+◌, cond, length, length-append, length-map, bit_or, count_ones, zero_from_ones, le_or_l, le_or_r, ◌≡◌, ◌<◌, ◌-◌, ◌*◌, ◌%◌, ◌^◌, ℕ, Bool, true, false, not, ◌&&◌, eqb, min, [], ◌∷◌, ◌++◌, map, refl, sym, ◌∙◌, ap, ap₂, subst, arith, map-append, bit_and, bit_at, bit_not, trailing_zeros, w64, bit_at-lt, bit_at_and, bit_at_not, squares, squares_of, pass_if, sequence, classed, Pass, Square, IsPermutation, IsPermutation-map, IsPermutation-refl, IsPermutation-append, IsPermutation-filter_both}
+use Rattle.std.specs.Int.Bits.{and_zero_r}
+use Rattle.std.proofs.lemmas.Nat.{and_mask}
 use Rattle.othello_moves.proofs.BitLemmas.{filter-filter, filter-agree-between, squares-ascend, squares_of-zero, squares_of-first, sequence-first, sequence-second, sequence-pass, sequence-none, length-sequence, count_ones-squares}
 
 both-one : (x y : ℕ) → x < 2 → y < 2 → (eqb x 1 && eqb y 1) ≡ eqb (min x y) 1
@@ -34,6 +36,17 @@ classed-rearranges a b class passes fits =
     (IsPermutation-append corners corners _ _ (IsPermutation-refl corners)
     (IsPermutation-append (map Square (squares_of b)) (map Square parts) (pass_if passes) (pass_if passes) (IsPermutation-map Square (squares_of b) parts (split-by b class fits))
     (IsPermutation-refl (pass_if passes))))
+
+-- where the class is empty, the order is kept
+pub classed-kept : (a b class : ℕ) (passes : Bool) → class ≡ 0 → b < 2 ^ 64 → classed a (bit_and b class) (bit_and b (bit_not w64 class)) passes ≡ sequence a b passes
+classed-kept a b class passes none fits =
+    let first : bit_and b class ≡ 0 = ap (bit_and b) none ∙ and_zero_r b in
+    let mask : bit_and b (bit_not w64 0) ≡ b % 2 ^ 64 = and_mask b 64 in
+    let second : bit_and b (bit_not w64 class) ≡ b = ap (λ n. bit_and b (bit_not w64 n)) none ∙ omega (arith, mask) in
+    ap₂ (λ m n. classed a m n passes) first second
+    ∙ ap (λ xs. map Square (squares_of a) ++ (map Square (xs ++ squares_of b) ++ pass_if passes)) squares_of-zero
+    ∙ sym (append_assoc (map Square (squares_of a)) (map Square (squares_of b)) (pass_if passes))
+    ∙ sym (ap (λ l. l ++ pass_if passes) (map-append Square (squares_of a) (squares_of b)))
 
 -- a word without its lowest bit
 abbrev rest_of : ℕ → ℕ

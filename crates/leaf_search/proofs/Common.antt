@@ -19,7 +19,7 @@ pub use Rattle.othello_board.specs.Words.{bits_of, cells}
 pub use Rattle.othello_board.specs.declared.boards.Board.{Board}
 pub use Rattle.othello_board.specs.declared.cells.Cell.{Cell}
 pub use Rattle.othello_eval.proofs.MinimaxLemmas.{best_choice-deeper, best_choice-leaf, best_choice-over, find-kept, find-new, found-below-greatest}
-pub use Rattle.othello_eval.proofs.MinimaxLemmas.{greatest_or-lower, greatest_or-upper, minimax-deeper, minimax-over, minimax-leaf-there}
+pub use Rattle.othello_eval.proofs.MinimaxLemmas.{greatest_or-lower, greatest_or-upper, minimax-deeper, minimax-over, minimax-leaf, minimax-leaf-there}
 pub use Rattle.othello_eval.proofs.ValueLemmas.{difference-fits, eval-fits, eval-is, known-within, mobility-fits, small-fits}
 pub use Rattle.othello_moves.proofs.AllowedLemmas.{goes_down, legal_squares-fit, passing}
 pub use Rattle.othello_moves.proofs.BitLemmas.{length-in_order}
@@ -42,3 +42,8 @@ pub use Rattle.leaf_search.specs.Classes.{classed}
 pub use Rattle.std.proofs.lemmas.Bool.{false≢true, ne_eqb, not-true, eq-eqb}
 pub use Rattle.std.proofs.lemmas.Nat.{le_or_l, le_or_r, zero_from_ones}
 pub use Rattle.othello_board.specs.Rules.{is_legal}
+pub use Rattle.std.proofs.Common.{zero}
+pub use Rattle.std.specs.Prelude.{int_le}
+pub use Rattle.std.proofs.lemmas.Bool.{cond-false, cond-true}
+pub use Rattle.othello_board.specs.Rules.{played}
+pub use Rattle.othello_eval.specs.othello_moves.Choices.{choices_without_move}

@@ -4,3 +4,4 @@ pub mod WindowLemmas
 pub mod RankingLemmas
 pub mod ListLemmas
 pub mod ClassLemmas
+pub mod SerialLemmas

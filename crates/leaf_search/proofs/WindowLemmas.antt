@@ -201,13 +201,9 @@ pub record Searched {X : Type 0} (alpha beta : ℤ) (v : X → ℤ) (xs left : L
   pub searching : IsSearching alpha beta v all left best choice
 
 -- before the first turn
-pub Searched-start : {X : Type 0} (alpha beta : ℤ) (v : X → ℤ) (xs all : List X) (best : ℤ) → best ≡ negsuc 199999 → negsuc 199999 ≤ℤ alpha → alpha <ℤ beta → IsPermutation xs all →
-    Searched alpha beta v xs all best
-Searched-start alpha beta v xs all best least low window perm = record {
-  all = all;
-  rearranged = perm;
-  choice = None;
-  searching = record {
+module _ {X : Type 0} (alpha beta : ℤ) (v : X → ℤ) where
+  pub IsSearching-start : (all : List X) (best : ℤ) → best ≡ negsuc 199999 → negsuc 199999 ≤ℤ alpha → alpha <ℤ beta → IsSearching alpha beta v all all best None
+  IsSearching-start all best least low window = record {
     taken = [];
     split = refl;
     so_far = record {
@@ -220,8 +216,10 @@ Searched-start alpha beta v xs all best least low window perm = record {
     real = λ (some : 0 < 0). absurd (omega arith);
     greatest = omega (arith, ints, least);
     chosen = tt;
-  };
-}
+  }
+
+  pub Searched-start : (xs all : List X) (best : ℤ) → best ≡ negsuc 199999 → negsuc 199999 ≤ℤ alpha → alpha <ℤ beta → IsPermutation xs all → Searched alpha beta v xs all best
+  Searched-start xs all best least low window perm = record { all = all; rearranged = perm; choice = None; searching = IsSearching-start all best least low window }
 
 -- some choice goes with the greater score
 taken-in : {X : Type 0} (best score new_best : ℤ) (choice : Option X) (c : X) → new_best ≡ int_max best (neg_ℤ score) →

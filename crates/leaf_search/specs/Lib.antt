@@ -2,3 +2,4 @@ pub use Rattle.othello_eval.specs as othello_eval
 pub mod Bounds
 pub mod Classes
 pub mod Ranking
+pub mod Serial

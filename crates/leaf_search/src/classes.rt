@@ -1,9 +1,10 @@
 //! The choices of a board by classes of squares, for the last plies of the ordered serial search: there a list by keys
 //! takes longer to make than it saves.
-ghost use Rattle.std.specs.Prelude.{◌≡◌, ◌↔◌, ◌∷◌, [], IsTrue, MatchOption};
+ghost use Rattle.std.specs.Prelude.{◌≡◌, ◌↔◌, ◌∷◌, [], IsTrue, List, MatchOption};
 ghost use Rattle.std.specs.List.Sorted.{IsPermutation};
 ghost use Rattle.othello_board.specs.Words.{cells};
 ghost use Rattle.othello_eval.specs.othello_moves.Choices.{choices};
+ghost use Rattle.othello_eval.specs.othello_moves.declared.choices.Choice.{Choice};
 
 use othello_board::Board;
 use othello_eval::othello_moves::{Choice, moves};
@@ -18,22 +19,37 @@ const EDGES: u64 = 0x3c00_8181_8181_003c;
 /// In which order a search takes the choices below its first position. By each it finds a bound; they differ in how many
 /// positions are entered.
 pub(crate) trait ClassOrder {
-    /// The squares that are taken after the corners and before the others.
-    const CLASS: u64;
+    /// Whether a list (the second) has the choices of a board, which come first as the rules order them, in this order.
+    ghost IsTaken: { List Choice → List Choice → Type 0 };
+
+    /// All choices of a board in this order.
+    fn list(board: Board) -> Classed
+        ensures all { IsPermutation (choices (cells board)) result }
+        ensures order { IsTaken (choices (cells board)) result };
 }
 
 /// The specified order, which is the rules'.
 pub(crate) struct Specified;
 
 impl ClassOrder for Specified {
-    const CLASS: u64 = 0;
+    ghost IsTaken = { λ all list. list ≡ all };
+
+    #[inline(always)]
+    fn list(board: Board) -> Classed {
+        Classed::new(board, 0)
+    }
 }
 
 /// The squares of the edges early, which is faster.
 pub(crate) struct EdgesEarly;
 
 impl ClassOrder for EdgesEarly {
-    const CLASS: u64 = EDGES;
+    ghost IsTaken = { λ all list. Unit {0} };
+
+    #[inline(always)]
+    fn list(board: Board) -> Classed {
+        Classed::new(board, EDGES)
+    }
 }
 
 /// The choices of a board that are left: corners, then the squares of a class, then the others, each by rising index; or a pass.
@@ -59,7 +75,8 @@ impl Classed {
     /// All choices of a board, where the class has these squares. With none of them the order is the rules'.
     #[inline(always)]
     pub(crate) fn new(board: Board, class: u64) -> Classed
-        ensures { IsPermutation (choices (cells board)) result }
+        ensures all { IsPermutation (choices (cells board)) result }
+        ensures rules { class ≡ 0 → result ≡ choices (cells board) }
     {
         let own = moves(board);
         let is_stuck = own == 0;

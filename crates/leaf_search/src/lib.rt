@@ -6,17 +6,18 @@
 //! minimax value, as `IsBound` of `specs/Bounds.antt` says it: an upper bound where it is at most alpha,
 //! a lower bound where it is at least beta, and between the two the value itself; there the choice is
 //! the best choice. [`search_full`] takes the full window, in which every value lies, so its score is
-//! the value. The choice of any score is one of the board's choices, or none. Two things are tested and
-//! not proved, against a search that is written as the literature has it: a score outside the window is
-//! the fail-soft one, which may say more than alpha or beta would, and the count of positions entered
-//! is that of such a search, which leaves out what can't change the window's answer.
+//! the value. The choice of any score is one of the board's choices, or none. Which search it is, the
+//! contract says too: its score, outside the window as well, and the count of positions entered are those of
+//! `searched` of `specs/Serial.antt`, a recursion that takes the choices in the rules' order, each through the window from
+//! `-beta` to `-max(alpha, best)`, and leaves the others out as soon as best is at least beta. The drawn rows of `transcripts`
+//! compare both with a model that shares no code with the crates.
 //!
 //! [`search_ordered`] promises the same, and enters far fewer positions: from a depth of 3 on it takes the choices by a key
 //! that the boards after them give (`src/ranking.rt`), the first through the window and each other first through a window
 //! of width one, where most turn out to be no better. Of equal choices the first in the rules' order is still found: at the
 //! first position a choice that comes earlier than the best so far is tested from one below the best score, so that a tie counts.
 //! Below that depth it takes corners first, then the squares of the edges that touch no corner, then the others (`src/classes.rt`).
-//! How much is entered no contract says; a test compares it with kept numbers. Between two choices `IsRanking` of
+//! How much it enters no contract says; a test compares it with kept numbers, and holds that it is fewer. Between two choices `IsRanking` of
 //! `proofs/RankingLemmas.antt` holds: as below, but what is known of the choice is that it attains the best score and that none
 //! at an earlier place does; as the list is a rearrangement of the choices, none of them is left out.
 //!

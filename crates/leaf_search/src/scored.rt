@@ -13,8 +13,8 @@ pub struct Scored {
     /// A choice of the board, or none: the best choice where the score lies inside the window, so none at
     /// depth 0 and in a finished game. Outside it no more is promised than that it is one of the board's.
     pub choice: Option<Choice>,
-    /// How many positions were entered, the first included; the count stops at the greatest `u64`. Tests compare it;
-    /// no contract of a search speaks of it.
+    /// How many positions were entered, the first included; the count stops at the greatest `u64`. The contract of
+    /// `search` says how many; that of the ordered search doesn't.
     pub visited: u64,
 }
 

@@ -5,8 +5,9 @@ ghost use Rattle.othello_eval.specs.othello_moves.Choices.{choices};
 ghost use Rattle.othello_eval.specs.Values.{IsWithin, discs_value, weights};
 ghost use Rattle.othello_eval.specs.Minimax.{minimax, best_choice};
 ghost use Rattle.leaf_search.specs.Bounds.{IsBound};
+ghost use Rattle.leaf_search.specs.Serial.{searched, IsRulesOrder};
 
-use super::classes::{ClassOrder, Classed, Specified};
+use super::classes::{ClassOrder, Specified};
 use super::leaf::entered;
 use super::scored::{Counted, Scored};
 use super::window::{INF, Window};
@@ -19,9 +20,10 @@ use othello_eval::{Weighed, final_value};
 /// The score is a bound of the minimax value: an upper bound where it is at most `alpha`, a lower bound
 /// where it is at least `beta`, and between the two the value itself. There the choice is the best
 /// choice, the first in order that attains the value, so none at depth 0 and in a finished game; a
-/// choice outside the window is one of the board's choices, and no more is promised of it. That a bound
-/// is the fail-soft one, and what `visited` counts, is tested and not proved.
-/// Takes no memory and refuses nothing.
+/// choice outside the window is one of the board's choices, and no more is promised of it. Score and
+/// count of positions are those of the specified search (`specs/Serial.antt`): the choices in the rules'
+/// order, each through the window from `-beta` to `-max(alpha, best)`, until one has a score of at least
+/// `beta`. Takes no memory and refuses nothing.
 pub fn search(board: Board, depth: u8, alpha: i32, beta: i32) -> Scored
     requires shallow { depth ≤ DEEPEST }
     requires least { neg_ℤ INF ≤ℤ alpha }
@@ -31,17 +33,21 @@ pub fn search(board: Board, depth: u8, alpha: i32, beta: i32) -> Scored
     ensures choice { alpha <ℤ result.score → result.score <ℤ beta → result.choice ≡ best_choice depth (cells board) }
     ensures within { IsWithin 128000 result.score }
     ensures chosen { IfSome result.choice (Contains (choices (cells board))) }
+    ensures score { result.score ≡ (searched depth (cells board) alpha beta).0 }
+    ensures visited { result.visited ≡ (searched depth (cells board) alpha beta).1 }
 {
     search_by::<Specified>(board, depth, Window { alpha, beta })
 }
 
-/// Searches a board as [`search`] does, and takes the choices below the first position in this order.
+/// Searches a board as [`search`] does, and takes the choices below the first position in this order. In the rules' order it is the
+/// specified search.
 #[inline(always)]
 pub(crate) fn search_by<O: ClassOrder>(board: Board, depth: u8, window: Window) -> Scored
     ensures bound { IsBound window.alpha window.beta result.score (minimax depth (cells board)) }
     ensures choice { window.alpha <ℤ result.score → result.score <ℤ window.beta → result.choice ≡ best_choice depth (cells board) }
     ensures within { IsWithin 128000 result.score }
     ensures chosen { IfSome result.choice (Contains (choices (cells board))) }
+    ensures specified { IsRulesOrder O.IsTaken → searched depth (cells board) window.alpha window.beta ≡ (result.score, result.visited) }
 {
     let weighed = Weighed::of(board);
     if depth > 0 {
@@ -58,6 +64,7 @@ pub fn search_full(board: Board, depth: u8) -> Scored
     ensures choice { result.choice ≡ best_choice depth (cells board) }
     ensures within { IsWithin 128000 result.score }
     ensures chosen { IfSome result.choice (Contains (choices (cells board))) }
+    ensures visited { result.visited ≡ (searched depth (cells board) (neg_ℤ INF) INF).1 }
 {
     search(board, depth, -INF, INF)
 }
@@ -70,6 +77,7 @@ fn best_of<O: ClassOrder>(weighed: Weighed, depth: u8, window: Window) -> Scored
     ensures choice { window.alpha <ℤ result.score → result.score <ℤ window.beta → result.choice ≡ best_choice depth (cells weighed.board) }
     ensures within { IsWithin 128000 result.score }
     ensures chosen { IfSome result.choice (Contains (choices (cells weighed.board))) }
+    ensures specified { IsRulesOrder O.IsTaken → searched depth (cells weighed.board) window.alpha window.beta ≡ (result.score, result.visited) }
 {
     let mut left = Choices::new(weighed.board);
     if left.is_empty() {
@@ -96,6 +104,7 @@ fn best_of<O: ClassOrder>(weighed: Weighed, depth: u8, window: Window) -> Scored
 pub(crate) fn search_below<O: ClassOrder>(weighed: Weighed, depth: u8, window: Window) -> Counted
     ensures bound { IsBound window.alpha window.beta result.score (minimax depth (cells weighed.board)) }
     ensures within { IsWithin 128000 result.score }
+    ensures specified { IsRulesOrder O.IsTaken → searched depth (cells weighed.board) window.alpha window.beta ≡ (result.score, result.visited) }
 {
     if depth > 0 {
         return score_of::<O>(weighed.board, weighed.discs, depth, window);
@@ -111,8 +120,9 @@ fn score_of<O: ClassOrder>(board: Board, discs: i32, depth: u8, window: Window) 
     requires deep { 0 < depth }
     ensures bound { IsBound window.alpha window.beta result.score (minimax depth (cells board)) }
     ensures within { IsWithin 128000 result.score }
+    ensures specified { IsRulesOrder O.IsTaken → searched depth (cells board) window.alpha window.beta ≡ (result.score, result.visited) }
 {
-    let mut left = Classed::new(board, O::CLASS);
+    let mut left = O::list(board);
     if left.is_empty() {
         return Counted::entered(final_value(board));
     }

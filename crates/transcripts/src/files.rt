@@ -1,5 +1,6 @@
 //! The player of texts: the files of the folder that the program runs in.
 use crate::agreement::{Agreement, Done};
+use crate::calls::play_calls;
 use crate::configs::play_config;
 use crate::desks::play_sessions;
 use crate::playing::play_steps;
@@ -92,6 +93,11 @@ fn play_text<R: Wait>(
     Ok(())
 }
 
+/// Whether this head is one of calls.
+fn is_call(head: &str) -> bool {
+    head == "search" || head == "position"
+}
+
 /// Plays one scene of a text.
 fn play_scene<R: Wait>(
     rt: &R,
@@ -104,6 +110,7 @@ fn play_scene<R: Wait>(
     match kind {
         Kind::Config if head.starts_with("config") => play_config(alloc, scene, agreement),
         Kind::Solve if head.starts_with("solve ") => play_solve(alloc, scene, agreement),
+        Kind::Solve if is_call(head) => play_calls(alloc, scene, agreement),
         Kind::Session if head.starts_with("desk ") => play_sessions(rt, alloc, scene, agreement),
         Kind::Steps if head.starts_with("core ") => play_steps(alloc, scene, agreement),
         _ => agreement.miss(scene.head, "a head of this kind of text", head),

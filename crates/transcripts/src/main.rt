@@ -5,6 +5,7 @@
 //! every text. A file's ending says what plays it:
 //!
 //! - `NAME.solve` (`solving`): the lines of `othello solve`, at each grain that the head names, by `--ordered`, or by `--visited`;
+//!   (`calls`) searches through windows, and positions that are read and written again;
 //! - `NAME.session` (`sessions`): sessions at a desk, whose jobs one worker runs (`desk_worker`) at each WAIT;
 //! - `NAME.steps` (`playing`): steps of a core, its answers, and looks at its state in between;
 //! - `NAME.rows` (`configs`): a file of `othello_site`: what it is read to, or refused for, and whose a connection is.
@@ -24,6 +25,7 @@
 
 mod agreement;
 mod answered;
+mod calls;
 mod compared;
 mod configs;
 mod desk_worker;
