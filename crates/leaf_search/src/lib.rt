@@ -17,7 +17,7 @@
 //! of width one, where most turn out to be no better. Of equal choices the first in the rules' order is still found: at the
 //! first position a choice that comes earlier than the best so far is tested from one below the best score, so that a tie counts.
 //! Below that depth it takes corners first, then the squares of the edges that touch no corner, then the others (`src/classes.rt`).
-//! How much it enters no contract says; a test compares it with kept numbers, and holds that it is fewer. Between two choices `IsRanking` of
+//! How much it enters no contract says; a test compares it with a peer's numbers. Between two choices `IsRanking` of
 //! `proofs/RankingLemmas.antt` holds: as below, but what is known of the choice is that it attains the best score and that none
 //! at an earlier place does; as the list is a rearrangement of the choices, none of them is left out.
 //!

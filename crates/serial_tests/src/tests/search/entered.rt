@@ -1,8 +1,8 @@
-//! Tests of how many positions a serial search enters: no contract speaks of that.
+//! A test of how many positions the ordered serial search enters: no contract speaks of that.
 ghost use Rattle.std.specs.Prelude.{◌≤◌};
 
-use super::{holds, holds_at};
-use leaf_search::{Scored, search_full, search_ordered_full};
+use super::holds_at;
+use leaf_search::{Scored, search_ordered_full};
 use othello_board::Board;
 
 /// The player's discs, and the opponent's.
@@ -38,13 +38,6 @@ fn ordered(board: Board, depth: u8) -> Scored
     search_ordered_full(board, depth)
 }
 
-/// A search in the rules' order. It says nothing of what it finds.
-fn in_order(board: Board, depth: u8) -> Scored
-    requires { depth ≤ 12 }
-{
-    search_full(board, depth)
-}
-
 /// How many positions an ordered search enters from the position with these discs; 2^64 - 1 where they are no board.
 fn entered(discs: Discs, depth: u8) -> u64
     requires { depth ≤ 12 }
@@ -78,28 +71,4 @@ fn ordered_searches_enter_few(rt: HostRuntime) {
             entered_by(count, depth.min(12)) <= most,
         );
     }
-}
-
-/// Whether both searches find the same value and choice.
-fn agree(discs: Discs, depth: u8) -> bool
-    requires { depth ≤ 12 }
-{
-    match Board::new(discs.0, discs.1) {
-        Some(board) => {
-            let (one, other) = (ordered(board, depth), in_order(board, depth));
-            one.score == other.score && one.choice == other.choice
-        }
-        None => false,
-    }
-}
-
-/// At depth 2 and, of another board, at 5, below the depth at which choices are ordered both searches are the same, and
-/// enter the same positions.
-#[test]
-fn short_searches_are_in_order(rt: HostRuntime) {
-    let Some(board) = Board::new(DRAWN[0].0, DRAWN[0].1) else {
-        return;
-    };
-    holds(&rt, ordered(board, 2) == in_order(board, 2));
-    holds(&rt, agree(DRAWN[1], 5));
 }
