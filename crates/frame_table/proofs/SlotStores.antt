@@ -1,5 +1,5 @@
 -- The frame table's slots under keys: reading, writing and adding them.
-use Rattle.frame_table.proofs.Common.{AllHere, AreApartKeys, ContainsKey, HasSerial, IsCutAt, IsHere, IsSlotStore, KnowsParent, Leaves, List, None, Option, Slab, Slot, Some, StoredSlot, Updates, [], ap, append-nil, append_assoc, arith, cond, eq-eqb, eqb, false, false≢true, filter_more, get, get_or, gone_among, has_number, length, length-append, map-append, not, or_at, or_right, refl, set, slab_len, slots_in, stays_under, suc, sym, take, take_more, true, zero, ℕ, ◌++◌, ◌+◌, ◌<◌, ◌||◌, ◌∙◌, ◌∷◌, ◌≡◌, ◌≢◌, ◌≤◌}
+use Rattle.frame_table.proofs.Common.{get_or_default, AllHere, AreApartKeys, ContainsKey, HasSerial, IsCutAt, IsHere, IsSlotStore, KnowsParent, Leaves, List, None, Option, Slab, Slot, Some, StoredSlot, Updates, [], ap, append-nil, append_assoc, arith, cond, eq-eqb, eqb, false, false≢true, filter_more, get, get_or, gone_among, has_number, length, length-append, map-append, not, or_at, or_right, refl, set, slab_len, slots_in, stays_under, suc, sym, take, take_more, true, zero, ℕ, ◌++◌, ◌+◌, ◌<◌, ◌||◌, ◌∙◌, ◌∷◌, ◌≡◌, ◌≢◌, ◌≤◌}
 use Rattle.frame_table.proofs.Forest.{follows-at, serial-read, stays_in}
 use Rattle.frame_table.specs.SlotStores.{StandsUnder, is_taken_by, is_taken_in, left_under}
 
@@ -195,7 +195,7 @@ module _ {T : Type 0} where
     read-slot = kept-read old order at key here lt is
 
     -- the slot is as it was
-    pub as-before : get now key ≡ Some read-slot.0
+    as-before : get now key ≡ Some read-slot.0
     as-before = let left = h.left.left key in grind (arith, left, read-slot, apart-before)
 
     slot-at : read-slot.0.slot ≡ get_or (slots_in old order) at read-slot.0.slot
@@ -229,6 +229,19 @@ module _ {T : Type 0} where
     pub left-goes : {new : Slab (StoredSlot T)} {gone : StoredSlot T} → is_taken_in now under (get now key) ≡ true → get now key ≡ Some gone → Updates now new key None →
         slab_len new + 1 ≡ slab_len now → new.capacity ≡ now.capacity → HasLeft under old new order had (values ++ gone.slot.value ∷ []) (at + 1)
     left-goes {new} {gone} taken found u len capacity = grind (arith, takes, read-slot, as-before, length-append, left-more, eq-eqb, written-more)
+
+-- a turn at the key that was read at a place, which is the loop's own
+module _ {T : Type 0} {under : ℕ} {old now : Slab (StoredSlot T)} {order : List ℕ} {had values : List T} {at : ℕ} {key : ℕ} (h : HasLeft under old now order had values at)
+    (here : AllHere old [] order) (apart : AreApartKeys order) (parents : IsCutAt under (slots_in old order)) (lt : at < length order) where
+  pub stays-there : is_taken_in now under (get now key) ≡ false → key ≡ get_or order at key → HasLeft under old now order had values (at + 1)
+  stays-there not_taken is = left-stays h here apart parents lt key is not_taken
+
+  pub goes-there : {new : Slab (StoredSlot T)} {gone : StoredSlot T} → is_taken_in now under (get now key) ≡ true → get now key ≡ Some gone → Updates now new key None →
+      slab_len new + 1 ≡ slab_len now → new.capacity ≡ now.capacity → key ≡ get_or order at key → HasLeft under old new order had (values ++ gone.slot.value ∷ []) (at + 1)
+  goes-there taken found u len capacity is = left-goes h here apart parents lt key is taken found u len capacity
+
+pub read-there : (order : List ℕ) (at : ℕ) {place : ℕ} → at < length order → place ≡ at → get_or order place 0 ≡ get_or order at (get_or order place 0)
+read-there order at here same = rw same (get_or_default order at 0 (get_or order at 0) here)
 
 -- a key that is read, and the slot under it
 pub ruleset read_laws = (slots_in-length, contains_read, slot-read)

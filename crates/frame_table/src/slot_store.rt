@@ -494,12 +494,13 @@ fn count_less<T: Copy, A: Allocator>(slab: &mut Slab<StoredSlot<T>, A>, key: usi
 }
 
 /// Whether an abort at the frame `under` removes the slot under this key, where those before it that it removes are
-/// gone: its parent is that frame, or is gone.
+/// gone: there is such a slot, and its parent is that frame, or is gone.
 fn is_taken<T: Copy, A: Allocator>(slab: &Slab<StoredSlot<T>, A>, under: u64, key: usize) -> bool
-    requires { ContainsKey slab.now key }
     ensures { result ≡ is_taken_in slab.now under (get slab.now key) }
 {
-    let kept = slab[key];
+    let Some(kept) = slab.get(key) else {
+        return false;
+    };
     match (kept.slot.parent, kept.above) {
         (Some(parent), Some(above)) => parent == under || !slab.contains(above),
         _ => false,
