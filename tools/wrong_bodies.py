@@ -3,6 +3,8 @@
 
 usage: tools/wrong_bodies.py [--resume] [--goals|--tests] [CRATE..]      (all crates where none is named, else those in this order; --goals: none
 of those that a test tells; --tests: those alone, with no proof; status 1 where a body is told by nothing, or a crate isn't proved)
+       tools/wrong_bodies.py --listed      (those that tools/docs/bodies.txt lists as told by a test, with no proof: the gate runs it. Those that
+different tests of one crate tell are in one build: by --tests each is seen to be told alone)
 
 A wrong body is a file `crates/CRATE/must-fail/NAME.edit`, or `wrong-bodies/NAME.edit`: the gate tries the first, this script all. It
 has a line `file: PATH`, then pairs of lines `old: TEXT` and `new: TEXT`; a line `# test: CRATE WORD` says that no clause can tell
@@ -28,6 +30,7 @@ import shutil
 import subprocess
 import sys
 import tempfile
+from concurrent.futures import ThreadPoolExecutor
 
 TOP = pathlib.Path(__file__).resolve().parent.parent
 GOAL = re.compile(r"error: `([^`]+)`|\(`([^`]+)`\)|did not prove `([^`]+)`|`([^`]+)` of proofs/")
@@ -35,6 +38,7 @@ CONTRACT = re.compile(r"^((\w+-)?returns|invariant_of|loop.*-(init|preserved)$|.
 PLACE = re.compile(r"(?:note: )?(?:\./)?((?:src|proofs)/\S+?):(\d+):\d+:")
 GONE = re.compile(r"has no field|is not in scope|has no `|was not admitted|was rejected, was not checked")
 TESTED = re.compile(r"^# test: (\w+) (\S+)$", re.M)
+TEST = re.compile(r"^#\[test\]\n(?:#\[.*\]\n)*fn (\w+)\(.*?\n\}$", re.M | re.S)
 
 
 def edits_of(folder):
@@ -178,22 +182,58 @@ def by_prover(rt, crate, folder, edits):
                 yield edit, goal
 
 
-def by_test(folder, edit, where, word):
-    """Whether the test fails with this body, or a row of the text, in a copy of the tree, without a proof."""
-    if word.startswith("drawn_"):
+def by_tests(where, told):
+    """Which of these edits are told, each by a test of this crate, or a row of a text, in one copy of the tree that has them all, without a
+    proof: `told` has the edits by the tests' names. In the copy the crate has no other test."""
+    if any(word.startswith("drawn_") for word in told):
         subprocess.run([TOP / "tools/rows/make.py"], stdout=subprocess.DEVNULL, check=True)
     with tempfile.TemporaryDirectory(prefix="wrong-bodies-") as room:
-        shutil.copytree(TOP / "crates", f"{room}/crates", ignore=shutil.ignore_patterns("out"))
+        crates = pathlib.Path(room, "crates")
+        shutil.copytree(TOP / "crates", crates, ignore=shutil.ignore_patterns("out"))
         for name in ("crates.txt", "HANDLES"):
             shutil.copy(TOP / name, room)
         pathlib.Path(room, ".git").mkdir()
-        made = changed(folder, edit, {})
-        for path, text in made[0].items():
-            pathlib.Path(room, "crates", folder.name, path).write_text(text)
-        asked = ["--data", f"{word}={room}/crates/{where}/data/{word}"] if where == "transcripts" else ["--test", "--", word]
-        ran = subprocess.run(["rt", "try", "--steps", "1", "--seconds", "120", *asked], cwd=f"{room}/crates/{where}", stdin=subprocess.DEVNULL, capture_output=True, text=True, check=False)
-        is_told = ran.returncode in (1, 4, 6, 101) and word in ran.stdout + ran.stderr
-        return (f"test {word} of {where}", []) if is_told else None
+        for edit in told.values():
+            folder = crates / edit.parents[1].name
+            for path, text in changed(folder, edit, {})[0].items():
+                (folder / path).write_text(text)
+        asked = ["--test"]
+        if where == "transcripts":
+            asked = [it for word in told for it in ("--data", f"{word}={crates / where / 'data' / word}")]
+        else:
+            for path in (crates / where / "src").rglob("*.rt"):
+                path.write_text(TEST.sub(lambda test: test[0] if any(word in test[1] for word in told) else f"fn {test[1]}() {{}}", path.read_text()))
+        ran = subprocess.run(["rt", "try", "--steps", "1", "--seconds", "120", *asked], cwd=crates / where, stdin=subprocess.DEVNULL, capture_output=True, text=True, check=False)
+        said = ran.stdout + ran.stderr
+    if sys.flags.dev_mode:
+        print(said[-3000:])
+    fails = {word: re.search(rf"^{re.escape(word)}:\d+: due|^test \S*{re.escape(word)}\S* \.\.\. (?!ok)", said, re.M) for word in told}
+    return {edit: (f"test {word} of {where}", []) if fails[word] else None for word, edit in told.items()}
+
+
+def listed():
+    """The edits that bodies.txt lists as told by a test, in builds: each the crate of the tests, and its edits by the tests' names."""
+    builds = []
+    for name, where, word in re.findall(r"^(\w+) \| .* \| test: (\w+) (\S+)$", (TOP / "tools/docs/bodies.txt").read_text(), re.M):
+        for edit in sorted(TOP.glob(f"crates/*/wrong-bodies/{name}.edit")):
+            if TESTED.search(edit.read_text()):
+                build = next((told for crate, told in builds if crate == where and word not in told), None)
+                if build is None:
+                    build = {}
+                    builds.append((where, build))
+                build[word] = edit
+    return builds
+
+
+def replay():
+    """Tries the listed bodies, a few builds at once."""
+    untold = 0
+    with ThreadPoolExecutor(3) as pool:
+        for found in pool.map(lambda build: by_tests(*build), listed()):
+            for edit, told in found.items():
+                untold += told is None
+                print(f"{edit.parents[1].name}/{edit.stem}: {told[0] if told else 'TOLD BY NOTHING'}", flush=True)
+    sys.exit(1 if untold else 0)
 
 
 class NotProved(Exception):
@@ -242,10 +282,12 @@ def look(rt, crates, name, words):
     for edit, told in by_prover(rt, crates[name], folder, [edit for edit in left if edit not in tested]) if "--tests" not in words else ():
         yield edit, kept.keep(edit, told)
     for edit, said in tested.items() if "--goals" not in words else ():
-        yield edit, kept.keep(edit, by_test(folder, edit, said[1], said[2]))
+        yield edit, kept.keep(edit, by_tests(said[1], {said[2]: edit})[edit])
 
 
 def main():
+    if sys.argv[1:] == ["--listed"]:
+        replay()
     words, untold, rt = sys.argv[1:], 0, toolchain()
     names = [word for word in words if word not in ("--resume", "--goals", "--tests")]
     crates = {crate.name: crate for crate in rt.rtlib.crates_below(str(TOP))}

@@ -14,7 +14,9 @@ def rows():
             if tested := re.fullmatch(r"test: (\w+) (\S+)", told):
                 crate, word = tested.groups()
                 has = any(word == path.name or re.search(rf"\bfn {word}\b", path.read_text()) for path in (CRATES / crate).rglob("*") if path.suffix in (".rt", ".solve", ".session"))
-                yield name, body, [f"`{word}` of `{crate}`"], [] if has else [f"test {word} of {crate}"]
+                edit = next((path for path in CRATES.glob(f"*/wrong-bodies/{name}.edit") if f"# test: {crate} {word}\n" in path.read_text()), None)
+                files = [f"`{edit.relative_to(TOP)}`: `{word}` of `{crate}`"] if edit else []
+                yield name, body, files, [what for what, there in ((f"test {word} of {crate}", has), (f"edit with `# test: {crate} {word}`", edit)) if not there]
                 continue
             found = {crate: sorted((CRATES / crate / "must-fail").glob(f"{name}*.edit")) for crate in told.split()}
             yield name, body, [f"`{path.relative_to(TOP)}`" for paths in found.values() for path in paths], [f"edit in {crate}" for crate, paths in found.items() if not paths]

@@ -12,7 +12,7 @@
 //! `-beta` to `-max(alpha, best)`, and leaves the others out as soon as best is at least beta. The drawn rows of `transcripts`
 //! compare both with a model that shares no code with the crates.
 //!
-//! [`search_ordered`] promises the same, and enters far fewer positions: from a depth of 3 on it takes the choices by a key
+//! [`search_ordered`] promises the same bound and choice, and enters far fewer positions: from a depth of 3 on it takes the choices by a key
 //! that the boards after them give (`src/ranking.rt`), the first through the window and each other first through a window
 //! of width one, where most turn out to be no better. Of equal choices the first in the rules' order is still found: at the
 //! first position a choice that comes earlier than the best so far is tested from one below the best score, so that a tie counts.
@@ -25,7 +25,8 @@
 //! best score, and where that is above alpha, it is just what the first choice that has it is worth
 //! (`IsBestOf` of `proofs/WindowLemmas.antt`). Below the first position nobody asks for the choice, so it isn't kept
 //! there: two functions, one for the first position and one for all below it, with one invariant, which holds for any order of
-//! the choices. The position after a choice is searched through the
+//! the choices; in the rules' order the best so far and the choices that are left also give what the specified search gives
+//! (`IsInTurn` of `proofs/SerialLemmas.antt`). The position after a choice is searched through the
 //! window from `-beta` to `-max(alpha, best)`, and a score of at least beta ends the position. Nothing
 //! is kept between two searches, no memory is taken, and the depth falls at each ply.
 //!
