@@ -1,5 +1,6 @@
 -- Cores of searches: what follows from each frame being right and each job holding what it was asked.
-use Rattle.jamboree_core.proofs.Common.{◌≡◌, ℕ, true, List, [], ◌∷◌, ◌++◌, Option, Some, None, Result, Ok, Err, refl, arith, is_ok, OnOk, ReserveOf, Refusal, StepOf, DidOf, Tenant, only, CoreState, shared_by_nobody, tenant_in, AreNumbersGiven, IsHeadline, taken_steps, tenant_in-new, CoreFits, RootsFit, submits, origins_of, origins_after, nobody-fits, Leaf, LeafAnswer, AreFitting, IsRoot, jamboree, IsSearch, AreSearches, AreReplies, AreAllSound, AreAllRootWords, TenantSearches, ServesSearches, CoreSearches, HoldsReplies, submitted_to, IsHeadlineInFull, IsHeadlineFromNew, submitted_by, ap, sym, ◌∙◌, ◌-◌, option_and_then, Job, Live, Done, Spent as SpentJob, Cancelled as CancelledJob, Tree, job_at, job_of, JobsFit, JobFits, HoldsReply, Reply, table_of, Pending, IsJournalOf, origin_at, IsOfSearch, IsOutcomeOf, IsOutcomeIn, IsTo, AnswersTo}
+use Rattle.jamboree_core.proofs.Common.{◌≡◌, ℕ, true, List, [], ◌∷◌, ◌++◌, Option, Some, None, Result, Ok, Err, refl, arith, is_ok, OnOk, ReserveOf, Refusal, StepOf, DidOf, Tenant, only, CoreState, shared_by_nobody, tenant_in, AreNumbersGiven, IsHeadline, taken_steps, tenant_in-new, CoreFits, RootsFit, submits, origins_of, origins_after, nobody-fits, Leaf, LeafAnswer, AreFitting, IsRoot, jamboree, IsSearch, AreSearches, AreReplies, AreAllSound, AreAllRootWords, TenantSearches, ServesSearches, CoreSearches, HoldsReplies, submitted_to, IsHeadlineInFull, IsHeadlineFromNew, submitted_by, ap, sym, ◌∙◌, ◌-◌, option_and_then, subst, alone_from, AreAnswersTo, after_answers, job_of, Job, Live, Done, Spent as SpentJob, Cancelled as CancelledJob, Tree, job_at, JobsFit, JobFits, HoldsReply, Reply, table_of, Pending, origin_at, IsOfSearch, IsOutcomeOf, IsOutcomeIn, IsTo, AnswersTo}
+use Rattle.sched_rules.proofs.Isolation.{headline}
 use Rattle.jamboree_core.proofs.Replying.{replies-held, all-sound, search-parts, searches-fit}
 use Rattle.jamboree_core.specs.declared.outcomes.Outcome.{Outcome}
 use Rattle.jamboree_core.specs.declared.outcomes.Outcome.TheVariants.{Done as DoneWith, Spent, Cancelled}
@@ -157,19 +158,36 @@ reply-in other (DoneWith reply) = reply
 reply-in other Spent = other
 reply-in other Cancelled = other
 
-module _ (first second : Reply) where
-  same-table : (job : Job) → IsOutcomeOf job (DoneWith first) → IsOutcomeOf job (DoneWith second) → table_of first ≡ table_of second
+-- where a job's outcome is a reply, whatever is told of it is a reply with the same table
+module _ (first : Reply) where
+  same-table : (words : List ℕ) (told : Outcome) → IsOutcomeOf (Done words) (DoneWith first) → IsOutcomeOf (Done words) told →
+      (second : Reply) × (Some told ≡ Some (DoneWith second)) × (table_of second ≡ table_of first)
   unfolding reply-in
-  same-table (Live root) a b = absurd cc
-  same-table (Done words) a b =
-      ap (λ (o : Outcome). table_of (reply-in first o)) a.1 ∙ a.2.table ∙ sym b.2.table ∙ sym (ap (λ (o : Outcome). table_of (reply-in first o)) b.1)
-  same-table SpentJob a b = absurd cc
-  same-table CancelledJob a b = absurd cc
+  same-table words told a b =
+      (b.0, ap (λ (o : Outcome). Some o) b.1, b.2.table ∙ sym a.2.table ∙ sym (ap (λ (o : Outcome). table_of (reply-in first o)) a.1))
 
-  same-in : (job : Option Job) → IsOutcomeIn job (Some (DoneWith first)) → IsOutcomeIn job (Some (DoneWith second)) → table_of first ≡ table_of second
-  same-in job a b = grind (arith, same-table)
+  done-in : (job : Option Job) (told : Option Outcome) → IsOutcomeIn job (Some (DoneWith first)) → IsOutcomeIn job told → (second : Reply) × (told ≡ Some (DoneWith second)) × (table_of second ≡ table_of first)
+  done-in None told a b = absurd cc
+  done-in (Some (Live root)) told a b = absurd cc
+  done-in (Some (Done words)) None a b = absurd b
+  done-in (Some (Done words)) (Some told) a b = same-table words told a b
+  done-in (Some SpentJob) told a b = absurd cc
+  done-in (Some CancelledJob) told a b = absurd cc
 
--- what a tenant's job has come to is a function of the tenant's own taken steps
-pub own-table : (grain : ℕ) (journal : List (StepOf LeafAnswer)) (one other : Tenant) (number : ℕ) (first second : Reply) → IsJournalOf (jamboree grain) journal one → IsJournalOf (jamboree grain) journal other →
-    IsOutcomeIn (job_at one.jobs number) (Some (DoneWith first)) → IsOutcomeIn (job_at other.jobs number) (Some (DoneWith second)) → table_of first ≡ table_of second
-own-table grain journal one other number first second is is_other a b = grind (arith, same-in)
+-- in two runs in which a tenant's own taken steps are the same, so are its jobs
+module _ (grain : ℕ) (before other_before : CoreState) (steps other_steps : List (StepOf LeafAnswer)) (answers other_answers : List (Result (DidOf Leaf) Refusal)) (number job : ℕ)
+    (known : AreNumbersGiven before) (other_known : AreNumbersGiven other_before) (begun : tenant_in before.tenants number ≡ tenant_in other_before.tenants number)
+    (right : AreAnswersTo (jamboree grain) before steps answers) (other_right : AreAnswersTo (jamboree grain) other_before other_steps other_answers)
+    (own : only number (taken_steps steps answers) ≡ only number (taken_steps other_steps other_answers)) where
+  pub same-jobs : job_of (after_answers (jamboree grain) before steps answers) number job ≡ job_of (after_answers (jamboree grain) other_before other_steps other_answers) number job
+  same-jobs =
+      let one = ((headline (jamboree grain) before steps answers known right).undisturbed number).state in
+      let other = ((headline (jamboree grain) other_before other_steps other_answers other_known other_right).undisturbed number).state in
+      let same : alone_from (jamboree grain) (tenant_in before.tenants number) (only number (taken_steps steps answers)) ≡ alone_from (jamboree grain) (tenant_in other_before.tenants number) (only number (taken_steps other_steps other_answers)) =
+      rw (begun, own) refl in
+      ap (λ (o : Option Tenant). option_and_then (λ (t : Tenant). job_at t.jobs job) o) (one ∙ same ∙ sym other)
+
+  pub same-tables : (first : Reply) (told : Option Outcome) → IsOutcomeIn (job_of (after_answers (jamboree grain) before steps answers) number job) (Some (DoneWith first)) →
+      IsOutcomeIn (job_of (after_answers (jamboree grain) other_before other_steps other_answers) number job) told → (second : Reply) × (told ≡ Some (DoneWith second)) × (table_of second ≡ table_of first)
+  same-tables first told done is = done-in first (job_of (after_answers (jamboree grain) other_before other_steps other_answers) number job) told
+      (subst (λ (j : Option Job). IsOutcomeIn j (Some (DoneWith first))) same-jobs done) is

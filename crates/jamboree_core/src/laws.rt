@@ -1,11 +1,12 @@
 //! What every list of searches on a core comes to, and what cores and tenants of searches keep and hold.
-ghost use Rattle.std.specs.Prelude.{◌≡◌, ◌≢◌, ℕ, ◌<◌, List, [], ◌∷◌, ◌++◌, Some, Result, Ok, Err};
+ghost use Rattle.std.specs.Prelude.{◌≡◌, ◌≢◌, ℕ, ◌<◌, List, [], ◌∷◌, ◌++◌, Option, Some, None, Result, Ok, Err};
 ghost use Rattle.tenant_quota.specs.Reserves.{ReserveOf};
 ghost use Rattle.sched_rules.specs.declared.refusal.Refusal.{Refusal};
 ghost use Rattle.sched_rules.specs.declared.step.StepOf.{StepOf};
 ghost use Rattle.sched_rules.specs.declared.step.StepOf.TheVariants.{Admit};
 ghost use Rattle.sched_rules.specs.declared.step.DidOf.{DidOf};
-ghost use Rattle.sched_rules.specs.Trees.{Tenant, admitted_with, job_at};
+ghost use Rattle.sched_rules.specs.Trees.{Tenant, admitted_with};
+ghost use Rattle.sched_rules.specs.Views.{job_of};
 ghost use Rattle.sched_rules.specs.Runs.{tenant_of, only};
 ghost use Rattle.sched_rules.specs.Cores.{CoreState, shared_by_nobody, tenant_in};
 ghost use Rattle.sched_rules.specs.Headline.{IsOneStep, AreNumbersGiven, IsAnswerTo, AreAnswersTo, after_answers, taken_steps};
@@ -17,6 +18,7 @@ ghost use Rattle.jamboree_core.specs.Replies.{AreSearches, AreReplies, AreAllSou
 ghost use Rattle.jamboree_core.specs.Searching.{TenantSearches, ServesSearches, CoreSearches, HoldsReplies};
 ghost use Rattle.jamboree.specs.declared.reply.Reply.{Reply};
 ghost use Rattle.jamboree.specs.Replies.{table_of};
+ghost use Rattle.jamboree_core.specs.declared.outcomes.Outcome.{Outcome};
 ghost use Rattle.jamboree_core.specs.declared.outcomes.Outcome.TheVariants.{Done};
 ghost use Rattle.jamboree_core.specs.Outcomes.{IsOutcomeIn};
 ghost use Rattle.jamboree_core.specs.Journals.{IsJournalOf};
@@ -86,12 +88,22 @@ pub fn a_journal_of_searches()
         IsJournalOf (jamboree grain) journal tenant → AreSearches journal → AreReplies (origins_of journal) tenant.jobs }
 {}
 
-/// The table of a job that is done depends on nothing but its tenant's journal, the list of its own taken steps:
-/// two tenants with the same journal have the same tables, whatever other tenants did.
+/// Two runs of cores, by any workers for any tenants, with whatever steps of others: a tenant that was the same in both
+/// before, as one that wasn't there, and whose own taken steps are the same in both, has the same jobs after both; and
+/// where a job's outcome after the first is a reply, it is one after the second, with the same table.
 pub fn a_table_is_of_its_tenants_own_steps()
-    ensures { (grain : ℕ) (journal : List (StepOf LeafAnswer)) (one other : Tenant) (number : ℕ) (first second : Reply) →
-        IsJournalOf (jamboree grain) journal one → IsJournalOf (jamboree grain) journal other →
-        IsOutcomeIn (job_at one.jobs number) (Some (Done first)) → IsOutcomeIn (job_at other.jobs number) (Some (Done second)) → table_of first ≡ table_of second }
+    ensures jobs { (grain : ℕ) (before other_before : CoreState) (steps other_steps : List (StepOf LeafAnswer)) (answers other_answers : List (Result (DidOf Leaf) Refusal)) (number job : ℕ) →
+        AreNumbersGiven before → AreNumbersGiven other_before → tenant_in before.tenants number ≡ tenant_in other_before.tenants number →
+        AreAnswersTo (jamboree grain) before steps answers → AreAnswersTo (jamboree grain) other_before other_steps other_answers →
+        only number (taken_steps steps answers) ≡ only number (taken_steps other_steps other_answers) →
+        job_of (after_answers (jamboree grain) before steps answers) number job ≡ job_of (after_answers (jamboree grain) other_before other_steps other_answers) number job }
+    ensures tables { (grain : ℕ) (before other_before : CoreState) (steps other_steps : List (StepOf LeafAnswer)) (answers other_answers : List (Result (DidOf Leaf) Refusal)) (number job : ℕ) (first : Reply) (told : Option Outcome) →
+        AreNumbersGiven before → AreNumbersGiven other_before → tenant_in before.tenants number ≡ tenant_in other_before.tenants number →
+        AreAnswersTo (jamboree grain) before steps answers → AreAnswersTo (jamboree grain) other_before other_steps other_answers →
+        only number (taken_steps steps answers) ≡ only number (taken_steps other_steps other_answers) →
+        IsOutcomeIn (job_of (after_answers (jamboree grain) before steps answers) number job) (Some (Done first)) →
+        IsOutcomeIn (job_of (after_answers (jamboree grain) other_before other_steps other_answers) number job) told →
+        (second : Reply) × (told ≡ Some (Done second)) × (table_of second ≡ table_of first) }
 {}
 
 /// How the steps of a core lengthen journals: a taken Admit begins its tenant's (`begins`); a taken step after

@@ -23,6 +23,7 @@ mod sessions;
 mod sites;
 mod solving;
 mod soundness;
+mod tables;
 mod turns;
 
 pub use comings::{when_they_have_gone, who_enters, who_goes_for_another, who_has_no_room};
@@ -54,4 +55,5 @@ pub use sites::{
 };
 pub use solving::three_lines;
 pub use soundness::third_frame_of_nine;
+pub use tables::tables_of_seven_and_nine;
 pub use turns::{when_it_is_picked_again, when_the_least_is_picked};
