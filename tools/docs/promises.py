@@ -346,11 +346,13 @@ class Pages:
         return "\n".join([text, "", "## The definitions, lowest first", "", *self.definitions_text(order, types, "###"), "## Words of the toolchain's library", "", *self.word_lines(words)])
 
     def faults(self):
-        """What is unclear, the clauses on pages that no use cites, and the clauses that uses cite and that aren't there."""
+        """What is unclear, the clauses of pages and of the laws of `laws.txt` that no use cites, and the clauses that uses cite and that
+        aren't there."""
         yield from dict.fromkeys(self.unclear)
-        there = {(name, clause) for _, name, _ in self.promises for _, clause, _, _ in self.call(name).promised}
+        named = [name for _, name, _ in self.promises] + [name for name, _ in rows("laws.txt", 2)]
+        there = {(name, clause) for name in named for _, clause, _, _ in self.call(name).promised}
         for name, clause in sorted({*self.uses} - there):
-            yield f"promise_uses cites {name}#{clause}, which no page has"
+            yield f"promise_uses cites {name}#{clause}, which neither a page nor laws.txt has"
         for name, clause in sorted(there - {*self.uses}):
             yield f"no use in promise_uses cites {name}#{clause}"
 

@@ -7,3 +7,4 @@ mod Solved
 mod Reserving
 mod SiteParts
 mod Connected
+mod Fitting

@@ -14,8 +14,10 @@ mod connections;
 mod customers;
 mod desks;
 mod directories;
+mod fits;
 mod halls;
 mod isolation;
+mod needs;
 mod reserved;
 mod runs;
 mod seen;
@@ -25,6 +27,7 @@ mod solving;
 mod soundness;
 mod tables;
 mod turns;
+mod values;
 
 pub use comings::{when_they_have_gone, who_enters, who_goes_for_another, who_has_no_room};
 pub use connections::ping_and_hello;
@@ -37,10 +40,12 @@ pub use desks::{
     nine_reserves, quota_of_nine, two_sessions,
 };
 pub use directories::{lines_at_a_rate, what_is_accepted};
+pub use fits::{a_root_to_depth_eight, frames_of_seven_and_nine, jobs_of_seven_and_nine};
 pub use halls::{
     any_step, entry_of_nine, seven_and_nine, seven_cancels, value_of_nine, value_of_seven,
 };
 pub use isolation::seven_in_a_running_core;
+pub use needs::{nodes_of_seven_and_nine, segments_of_seven_and_nine, what_a_position_needs};
 pub use reserved::{nine_asks_to_depth_eight, seven_asks_again};
 pub use runs::{
     nine_by_its_own_steps, nine_is_undisturbed, refusals, seven_alone, seven_in_both,
@@ -57,3 +62,4 @@ pub use solving::three_lines;
 pub use soundness::third_frame_of_nine;
 pub use tables::tables_of_seven_and_nine;
 pub use turns::{when_it_is_picked_again, when_the_least_is_picked};
+pub use values::by_one_disc;
