@@ -39,3 +39,7 @@ submit_of size = Submit 1 asked size
 -- tenant 1 after its first Submit: one live job, whose root is frame 1
 abbrev pub asked_once : Tenant
 asked_once = record { reserve = few; serials = 1; steps = 0; jobs = Live 1 ∷ []; frames = (record { serial = 1; path = 1 ∷ []; state = Ready 0; value = padded asked 12 }) ∷ [] }
+
+-- tenant 1 after its first Submit, with so many segments and nodes reserved
+abbrev pub asked_with : ℕ → ℕ → Tenant
+asked_with segments nodes = record asked_once { reserve = record { segments = segments; nodes = nodes } }

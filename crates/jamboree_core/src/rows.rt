@@ -2,18 +2,19 @@
 //! 1: Black is worth -3, by d3. Each contract is computed from the definitions alone, but for the law that it stands
 //! on. A root's words are the two words of its board, the depth, the window's ends (each plus 1,000,000: 800000 and
 //! 1200000 are the full window), and zeros; `kept` has the depth, the value (plus 1,000,000) and the choice's code.
-ghost use Rattle.std.specs.Prelude.{◌≡◌, ℕ, [], ◌∷◌, Some, None};
+ghost use Rattle.std.specs.Prelude.{◌≡◌, ℕ, [], ◌∷◌, Some, None, slice_index};
 ghost use Rattle.sched_rules.specs.declared.job.Job.TheVariants.{Live, Done, Spent as SpentJob, Cancelled as CancelledJob};
 ghost use Rattle.sched_rules.specs.declared.step.StepOf.TheVariants.{Admit, Leave, Submit};
 ghost use Rattle.sched_rules.specs.Trees.{Tenant, admitted_with};
 ghost use Rattle.jamboree_rules.specs.Procedure.{jamboree};
 ghost use Rattle.jamboree_rules.specs.Rows.{entry};
-ghost use Rattle.jamboree_core.specs.Rows.{asked, few, admitted_then, submit_of, asked_once, kept_with, kept};
+ghost use Rattle.jamboree_core.specs.Rows.{asked, few, admitted_then, submit_of, asked_once, asked_with, kept_with, kept};
 ghost use Rattle.jamboree_core.specs.declared.outcomes.Outcome.TheVariants.{Pending, Spent};
 ghost use Rattle.jamboree_core.specs.Searching.{TenantSearches, origin_at};
 ghost use Rattle.jamboree_core.specs.Journals.{IsJournalOf};
 ghost use Rattle.jamboree_core.specs.Outcomes.{IsOutcomeOf, AnswersTo};
 ghost use Rattle.jamboree_core.specs.Replies.{AreRootWords, IsSearch, IsReplyTo, AreReplies};
+ghost use Rattle.jamboree_core.specs.Sums.{asked_nodes, asked_segments, nodes_of_all, sum_of_live, segments_of_live, HasSums, FindsSums};
 
 /// The words of a search: a board of no shared bit, to a depth of at most 12, with the full window;
 /// its root has 12 words.
@@ -75,4 +76,20 @@ pub fn outcomes_in_small()
     ensures unasked { AnswersTo None (Some Pending) → ⊥ }
     ensures spent { IsOutcomeOf SpentJob Spent }
     ensures live { IsOutcomeOf (Live 1) Spent → ⊥ }
+{}
+
+/// What suffices for the opening to depth 1 is 33 nodes and 19 segments; for four such searches, of which the first and the last live, 132
+/// nodes and 38 segments; and the sum over the jobs that live is of their own words (`own`). Who asked for one, and reserved so much, has
+/// enough; not with one node or one segment less, nor for one more search with one node or one segment less than twice as much.
+pub fn sums_of_jobs()
+    ensures one { (asked_nodes 4 asked ≡ 33) × (asked_segments 4 asked ≡ 19) }
+    ensures several { (nodes_of_all 4 (asked ∷ asked ∷ asked ∷ asked ∷ []) ≡ 132)
+        × (segments_of_live 4 (asked ∷ asked ∷ asked ∷ asked ∷ []) (Live 1 ∷ Done [] ∷ SpentJob ∷ Live 40 ∷ []) ≡ 38) }
+    ensures own { sum_of_live (λ words. slice_index words 0) ((5 ∷ []) ∷ (7 ∷ []) ∷ (11 ∷ []) ∷ (13 ∷ []) ∷ []) (Done [] ∷ Live 2 ∷ CancelledJob ∷ Live 4 ∷ []) ≡ 20 }
+    ensures has { HasSums 4 (asked ∷ []) (asked_with 19 33) }
+    ensures few_nodes { HasSums 4 (asked ∷ []) (asked_with 19 32) → ⊥ }
+    ensures few_segments { HasSums 4 (asked ∷ []) (asked_with 18 33) → ⊥ }
+    ensures more { FindsSums 4 (asked ∷ []) (Some (asked_with 38 66)) (submit_of 12) }
+    ensures few_more_nodes { FindsSums 4 (asked ∷ []) (Some (asked_with 38 65)) (submit_of 12) → ⊥ }
+    ensures few_more_segments { FindsSums 4 (asked ∷ []) (Some (asked_with 37 66)) (submit_of 12) → ⊥ }
 {}

@@ -3,6 +3,7 @@ pub use Rattle.std.proofs.Common.{Bool, Err, List, None, Ok, Option, Result, Som
 pub use Rattle.std.proofs.Common.{length, map, refl, subst, sym, true, ℕ, ℤ, ◌++◌, ◌-◌, ◌<◌, ◌==◌, ◌∙◌, ◌∷◌, ◌≡◌, ◌≢◌, ◌≤ℤ◌, ◌≤◌, ◌⊎◌}
 pub use Rattle.std.proofs.lemmas.Bool.{false≢true}
 pub use Rattle.std.proofs.lemmas.Bool.Decides.{nat_tests}
+pub use Rattle.std.proofs.lemmas.List.Sums.{sum_by-cons}
 pub use Rattle.std.specs.List.{concat}
 pub use Rattle.std.specs.Prelude.{IfErr, IfSome, MatchResult, OnOk, if◌then◌else◌, option_map, ◌+◌}
 pub use Rattle.desk.specs.Histories.{AreTaken, IsToldOf, IsTrueTo, Saw, core_at, seat_steps, steps_of}

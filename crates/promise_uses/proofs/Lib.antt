@@ -7,4 +7,5 @@ mod Solved
 mod Reserving
 mod SiteParts
 mod Connected
+mod TwoAtOnce
 mod Fitting

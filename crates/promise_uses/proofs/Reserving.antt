@@ -1,11 +1,13 @@
 -- For the uses of the law on what suffices: lists of steps that ask for searches with enough reserved.
-use Rattle.promise_uses.proofs.Common.{◌≡◌, ℕ, List, [], ◌∷◌, ◌++◌, Option, Some, None, ap, ◌∙◌, ◌≤◌, arith, StepOf, Submit, Tenant, left_of, alone_from, AreSearches, jamboree}
+use Rattle.promise_uses.proofs.Common.{◌≡◌, ℕ, List, [], ◌∷◌, ◌++◌, Option, Some, None, ap, ◌∙◌, ◌≤◌, arith, StepOf, Submit, Tenant, left_of, alone_from, AreSearches, jamboree, root_words, sum_by-cons}
 use Rattle.othello_board.specs.Words.{cells_of}
 use Rattle.sched_rules.specs.Lone.{lone}
 use Rattle.sched_rules.specs.Runs.{state_after}
 use Rattle.sched_laws.specs.Fitted.{origins_of}
 use Rattle.jamboree_rules.specs.declared.leaf.LeafAnswer.{LeafAnswer}
 use Rattle.jamboree_core.specs.Replies.{IsSearch}
+use Rattle.sched_rules.specs.declared.job.Job.TheVariants.{Live, Done, Spent as SpentJob, Cancelled as CancelledJob}
+use Rattle.jamboree_core.specs.Sums.{HasSums, asked_nodes, asked_segments}
 use Rattle.jamboree_core.specs.Enough.{spawning_plies, search_nodes, search_segments, board_nodes, board_segments, HasEnough, FindsEnough, EachFindsEnough}
 
 -- a list that asks for nothing
@@ -42,3 +44,28 @@ module _ (depth grain : ℕ) (two : spawning_plies depth grain ≡ 2)
       let same = ap (λ (p : ℕ). search_nodes 56 64 p) two ∙ plies.0 in
       let alike = ap (λ (p : ℕ). search_segments 56 64 p) two ∙ plies.1 in
       record { idle = idle; segments = omega (arith, room, alike, segments); nodes = omega (arith, least, same, nodes) }
+
+  -- what one of several such searches takes
+  pub one-nodes : (own opp : ℕ) → asked_nodes grain (root_words own opp depth) ≤ 12545
+  one-nodes own opp = let most = (any (cells_of own opp)).0 in let same = ap (λ (p : ℕ). search_nodes 56 64 p) two ∙ plies.0 in omega (arith, most, same)
+
+  pub one-segments : (own opp : ℕ) → asked_segments grain (root_words own opp depth) ≤ 3478
+  one-segments own opp = let most = (any (cells_of own opp)).1 in let same = ap (λ (p : ℕ). search_segments 56 64 p) two ∙ plies.1 in omega (arith, most, same)
+
+  -- five, of which the third and the fifth live
+  pub five-sums : (own opp : ℕ → ℕ) (origins : List (List ℕ)) (tenant : Tenant) (words : List ℕ) (third fifth : ℕ) →
+      origins ≡ root_words (own 1) (opp 1) depth ∷ root_words (own 2) (opp 2) depth ∷ root_words (own 3) (opp 3) depth ∷ root_words (own 4) (opp 4) depth ∷ root_words (own 5) (opp 5) depth ∷ [] →
+      tenant.jobs ≡ Done words ∷ SpentJob ∷ Live third ∷ CancelledJob ∷ Live fifth ∷ [] → 62725 ≤ tenant.reserve.nodes → 6956 ≤ tenant.reserve.segments → HasSums grain origins tenant
+  five-sums own opp origins tenant words third fifth asked jobs nodes segments = record {
+    nodes = rw asked (simp sum_by-cons (omega (arith, one-nodes (own 1) (opp 1), one-nodes (own 2) (opp 2), one-nodes (own 3) (opp 3), one-nodes (own 4) (opp 4), one-nodes (own 5) (opp 5), nodes)));
+    segments = rw (asked, jobs) (omega (arith, one-segments (own 3) (opp 3), one-segments (own 5) (opp 5), segments));
+  }
+
+  -- three, of which the first and the third live
+  pub three-sums : (own opp : ℕ → ℕ) (origins : List (List ℕ)) (tenant : Tenant) (first third : ℕ) →
+      origins ≡ root_words (own 1) (opp 1) depth ∷ root_words (own 2) (opp 2) depth ∷ root_words (own 3) (opp 3) depth ∷ [] →
+      tenant.jobs ≡ Live first ∷ SpentJob ∷ Live third ∷ [] → 37635 ≤ tenant.reserve.nodes → 6956 ≤ tenant.reserve.segments → HasSums grain origins tenant
+  three-sums own opp origins tenant first third asked jobs nodes segments = record {
+    nodes = rw asked (simp sum_by-cons (omega (arith, one-nodes (own 1) (opp 1), one-nodes (own 2) (opp 2), one-nodes (own 3) (opp 3), nodes)));
+    segments = rw (asked, jobs) (omega (arith, one-segments (own 1) (opp 1), one-segments (own 3) (opp 3), segments));
+  }

@@ -22,6 +22,7 @@ mod reserved;
 mod runs;
 mod seen;
 mod sessions;
+mod several;
 mod sites;
 mod solving;
 mod soundness;
@@ -53,6 +54,7 @@ pub use runs::{
 };
 pub use seen::{a_spent_ask, hello_and_bye, quota_after_hello};
 pub use sessions::third_answer;
+pub use several::{seven_beside_nine, third_and_fifth_live, two_at_once, two_find_room};
 pub use sites::{
     a_session_asks, a_session_asks_in_vain, a_session_cancels, a_session_comes, a_session_leaves,
     a_session_reserves, another_plan, budget_at_another_desk, budget_of_a_customer,
