@@ -1,5 +1,5 @@
 #!/usr/bin/env python3
-"""Makes the packages of Python without a network, by Debian's python3-setuptools and python3-wheel, and the commands' pages of the manual by help2man.
+"""Makes the packages of Python without a network, by backend.py beside it, and the commands' pages of the manual by help2man.
 
 usage: clients/python/packages.py packages OUT [PROGRAM [PROGRAM_V3]]     (the wheel and the sdist; with the program `othello`, and that for processors with AVX2,
                                                                    a wheel for this platform too, which has them in itself)
@@ -26,13 +26,11 @@ ABOUT = {
     "coluwen-page": "an analysis board for browsers",
     "coluwen-review": "a review of a game of Othello",
 }
-MAKE = """import json, sys, warnings
-from setuptools import build_meta
-warnings.simplefilter("ignore")
+MAKE = """import json, sys, backend
 _, out, words, *alone = sys.argv
-build_meta.build_wheel(out, json.loads(words))
+backend.build_wheel(out, json.loads(words))
 if not alone:
-    build_meta.build_sdist(out)"""
+    backend.build_sdist(out)"""
 PROGRAMS = ("othello", "othello-v3")
 
 
@@ -60,7 +58,7 @@ def packages(out, *programs):
             for name, program in zip(PROGRAMS, programs):
                 shutil.copyfile(program, own / name)
                 (own / name).chmod(0o755)
-            words = json.dumps({"--build-option": [f"--plat-name={platform_of(programs)}"]})
+            words = json.dumps({"platform": platform_of(programs)})
             subprocess.run([sys.executable, "-c", MAKE, out, words, "wheel alone"], cwd=copy, check=True, stdout=subprocess.DEVNULL)
 
 

@@ -115,7 +115,7 @@ class Served:
     async def ask(self, body: bytes | str | dict[str, Any], line: str = "POST /analyse", **headers: str) -> tuple[int, list[dict[str, Any]]]:
         """The status, and the objects that came; each as the description says."""
         data = body if isinstance(body, bytes) else body.encode() if isinstance(body, str) else json.dumps(body).encode()
-        named = {"Host": "localhost", "Content-Type": "application/json", "Content-Length": str(len(data)), "Connection": "close", **{name.replace("_", "-"): text for name, text in headers.items()}}
+        named = {"Host": "localhost", "Accept": "application/x-ndjson", "Content-Type": "application/json", "Content-Length": str(len(data)), "Connection": "close", **{name.replace("_", "-"): text for name, text in headers.items()}}
         reader, writer = await asyncio.open_connection("127.0.0.1", self.port)
         writer.write((f"{line} HTTP/1.1\r\n" + "".join(f"{name}: {text}\r\n" for name, text in named.items() if text)).encode() + b"\r\n" + data)
         head, _, told = (await asyncio.wait_for(reader.read(), 30)).partition(b"\r\n\r\n")
@@ -127,10 +127,11 @@ class Served:
         method, path = line.lower().split(" ")[:2]
         described = API["paths"][path][method if method in API["paths"][path] else "post"]["responses"]
         assert str(status) in described, (status, told)
-        (schema,) = (one["schema"] for one in described[str(status)]["content"].values())
+        schema = described[str(status)]["content"]["application/x-ndjson" if b"x-ndjson" in head else "application/json"]["schema"]
         for one in objects:
             assert not fits(schema, one), (one, fits(schema, one))
         SEEN.add(f"{path} {status}")
+        self.headers = {name.lower(): text for name, _, text in (line.partition(": ") for line in head.decode().split("\r\n")[1:])}
         if status != 200:
             assert objects[0]["code"] in described[str(status)]["description"]
         return status, objects
@@ -156,7 +157,9 @@ async def trial_of_values(monkeypatch: pytest.MonkeyPatch) -> None:
         assert told[-1] == {"kind": "fault", "code": "server", "number": 30, "text": str(Refused(30))}
         one.source.go.clear()
         asked = [asyncio.ensure_future(one.ask({"position": Position.opening().play(move).text, "depth": 4, "exact": "all"})) for move in ("f5", "e6")]
-        await asyncio.sleep(0.2)
+        while not (one.service.known and one.service.known.turns.waiting):
+            await asyncio.sleep(0.02)
+        await asyncio.sleep(0.1)
         one.source.go.set()
         assert "waiting" in {line["kind"] for _, lines in await asyncio.gather(*asked) for line in lines}
         status, told = await one.ask({"game": "1. f5 d6 2. c3", "depth": 4, "exact": "all"})
@@ -168,14 +171,88 @@ async def trial_of_values(monkeypatch: pytest.MonkeyPatch) -> None:
         assert (await one.ask("", "GET /openapi.json"))[1] == [API]
 
 
+async def trial_of_whole_answers(monkeypatch: pytest.MonkeyPatch) -> None:
+    """Where no lines are asked for there is one answer: of a position, of a game; a fault has its status."""
+    monkeypatch.setattr(page_library, "FIRST_PAUSE", 0.001)
+    white = Position.opening().play("d3").text
+    async with Served() as one:
+        status, (told,) = await one.ask({"position": OPENING, "depth": 6, "exact": "all"}, Accept="*/*")
+        assert status == 200 and (told["position"], told["depth"], told["score"], told["best"]) == (OPENING, 6, {"sign": "=", "points": 12}, "d3")
+        assert {move: score["sign"] for move, score in told["table"].items()} == dict.fromkeys(("d3", "c4", "f5", "e6"), "=")
+        assert one.source.asked == 4 and one.headers["content-length"]  # its own depth alone, and the other moves'
+        status, (told,) = await one.ask({"position": OPENING, "depth": 1}, Accept="")
+        assert status == 200 and told["table"]["c4"]["sign"] == "<"
+        assert (await one.ask({"position": white, "depth": 8}, Accept=""))[1][0]["depth"] == 6  # as deep as the server looks
+        status, (told,) = await one.ask({"game": "1. f5 d6 2. c3", "depth": 4}, Accept="")
+        assert [position["ply"] for position in told["positions"]] == [0, 1, 2] and told["positions"][1]["position"].endswith("O")
+        status, (told,) = await one.ask({"position": END, "depth": 12}, Accept="")  # deeper than the end of the game is as far as that
+        assert status == 200 and told["ends"] and "discs" in told["score"]
+        for fault, status, word in ((Refused(27), 502, "ERR 27"), (Unreachable("gone"), 200, "")):
+            one.source.faults = [fault]
+            found, (told,) = await one.ask({"position": Position.opening().play("c4").text, "depth": 4}, Accept="")
+            assert found == status and (status == 200 or (told["code"], word in told["text"]) == ("server", True))
+        monkeypatch.setattr(page_library, "FIRST_PAUSE", 4.0)
+        for fault in (Refused(14), Unreachable("gone")):
+            one.source.faults = [fault]
+            assert (await one.ask({"position": Position.opening().play("e6").text, "depth": 4}, Accept=""))[0] == 503 and one.headers["retry-after"]
+        assert not one.service.known.flights and not one.service.asking  # type: ignore[union-attr]
+        one.source.go.clear()
+        reader, writer = await asyncio.open_connection("127.0.0.1", one.port)
+        body = json.dumps({"position": OPENING, "depth": 8}).encode()
+        writer.write(b"POST /analyse HTTP/1.1\r\nHost: localhost\r\nContent-Type: application/json\r\nContent-Length: %d\r\n\r\n" % len(body) + body)
+        await asyncio.sleep(0.2)
+        assert one.service.known and one.service.known.flights
+        writer.close()  # who leaves gives the question up
+        for _ in range(200):
+            await asyncio.sleep(0.02)
+            if not one.service.known.flights:
+                break
+        assert not one.service.known.flights and one.service.known.cancelled
+
+
+async def trial_of_progress(monkeypatch: pytest.MonkeyPatch) -> None:
+    """Of many who ask at once each is told how it stands once a second at most."""
+    async with Served() as one:
+        one.source.go.clear()
+        games = [Position.opening().play(move).play(other).text for move in ("d3", "c4", "f5", "e6") for other in Position.opening().play(move).legal_moves()]
+        asked = [asyncio.ensure_future(one.ask({"position": text, "depth": 4, "steps": False})) for text in games for _ in range(2)]
+        await asyncio.sleep(0.5)
+        one.source.go.set()
+        lines = [line for _, told in await asyncio.gather(*asked) for line in told]
+        assert len(games) == 12 and sum(line["kind"] in ("waiting", "searching") for line in lines) <= 2 * len(asked)
+
+
+async def trial_of_origins() -> None:
+    """A page of elsewhere may ask where its origin is named, and nothing but values."""
+    good, shop = {"position": OPENING, "depth": 4}, "https://shop.example"
+    for origins, status in (((), 403), ((shop,), 200), (("*",), 200), (("https://other.example",), 403)):
+        async with Served() as one:
+            one.site.origins = frozenset(origins)
+            assert (await one.ask(good, Origin=shop, Accept=""))[0] == status
+            assert one.headers.get("access-control-allow-origin", "") == (shop if status == 200 else "")
+            if status == 200:
+                assert (await one.ask({**good, "depth": 99}, Origin=shop, Accept=""))[0] == 400 and one.headers["access-control-allow-origin"] == shop
+                reader, writer = await asyncio.open_connection("127.0.0.1", one.port)
+                writer.write(f"OPTIONS /analyse HTTP/1.1\r\nHost: localhost\r\nOrigin: {shop}\r\nAccess-Control-Request-Method: POST\r\nConnection: close\r\n\r\n".encode())
+                head = (await asyncio.wait_for(reader.read(), 10)).decode()
+                assert head.startswith("HTTP/1.1 204") and "Access-Control-Allow-Headers: accept, authorization, content-type" in head
+                writer.close()
+                for path, wanted in (("/about.json", "200"), ("/", "403"), ("/class", "403")):
+                    reader, writer = await asyncio.open_connection("127.0.0.1", one.port)
+                    writer.write(f"GET {path} HTTP/1.1\r\nHost: localhost\r\nOrigin: {shop}\r\nConnection: close\r\n\r\n".encode())
+                    assert (await asyncio.wait_for(reader.read(), 10)).split(b" ")[1].decode() == wanted, path
+                    writer.close()
+
+
 async def trial_of_faults() -> None:
     good = {"position": OPENING, "depth": 4}
     async with Served() as one:
         for body, status, code, number in (({**good, "position": "x"}, 400, "position", 24), ({**good, "position": 5}, 400, "position", 24), ({"depth": 4}, 400, "position", 24), ([], 400, "position", 24), ({**good, "depth": 9}, 400, "depth", 27),
                                            ({**good, "depth": True}, 400, "depth", 27), ({**good, "exact": ["a1"]}, 400, "exact", 400), ({**good, "steps": 1}, 400, "steps", 400), ("{", 400, "json", 400), ({"game": "f5a1", "depth": 4}, 400, "game", 400),
-                                           ({"game": "f5", **good}, 400, "game", 400), ({"game": "f5", "depth": 4, "exact": ["d3"]}, 400, "exact", 400), ({"game": "f5", "depth": 9}, 400, "depth", 27), ({"game": 5, "depth": 4}, 400, "game", 400)):  # fmt: skip
+                                           ({"game": "f5", **good}, 400, "game", 400), ({"game": "f5", "depth": 4, "exact": ["d3"]}, 400, "exact", 400), ({"game": "f5", "depth": 9}, 400, "depth", 27), ({"game": 5, "depth": 4}, 400, "game", 400), ({**good, "dpeth": 4}, 400, "field", 400), ({**good, "depth": 13}, 400, "depth", 27), ({"position": END, "depth": 13}, 400, "depth", 27)):  # fmt: skip
             found, (told,) = await one.ask(body)  # type: ignore[arg-type]
             assert (found, told["code"], told["number"]) == (status, code, number), (body, told)
+            assert "dpeth" in told["text"] or code != "field"
         for headers, status, code in (({"Content_Type": "text/plain"}, 415, "type"), ({"Host": "evil.example"}, 403, "name"), ({"Origin": "http://evil.example"}, 403, "origin"), ({"Content_Length": "x"}, 400, "length"), ({"Content_Length": "99999"}, 413, "size"),
                                       ({"Transfer_Encoding": "chunked"}, 411, "length"), ({"Expect": "100-continue"}, 417, "expect"), ({"Bad Name ": "x"}, 400, "header"), ({"X": "y" * 20000}, 431, "head")):  # fmt: skip
             found, (told,) = await one.ask(good, **headers)
@@ -259,18 +336,23 @@ def named() -> set[str]:
     def walk(schema: dict[str, Any], path: str) -> None:
         for one in schema.get("oneOf", []):
             walk(one, f"{path}/{one['properties']['kind']['enum'][0]}")
+        if "items" in schema:
+            walk(schema["items"], path)
         found.update(f"{path}={word}" for word in schema.get("enum", []))
         for name, one in schema.get("properties", {}).items():
             found.add(f"{path}.{name}")
             walk(one, f"{path}.{name}")
 
-    for name in ("Score", "Line", "Fault", "About"):
+    for name in ("Score", "Line", "Fault", "About", "Answer", "Answers"):
         walk(API["components"]["schemas"][name], name)
     return found
 
 
 def test_the_description_is_what_the_server_does(monkeypatch: pytest.MonkeyPatch) -> None:
     asyncio.run(asyncio.wait_for(trial_of_values(monkeypatch), 120))
+    asyncio.run(asyncio.wait_for(trial_of_whole_answers(monkeypatch), 120))
+    asyncio.run(asyncio.wait_for(trial_of_progress(monkeypatch), 120))
+    asyncio.run(asyncio.wait_for(trial_of_origins(), 120))
     asyncio.run(asyncio.wait_for(trial_of_faults(), 120))
     asyncio.run(asyncio.wait_for(trial_of_customers(monkeypatch), 120))
     assert sorted(named() - SEEN) == []

@@ -1,11 +1,12 @@
 """The analysis board for browsers on this host, or for a class: http://127.0.0.1:8047/
 
 The page has values by an engine in the browser; deeper ones come from a server of `othello serve`, where --server (or COLUWEN_URL) names
-one. For a class, `--address 0.0.0.0` lets other hosts of the network in, and `--certificate FILE` (certificate and key) has their browsers
+one, and those by HTTP from there alone. For a class, `--address 0.0.0.0` lets other hosts of the network in, and `--certificate FILE` (certificate and key) has their browsers
 speak https; each address by which they come in is printed. They name this host by its address, by its own name, or by one that --name gives;
 any other name is refused, so that no foreign page reads this one.
 
-Any program may ask values by HTTP, as /openapi.json says: `curl -d '{"position": "..", "depth": 6}' -H 'Content-Type: application/json' ADDRESS/analyse`.
+Any program may ask values by HTTP, as /openapi.json says: `curl --json '{"position": "..", "depth": 6}' ADDRESS/analyse` gives one answer, and with
+`-H 'Accept: application/x-ndjson'` lines as things become known. With --origin a page of elsewhere may ask too.
 With --tokens FILE only those may that have a token (`Authorization: Bearer TOKEN`); FILE has the SHA-256 sum of each in a line, as `printf %s TOKEN | sha256sum`
 says it, and behind it a name or nothing. With --customers only those may whose token the server itself knows (`token_sha256` in a site's file): each is that customer there, in
 --sessions sessions of his own, within his budget.
@@ -49,10 +50,11 @@ def offered(info: Info, most: int) -> list[int]:
 
 
 def options() -> argparse.ArgumentParser:
-    words = commands.parser(__doc__, NAME, outage=0)
+    words = commands.parser(__doc__, NAME, outage=0, without="without one the page has them by its own engine in each browser, and nobody else is told any")
     words.add_argument("--port", type=int, default=8047, help="where browsers come in (8047)")
     words.add_argument("--address", default="127.0.0.1", help="of which address; 0.0.0.0 for browsers of other hosts (127.0.0.1)")
     words.add_argument("--name", action="append", default=[], help="a name that browsers have for this host")
+    words.add_argument("--origin", action="append", default=[], metavar="ORIGIN", help="of a page of elsewhere that may ask values, https://shop.example, or * for any (CORS)")
     words.add_argument("--certificate", metavar="FILE", help="certificate and key, by which browsers speak https")
     words.add_argument("--most-depth", type=int, default=DEEPEST, help="offer no more plies (as many as the server's grain lets through)")
     words.add_argument("--sessions", type=int, default=4, help="how many sessions of the server are used at once; others wait (4)")
@@ -154,7 +156,7 @@ async def serve_by(asked: argparse.Namespace, service: Service) -> None:
     if asked.certificate:
         context = ssl.create_default_context(ssl.Purpose.CLIENT_AUTH)
         context.load_cert_chain(asked.certificate)
-    site = Site(service, functools.partial(names_of, names={"localhost", socket.gethostname(), *asked.name}))
+    site = Site(service, functools.partial(names_of, names={"localhost", socket.gethostname(), *asked.name}), asked.origin)
     web = Web(site.answer, service.most, Limits(connections=asked.connections, per_address=asked.per_address))
     server = await web.start(asked.address, asked.port, context)
     site.port = server.sockets[0].getsockname()[1]

@@ -11,6 +11,8 @@ from .web import Answer, Fault, Request
 
 KINDS = {"html": "text/html", "css": "text/css", "js": "text/javascript", "json": "application/json", "svg": "image/svg+xml", "wasm": "application/wasm"}
 
+OPEN = ("/analyse", "/about.json", "/openapi.json")  # what a page of elsewhere may ask, where its origin is named
+PREFLIGHT = {"Access-Control-Allow-Methods": "GET, POST", "Access-Control-Allow-Headers": "accept, authorization, content-type", "Access-Control-Max-Age": "600"}
 QUERY = "!$&'()*+,;=:@/?%-._~"  # the signs of a query that stay as they are
 
 
@@ -42,14 +44,32 @@ def names_of(host: str, port: int, names: Iterable[str]) -> bool:
 class Site:
     """All that a browser may ask: the files and the service."""
 
-    def __init__(self, service: Service, is_named: Callable[..., bool]):
+    def __init__(self, service: Service, is_named: Callable[..., bool], origins: Iterable[str] = ()):
         self.service, self.is_named, self.port = service, is_named, 0
+        self.origins = frozenset(origins)  # of pages of elsewhere that may ask values; `*` is any
         self.files = texts()
         self.files["/"] = self.files["/index.html"]
         self.tags = {path: f'"{hashlib.sha256(body).hexdigest()[:20]}"' for path, (_, body) in self.files.items()}
 
     async def answer(self, request: Request) -> Answer:
-        self.check(request)
+        origin = request.headers.get("origin", "")
+        if not (request.path in OPEN and {origin, "*"} & self.origins and origin):
+            self.check(request)
+            return await self.own(request)
+        headers = {"Access-Control-Allow-Origin": origin, "Vary": "Origin", "Cross-Origin-Resource-Policy": "cross-origin"}
+        try:
+            if not self.is_named(request.headers.get("host", ""), self.port):
+                raise Fault(403, "name", "this host isn't known by that name")
+            if request.method == "OPTIONS":
+                return Answer(204, headers={**headers, **PREFLIGHT})
+            answer = await self.own(request)
+        except Fault as fault:
+            fault.headers |= headers
+            raise
+        answer.headers |= headers
+        return answer
+
+    async def own(self, request: Request) -> Answer:
         if request.path in self.files:
             return self.file(request)
         if request.path == "/review":  # the older page's address of a game

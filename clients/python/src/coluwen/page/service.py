@@ -1,8 +1,8 @@
 """What the page asks, and any program by HTTP: `/analyse` and its kin, as answers of `Web`. `openapi.json` describes /analyse for programs, word by word.
 
-    POST /analyse  {"position": 66 letters, "depth": 8, "exact": "all" or ["f5", ..], "steps": true}    lines of JSON, as things
-                   become known; without steps the greatest depth alone is asked; with "game": "f5d6c3" in place of a position
-                   each position of that game, whose number is the `ply` of its lines
+    POST /analyse  {"position": 66 letters, "depth": 8, "exact": "all" or ["f5", ..]}    one answer; with "game": "f5d6c3" in place of a position
+                   each position of that game, whose number is its `ply`. Where `Accept: application/x-ndjson` asks for it, or the field
+                   "steps": true or false, lines of JSON, as things become known: each step, or the greatest depth alone
     GET  /openapi.json
     GET  /about.json   {"service": true, "depths": [4, 6, 8], "places": 8, "settled": true, "addresses": ["http://192.168.1.5:8047/"]}
     POST /class        and POST, GET /class/ROOM: a teacher's board and those who follow it; POST /class/ROOM/pupils: who these are;
@@ -23,7 +23,7 @@ import json
 import pathlib
 import re
 from collections.abc import AsyncGenerator, Iterable
-from typing import Any
+from typing import Any, Protocol
 
 from .._core import DEEPEST
 from ..board import PASS, Position
@@ -36,9 +36,14 @@ from .rooms import Rooms
 from .web import Answer, Fault, Request
 
 LONGEST_QUESTION = 65536  # bytes: a game with variations and comments
+FIELDS = ("position", "game", "depth", "exact", "steps")  # of a question
+PROGRESS = 1.0  # seconds between two lines at least that tell nothing but how a question stands
+STANDS = ("waiting", "searching")  # the kinds of these (a server that is full or lost is told once for each try, a second apart and more)
+PATIENCE = 4.0  # where a server that is full or lost is asked again no sooner, one answer is a fault
 MOST_OF_TOKEN = 8  # questions of a token at once
 DONE = b'{"kind":"done"}\n'
 Events = asyncio.Queue[dict[str, Any] | None]  # None is the last
+Ask = tuple[Position, int, list[str], bool]  # a position, its depth, the moves whose values are to be exact, and whether each step is told
 
 
 def score_of(score: Score, empty: int | None = None) -> dict[str, Any]:
@@ -60,7 +65,33 @@ def step_of(found: Found) -> dict[str, Any]:
     return {"kind": "step", "depth": result.depth, "ends": ends, "score": score_of(result.score, found.empty), "best": result.best or "-", "table": table, "line": line}
 
 
-def telling(events: Events, **more: object) -> Told:
+class Heard(Protocol):
+    """What hears events."""
+
+    def put_nowait(self, event: dict[str, Any]) -> None: ...
+
+
+class Given(Exception):
+    """The server is full, or can't be reached, for longer than one answer waits."""
+
+
+class Whole:
+    """The events of a question as one answer: the step, with the exact values in its table."""
+
+    def __init__(self, position: Position):
+        self.said: dict[str, Any] = {"position": position.text}
+        self.trouble: asyncio.Future[None] = asyncio.get_running_loop().create_future()
+
+    def put_nowait(self, event: dict[str, Any]) -> None:
+        if event["kind"] == "step":
+            self.said |= {name: value for name, value in event.items() if name != "kind"}
+        elif event["kind"] == "exact":
+            self.said["table"][event["move"]] = event["score"]
+        elif event.get("again", 0) >= PATIENCE and not self.trouble.done():
+            self.trouble.set_exception(Given("the server is full" if event["kind"] == "full" else "the server can't be reached"))
+
+
+def telling(events: Heard, **more: object) -> Told:
     """What puts an event among others, with these words."""
     return lambda event: events.put_nowait({**event, **more})
 
@@ -96,7 +127,11 @@ class Service:
         if path == "/analyse" and self.allowed(request, "POST"):
             token = self.token_of(request)
             library = await self.customers.library(token) if self.customers else self.library
-            return Answer(kind="application/x-ndjson", lines=self.counted(token, self.lines_for(request.json(), library)))
+            asked = request.json()
+            questions, is_game = self.questions_of(asked)
+            if "steps" in asked or "application/x-ndjson" in request.headers.get("accept", ""):
+                return Answer(kind="application/x-ndjson", lines=self.counted(token, self.analyse_game(questions, library) if is_game else self.analyse(*questions[0], library)))
+            return Answer(later=self.whole(token, questions, is_game, library))
         if path == "/class" or path.startswith("/class/"):
             return self.of_class(request, path.removeprefix("/class").removeprefix("/"))
         return None
@@ -132,10 +167,12 @@ class Service:
         finally:
             self.asking -= collections.Counter([token])  # (which leaves out those that have none)
 
-    def lines_for(self, asked: Any, library: Library | None = None) -> AsyncGenerator[bytes, None]:
-        """What answers a question: of a position, or of each position of a game."""
+    def questions_of(self, asked: Any) -> tuple[list[Ask], bool]:
+        """What is asked: a position, or each position of a game; and whether it is a game."""
+        if isinstance(asked, dict) and (unknown := [name for name in asked if name not in FIELDS]):
+            raise Fault(400, "field", f"there is no field {unknown[0]!r}: a question has {', '.join(FIELDS)}")
         if not isinstance(asked, dict) or "game" not in asked:
-            return self.analyse(*self.question_of(asked), library)
+            return [self.question_of(asked)], False
         if "position" in asked or not isinstance(asked["game"], str):
             raise Fault(400, "game", "a question has a position or a game")
         try:
@@ -145,13 +182,44 @@ class Service:
         if asked.get("exact", "all") != "all":
             raise Fault(400, "exact", "of a game the exact values of all moves are had, or of none")
         words = {name: value for name, value in asked.items() if name != "game"}
-        return self.analyse_game([self.question_of({**words, "position": position.text}, near_end=True) for position, _ in game.positions()], library)
+        return [self.question_of({**words, "position": position.text}) for position, _ in game.positions()], True
 
-    async def analyse_game(self, questions: list[tuple[Position, int, list[str], bool]], library: Library | None) -> AsyncGenerator[bytes, None]:
+    async def whole(self, token: str, questions: list[Ask], is_game: bool, library: Library) -> Answer:
+        """One answer, once all of it is known; a fault where the server refuses it, or was full or lost for seconds."""
+        wholes = [Whole(position) for position, *_ in questions]
+        tasks = [asyncio.ensure_future(self.once(library, *question[:3], whole)) for whole, question in zip(wholes, questions)]
+        self.asking[token] += 1
+        try:
+            left = {*tasks, *(whole.trouble for whole in wholes)}
+            while not all(task.done() for task in tasks):
+                done, left = await asyncio.wait(left, return_when=asyncio.FIRST_COMPLETED)
+                for one in done:
+                    one.result()
+        except (ColuwenError, Given) as fault:
+            if self.customers and isinstance(fault, Refused) and fault.number == UNKNOWN:
+                self.customers.forget(library)
+                raise Fault(401, "token", "nobody has this token") from None
+            raise Fault(503 if isinstance(fault, Given) else 502, "server", str(fault)) from None
+        finally:
+            self.asking -= collections.Counter([token])
+            for task in tasks:
+                task.cancel()
+            for whole in wholes:
+                whole.trouble.cancel()
+            await asyncio.gather(*tasks, *(whole.trouble for whole in wholes), return_exceptions=True)
+        found = [whole.said for whole in wholes]
+        return Answer.json({"positions": [{"ply": ply, **one} for ply, one in enumerate(found)]} if is_game else found[0])
+
+    async def once(self, library: Library, position: Position, depth: int, exact: list[str], whole: Whole) -> None:
+        if not (found := await self.at_once(library, position, depth, whole)):
+            raise Fault(400, "depth", f"the server can't look {depth} plies deep at this position")
+        await self.exactly(library, found, exact, whole)
+
+    async def analyse_game(self, questions: list[Ask], library: Library | None) -> AsyncGenerator[bytes, None]:
         """The lines of several positions, each with its number, as they come; `done` once."""
         lines: asyncio.Queue[bytes] = asyncio.Queue()
 
-        async def ask(ply: int, question: tuple[Position, int, list[str], bool]) -> None:
+        async def ask(ply: int, question: Ask) -> None:
             try:
                 async with contextlib.aclosing(self.analyse(*question, library)) as found:
                     async for line in found:
@@ -175,7 +243,7 @@ class Service:
                 task.cancel()
             await asyncio.gather(*tasks, return_exceptions=True)
 
-    def question_of(self, asked: Any, near_end: bool = False) -> tuple[Position, int, list[str], bool]:
+    def question_of(self, asked: Any) -> Ask:
         """A question's position, depth, the moves whose values are to be exact, and whether it is to be answered step by step. Each word
         of it is tested."""
         if not isinstance(asked, dict) or not isinstance(asked.get("position"), str) or len(asked["position"]) > 200:
@@ -185,11 +253,11 @@ class Service:
         except ValueError as fault:
             raise Fault(400, "position", str(fault)) from None
         depth, exact, steps = asked.get("depth"), asked.get("exact", []), asked.get("steps", True)
-        if not isinstance(depth, int) or isinstance(depth, bool) or depth < 1:
-            raise Fault(400, "depth", "the depth is a number of plies")
-        if not self.settled and self.deepest < depth <= DEEPEST:
+        if not isinstance(depth, int) or isinstance(depth, bool) or not 1 <= depth <= DEEPEST:
+            raise Fault(400, "depth", f"the depth is a number of plies from 1 to {DEEPEST}")
+        if not self.settled and self.deepest < depth:
             raise Fault(503, "learning", "how deep the server looks isn't known yet")
-        if depth > self.deepest and not (position.empties <= DEEPEST and (near_end or depth <= position.empties)):
+        if depth > self.deepest and position.empties > DEEPEST:
             raise Fault(400, "depth", f"this page looks {self.deepest} plies deep, and to the end where {DEEPEST} squares are empty")
         moves = position.legal_moves()
         exact = moves if exact == "all" else exact
@@ -203,8 +271,22 @@ class Service:
         """What is learnt, line by line: each step, and then the exact values that are wanted of other moves than the best."""
         events: Events = asyncio.Queue()
         worker = asyncio.ensure_future(self.learn(library or self.library, position, depth, exact, steps, events))
+        loop, last, held = asyncio.get_running_loop(), -PROGRESS, None
         try:
-            while (event := await events.get()) is not None:
+            while True:
+                try:
+                    event = await asyncio.wait_for(events.get(), None if held is None else max(last + PROGRESS - loop.time(), 0))
+                except TimeoutError:
+                    event, held = held, None
+                    last = -PROGRESS
+                if event is None:
+                    return
+                if event["kind"] in STANDS:
+                    if loop.time() < last + PROGRESS:  # a later one takes its place
+                        held = event
+                        continue
+                    last = loop.time()
+                held = None
                 yield json.dumps(event, separators=(",", ":")).encode() + b"\n"
         finally:
             worker.cancel()
@@ -239,7 +321,7 @@ class Service:
             events.put_nowait(step_of(found))
         return found
 
-    async def at_once(self, library: Library, position: Position, depth: int, events: Events) -> Found | None:
+    async def at_once(self, library: Library, position: Position, depth: int, events: Heard) -> Found | None:
         """The last step alone; where it can't be had, the one before it."""
         steps = steps_of(position, depth)
         for step in reversed(steps):
@@ -253,7 +335,7 @@ class Service:
             return found
         return None
 
-    async def exactly(self, library: Library, found: Found, exact: Iterable[str], events: Events) -> None:
+    async def exactly(self, library: Library, found: Found, exact: Iterable[str], events: Heard) -> None:
         """The exact values of these moves, each by a question of the position behind it. At the game's end also those that are exact
         in the table are asked, as only their lines tell how many squares stay empty."""
         result = found.result

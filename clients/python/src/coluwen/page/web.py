@@ -32,6 +32,7 @@ SECURITY = {
     "Cross-Origin-Resource-Policy": "same-origin",
 }
 LOG = logging.getLogger("coluwen.page")  # a line for each request, in the common log format, and what went wrong
+LOOK = 0.5  # seconds between two looks whether who waits for an answer is there
 HEARTBEAT = 5.0  # seconds after which an empty line is sent where there is none, so that a host that is gone is noticed
 
 
@@ -76,6 +77,7 @@ class Answer:
     body: bytes = b""
     lines: AsyncGenerator[bytes, None] | None = None
     headers: dict[str, str] = dataclasses.field(default_factory=dict)
+    later: Awaitable[Answer] | None = None  # what it is once that is known; given up where the other side leaves
 
     @classmethod
     def json(cls, value: object, status: int = 200, **headers: str) -> Answer:
@@ -91,6 +93,7 @@ class Fault(Exception):
     def __init__(self, status: int, code: str, text: str):
         super().__init__(text)
         self.status, self.code, self.number = status, code, NUMBERS.get(code, status)
+        self.headers: dict[str, str] = {}  # of its answer, beside those of all
 
 
 Handler = Callable[[Request], Awaitable[Answer]]
@@ -155,8 +158,13 @@ class Web:
         close = request.headers.get("connection", "").lower() == "close"
         try:
             answer = await self.handler(request)
+            if answer.later:
+                headers, answer = answer.headers, await while_there(reader, answer.later)
+                answer.headers |= headers
         except Fault as fault:
             answer = said(fault)
+        except (ConnectionError, asyncio.CancelledError):
+            raise
         except Exception:
             LOG.exception("%s %s", request.method, plain(request.target))
             answer = said(Fault(500, "fault", "something went wrong here"))
@@ -231,6 +239,20 @@ class Web:
         await self.write(writer, b"0\r\n\r\n")
 
 
+async def while_there(reader: asyncio.StreamReader, later: Awaitable[Answer]) -> Answer:
+    """What an answer comes to; where the other side has left meanwhile it is given up. What it sent ahead stays unread."""
+    task = asyncio.ensure_future(later)
+    try:
+        while not (await asyncio.wait({task}, timeout=LOOK))[0]:
+            if reader.at_eof():
+                raise ConnectionError("the other side has left")
+        return task.result()
+    finally:
+        if not task.done():
+            task.cancel()
+            await asyncio.gather(task, return_exceptions=True)
+
+
 async def ended(reader: asyncio.StreamReader) -> None:
     """Returns when the other side has ended its connection; what it still sends is dropped."""
     while await reader.read(4096):
@@ -284,6 +306,7 @@ def said(fault: Fault) -> Answer:
         answer.headers["Retry-After"] = "2"
     if fault.status == 401:
         answer.headers["WWW-Authenticate"] = "Bearer"
+    answer.headers |= fault.headers
     return answer
 
 

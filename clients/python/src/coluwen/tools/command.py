@@ -30,12 +30,12 @@ class OutputClosed(Exception):
     """Nobody reads what is written any more."""
 
 
-def parser(text: str | None, name: str, outage: float = OUTAGE) -> argparse.ArgumentParser:
+def parser(text: str | None, name: str, outage: float = OUTAGE, without: str = "else processes of the program `othello` on this computer") -> argparse.ArgumentParser:
     """A command's options: how a server is spoken to, how long it is waited for, and what is reserved. `text` is its manual: the first paragraph
-    says what it is for."""
+    says what it is for; `without`: what gives values where no server is named."""
     words = argparse.ArgumentParser(prog=name, description=text, formatter_class=argparse.RawDescriptionHelpFormatter)
     words.add_argument("--version", action="version", version=f"{name} (coluwen) {__version__}")
-    group = words.add_argument_group("what gives the values", "A server, where one is named; else processes of the program `othello` on this computer.")
+    group = words.add_argument_group("what gives the values", f"A server, where one is named; {without}.")
     group.add_argument("--server", metavar="HOST:PORT", help=f"or othello://HOST:PORT?tls=1&token=FILE; else that of the variable {URL}, if it is set")
     group.add_argument("--fallback", choices=("engine",), help="what the server can't give, as it is too deep for its grain, an engine of this computer gives")
     group.add_argument("--workers", type=count, metavar="N", help="how many processes an engine of this computer has (one for each processor)")

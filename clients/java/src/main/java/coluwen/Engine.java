@@ -74,8 +74,8 @@ public final class Engine implements Analyst {
       throw new Unreachable(named + " isn't the program othello", null);
     }
     var onPath = Stream.of(Optional.ofNullable(System.getenv("PATH")).orElse("").split(File.pathSeparator)).map(folder -> Path.of(folder, "othello")).filter(Files::isExecutable).map(Path::toString);
-    return Stream.concat(onPath, packed().stream()).filter(Engine::isProgram).findFirst()
-        .orElseThrow(() -> new Unreachable("the program othello isn't there: the variable COLUWEN_OTHELLO names it, or it stands on PATH", null));
+    return Stream.concat(onPath, packed().stream()).filter(Engine::isProgram).findFirst().orElseThrow(() -> new Unreachable(
+        "the program othello isn't there: install node and take the jar of clients/java/build, which has the same search by WebAssembly, or name the program by the variable COLUWEN_OTHELLO", null));
   }
 
   private static boolean isProgram(String path) {
@@ -89,18 +89,24 @@ public final class Engine implements Analyst {
     }
   }
 
-  /** The program that this package has in itself, where it has one: a copy in a file, as a process needs it. */
+  /** The program that this package has in itself, where it has one, or the page's module, which node runs: a copy in files, as a process needs it. */
   private static synchronized Optional<String> packed() {
     if (copy != null) return copy;
     var isFast = Engine.class.getResource("program/othello-v3") != null && runsV3();
-    try (var packed = Engine.class.getResourceAsStream(isFast ? "program/othello-v3" : "program/othello")) {
-      if (packed == null) return copy = Optional.empty();
+    var program = Stream.of(isFast ? "othello-v3" : "othello", "othello-wasm").filter(name -> Engine.class.getResource("program/" + name) != null).findFirst();
+    if (program.isEmpty()) return copy = Optional.empty();
+    try {
       var folder = Files.createTempDirectory("coluwen-");
-      var file = folder.resolve("othello");
-      Files.copy(packed, file);
       folder.toFile().deleteOnExit();
-      file.toFile().deleteOnExit();
-      return copy = file.toFile().setExecutable(true, true) ? Optional.of(file.toString()) : Optional.empty();
+      for (var name : program.get().endsWith("wasm") ? List.of("othello-wasm", "page32.wasm", "modules.js") : List.of(program.get())) {
+        var file = folder.resolve(name);
+        file.toFile().deleteOnExit();
+        try (var packed = Engine.class.getResourceAsStream("program/" + name)) {
+          Files.copy(packed, file);
+        }
+      }
+      var found = folder.resolve(program.get());
+      return copy = found.toFile().setExecutable(true, true) ? Optional.of(found.toString()) : Optional.empty();
     } catch (IOException fault) {
       throw new UncheckedIOException(fault);
     }
