@@ -83,7 +83,7 @@ export class Position {
 
   /** The position after a move; IllegalMove where the rules don't allow it. */
   play(move) {
-    const word = wordOf(move);
+    const { word } = new Move(move);
     if (!this.legalMoves().includes(word)) throw new IllegalMove(`${word} isn't legal here`);
     if (word === PASS) return new Position(this.cells, OTHER[this.side]);
     const square = SQUARES.indexOf(word);

@@ -69,8 +69,8 @@ class Blocking(Player):
         return [text_of(self.client.analyse(position, depth, **how))]
 
     def analyse_all(self, rest: str) -> list[str]:
-        depth, position, _ = question_of(rest)
-        return [" ".join(["moves", *map(str, self.client.analyse_all(position, depth))])]
+        depth, position, how = question_of(rest)
+        return [" ".join(["moves", *map(str, self.client.analyse_all(position, depth, **how))])]
 
     def analyse_many(self, rest: str) -> list[str]:
         depth, positions, how = many_of(rest)
@@ -114,7 +114,7 @@ class Facade:
         return asyncio.run_coroutine_threadsafe(call, self.loop).result()
 
     def __getattr__(self, name: str) -> Any:
-        return lambda *words: self.do(getattr(self.client, name)(*words))
+        return lambda *words, **how: self.do(getattr(self.client, name)(*words, **how))
 
     def analyse_many(self, *words: Any, **how: Any) -> Iterator[Any]:
         async def next_of(source: Any) -> Any:

@@ -205,3 +205,11 @@ def test_words_of_bits_are_the_rules(cells: list[str], side: str) -> None:
         if flips[at]:
             turned = {*flips[at], SQUARES[at]}
             assert place.play(at).cells == "".join(side if SQUARES[one] in turned else cell for one, cell in enumerate(cells))
+
+
+def test_a_square_that_is_none_is_no_illegal_move_of_a_player() -> None:
+    for move in ("z9", "a9", "", "d33", "d"):
+        with pytest.raises(IllegalMove, match="is no move"):
+            Position.opening().play(move)
+    with pytest.raises(IllegalMove, match="black can't play there"):
+        Position.opening().play("a1")

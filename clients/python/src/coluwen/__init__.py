@@ -9,7 +9,7 @@ part, and changes as CHANGELOG.md promises; any other module is its own matter.
 """
 from ._core import Info, Reservation, enough
 from .aio import AsyncClient
-from .analyst import Analyst, Outcome, Progress, Result
+from .analyst import Analyst, Outcome, Progress, Result, Unfit
 from .board import BLACK, PASS, SQUARES, START, WHITE, Board, Move, Position
 from .client import Client, connect, tls_context, token_in
 from .engine import AsyncEngine, Engine, Fallback
@@ -22,5 +22,5 @@ __all__ = [
     "BLACK", "FAULTS", "PASS", "SQUARES", "START", "WHITE", "Analyst", "AsyncClient", "AsyncEngine", "Board", "Broken", "Cancelled", "Client",
     "Closed", "ColuwenError", "Done", "Engine", "Entry",
     "Fallback", "FormatError", "IllegalMove", "Info", "Late", "Live", "Move", "Outcome", "Pending", "Position", "Progress", "Quota", "Refused", "Reservation", "Result", "Score",
-    "Session", "Silent", "Spent", "TooDeep", "Unreachable", "connect", "enough", "tls_context", "token_in",
+    "Session", "Silent", "Spent", "TooDeep", "Unfit", "Unreachable", "connect", "enough", "tls_context", "token_in",
 ]  # fmt: skip

@@ -68,7 +68,7 @@ class Progress:
 
 
 class Unfit(FormatError, TypeError):
-    """A question that is none: it isn't sent."""
+    """A question that is none, by its depth or its position: it isn't sent."""
 
 
 def checked(position: str | Position, depth: int, least: int = 0) -> Position:
@@ -145,6 +145,8 @@ class Many:
                  tell: Callable[[Callable[[], None]], object]):  # fmt: skip
         if order not in ("asked", "known"):
             raise ValueError(f"results come in the order 'asked' or 'known', and not {order!r}")
+        if depth is not None:
+            checked(Position.opening(), depth)
         if window < 1:
             raise ValueError(f"a window has at least one place, and not {window}")
         self.depth, self.in_order, self.window, self.on_progress, self.begin, self.tell = depth, order == "asked", window, on_progress, begin, tell

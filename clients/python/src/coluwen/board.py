@@ -233,6 +233,8 @@ class Position:
             if not self.must_pass:
                 raise IllegalMove(f"a pass, and {'the game is over' if self.is_over else NAMES[self.side] + ' can move'}")
             return Position(self.cells, OTHER[self.side])
+        if word not in INDEX:
+            raise IllegalMove(f"{move!r} is no move: a square, or pass")
         if not (flipped := changes(self._discs, self.side, INDEX.get(word))):
             raise IllegalMove(f"{move}: {NAMES[self.side]} can't play there")
         return Position(cells_of(self._discs ^ flipped | BIT[self.side][INDEX[word]]), OTHER[self.side])

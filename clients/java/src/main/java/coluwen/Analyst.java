@@ -55,13 +55,16 @@ public interface Analyst extends AutoCloseable {
   default Stream<Result> deepen(Position position, Duration timeout) { return Many.deepened(this, position, Core.DEEPEST, timeout, true); }
 
   /** Each move's value exactly, the best first, of equals the one from a1 on: one question for each position that a move leads to. */
-  default List<Entry> analyseAll(Position position, int depth) {
+  default List<Entry> analyseAll(Position position, int depth) { return analyseAll(position, depth, timeout()); }
+
+  /** The same with so much time for each of these questions (null: no limit); {@code Late} where one takes longer. */
+  default List<Entry> analyseAll(Position position, int depth, Duration timeout) {
     Calls.checked(depth);
     if (depth < 1) throw new IllegalArgumentException("moves are looked at from depth 1 on");
     var moves = position.legalMoves();
     var left = moves.contains(Position.PASS) ? depth : depth - 1; // a pass uses no ply
     var ends = depth >= position.empties();
-    var questions = moves.stream().map(move -> analyseAsync(position.play(move), left)).toList();
+    var questions = moves.stream().map(move -> analyseAsync(position.play(move), left, timeout)).toList();
     try {
       return IntStream.range(0, moves.size())
           .mapToObj(at -> new Entry(moves.get(at), new Score(-Calls.joined(questions.get(at)).score().value(), '=', ends, position.side())))

@@ -87,6 +87,7 @@ public record Position(String cells, char side) {
   /** The same by its word. */
   public Position play(String move) {
     var word = move.toLowerCase();
+    if (!word.equals(PASS) && !SQUARES.contains(word)) throw new IllegalMove(move + " is no move: a square, or pass");
     if (!legalMoves().contains(word)) throw new IllegalMove(move + " isn't legal here");
     if (word.equals(PASS)) return new Position(cells, other(side));
     var after = new StringBuilder(cells);

@@ -68,7 +68,8 @@ class BehaviourTest {
       case "info":
         return "info grain=" + client.info().grain() + " sure=" + client.info().sure() + " mostly=" + client.info().mostly();
       case "analyse_all":
-        return joined("moves", client.analyseAll(Position.parse(text), depth));
+        var most = how.containsKey("timeout") ? Duration.ofMillis(Long.parseLong(how.get("timeout"))) : client.timeout();
+        return joined("moves", client.analyseAll(Position.parse(text), depth, most));
       case "analyse_many":
         return many(client, depth, text, how);
       default:
