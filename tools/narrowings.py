@@ -1,8 +1,9 @@
 #!/usr/bin/env python3
 """Narrows each law that has a page, and sees that a use of it in `promise_uses` is then refused: a use that isn't is hollow there.
 
-usage: tools/narrowings.py [--few] [--list] [--clauses] [WORD..]      (--few: one narrowing of each law; --list: prints them and tries none;
---clauses: none of definitions; WORD: only laws whose name has it; status 1 where a use isn't proved as a law stands, or no use tells a narrowing)
+usage: tools/narrowings.py [--few] [--gate] [--list] [--clauses] [WORD..]      (--few: one narrowing of each law; --gate: of one law of each
+crate, as ./gate calls it; --list: prints them and tries none; --clauses: none of definitions; WORD: only laws whose name has it; status 1 where
+a use isn't proved as a law stands, or no use tells a narrowing: one of which the check says nothing tells nothing). All of them before a release.
 
 In a copy of `promise_uses` each law stands again as a function of that crate, with the words of its own contract, and its uses call that one.
 As it stands there all uses must be proved. Then it is narrowed by rule, from the text as it is: what a clause says is said only where a
@@ -10,6 +11,7 @@ number is 0 (of a tenant 7 or 9 too, of a job 3 or 5), where a list is short, wh
 at all; or without one of its parts. What says less says `Unit` at other values, so a use at these values alone is still proved: 7 alone must be refused by a
 use of 9. So is each field of a definition that a clause comes to, or that such a one comes to: it stands again in the copy, with all between
 it and the clause, for the proofs of the uses too. A use whose own clauses cite it isn't proved then, and can't tell.
+That a law's premises are met at all an instance shows, which the check of documents asks for (tools/docs/premises.py).
 Each law is narrowed once in a round of `rt check --only`, over what the check of `promise_uses` kept; a round takes half a minute or more.
 """
 import collections
@@ -17,6 +19,7 @@ import dataclasses
 import pathlib
 import re
 import shutil
+import subprocess
 import sys
 import tempfile
 
@@ -27,11 +30,10 @@ sys.path.insert(0, str(TOP / "tools/docs"))
 
 import statements  # noqa: E402
 import uses  # noqa: E402
+from premises import BOUND, closing, conclusion, top_level  # noqa: E402
 
 USES = TOP / "crates/promise_uses"
 NUMBERS = {"number": (7, 9, 0), "tenant": (7, 9, 0), "job": (3, 5, 0), "depth": (3, 0)}  # of which the uses speak; of others 0
-WRAPPED = re.compile(r"(?:IfOk|IfSome|IfErr|OnOk|OnErr|OnSome) [\w.]+ \((?:λ \w+\. )?")
-BOUND = re.compile(r"\(([\w ]+) : ((?:[^()]|\([^()]*\))*)\)")
 DEPTH = 2
 SAYS = re.compile(r"[≡≢≤<×⊎→⊥]|\b(?:Is|Are|Has|Have|Says|Saw|Took|Shows|Holds|Leads)[A-Z ]")
 NUMERIC = re.compile(r"ℕ|u8|u16|u32|u64|usize")
@@ -81,40 +83,6 @@ class Narrowing:
     clauses: dict  # by place: the clause's text instead
     target: tuple = ()  # the definition's key
     lines: list = None  # the definition's lines instead
-
-
-def top_level(text, sign):
-    """The places where a sign stands outside of brackets, up to a lambda there."""
-    depth = 0
-    for match in re.finditer(rf"[()\[\]{{}}λ]|{re.escape(sign)}", text):
-        if match[0] in "([{":
-            depth += 1
-        elif match[0] in ")]}":
-            depth -= 1
-        elif depth == 0 and match[0] == "λ":
-            return
-        elif depth == 0:
-            yield match.start()
-
-
-def closing(text, start):
-    """The place of the bracket that closes the one at `start`."""
-    depth = 0
-    for match in re.finditer(r"[()\[\]{}]", text[start:]):
-        depth += 1 if match[0] in "([{" else -1
-        if depth == 0:
-            return start + match.start()
-    raise ValueError(text)
-
-
-def conclusion(text):
-    """Where what a statement comes to begins and ends: what it says after its variables and premises, inside of `IfOk` and its like."""
-    start, end = len(text) - len(text.lstrip()), len(text.rstrip())
-    while (match := WRAPPED.match(text, start)) and closing(text, match[0].rindex("(") + start) == end - 1:
-        start, end = match.end(), end - 1
-    arrows = [*top_level(text[start:end], "→")]
-    start = start + arrows[-1] + 1 if arrows else start
-    return start + len(text[start:end]) - len(text[start:end].lstrip()), end
 
 
 def values_of(name, kind):
@@ -382,11 +350,13 @@ class Copy:
         self.crate = next(crate for crate in self.rt.rtlib.crates_below(str(TOP)) if crate.name == "promise_uses")
         self.crate.deps, self.crate.folder = self.crate.below(), str(self.room / "crate")
         self.at = {name: f"{path.stem}::{name}" for path in sorted(USES.glob("src/*.rt")) for name in re.findall(r"^pub fn (\w+)", path.read_text(), re.M)}
+        if not (USES / "out/incremental").is_dir():  # (then it begins with what the toolchain kept of the crate, and of those below)
+            subprocess.run(["rt", "check", "--jobs", "1"], cwd=USES, stdin=subprocess.DEVNULL, stdout=subprocess.DEVNULL, check=True)
         if (USES / "out/incremental").is_dir():
             shutil.copytree(USES / "out/incremental", self.room / "kept")
 
-    def refused(self, texts, names):
-        """The uses of these that aren't proved, and all that was said."""
+    def verdicts(self, texts, names):
+        """Of each of these uses of which the check says something whether it is proved, and all that was said."""
         shutil.rmtree(self.crate.folder, ignore_errors=True)
         shutil.copytree(USES, self.crate.folder, ignore=shutil.ignore_patterns("out"))
         for path, text in texts.items():
@@ -396,8 +366,8 @@ class Copy:
         said = self.rt.checked(self.crate, {}, ["--jobs", "1", "--allow-holes", *words], self.room / "kept").stdout
         if not said.rstrip().rpartition("\n")[2].startswith("only="):
             sys.exit(f"the copy can't be checked:\n{said[-3000:]}")
-        verdicts = dict(re.findall(r"^fn promise_uses::\w+::(\w+): (.*)$", said, re.M))
-        return {name for name in names if not verdicts.get(name, "").startswith(("no holes", "depends on a hole", "proved"))}, said
+        told = re.findall(r"^fn promise_uses::\w+::(\w+): (.*)$", said, re.M)
+        return {name: verdict.startswith(("no holes", "depends on a hole", "proved")) for name, verdict in told if name in names}, said
 
 
 def rounds(laws, each):
@@ -418,13 +388,15 @@ def rounds(laws, each):
 
 def main():
     words = sys.argv[1:]
-    if any(word.startswith("-") and word not in ("--few", "--list", "--clauses") for word in words):
+    if any(word.startswith("-") and word not in ("--few", "--gate", "--list", "--clauses") for word in words):
         sys.exit(__doc__)
     specs = statements.Specs()
     code = statements.Code(specs)
     titles = [line.split(" | ")[1] for line in (TOP / "tools/docs/pages.txt").read_text().splitlines() if " | " in line and not line.startswith("#")]
     asked = [word for word in words if not word.startswith("-")]
     laws = {title: Law(code, title) for title in titles if not asked or any(word in title for word in asked)}
+    if "--gate" in words:
+        laws = {law.title: law for law in {law.crate: law for law in reversed(laws.values())}.values()}
     each = [narrowing for law in laws.values() for narrowing in narrowings_of(specs, law, "--clauses" not in words)]
     if "--list" in words:
         for narrowing in each:
@@ -432,26 +404,26 @@ def main():
         print(len(each), "narrowings of", len(laws), "laws")
         return
     with tempfile.TemporaryDirectory(prefix="narrowings-") as room:
-        sys.exit(1 if tried(specs, laws, each, Copy(room), "--few" in words) else 0)
+        sys.exit(1 if tried(specs, laws, each, Copy(room), bool({"--few", "--gate"} & {*words})) else 0)
 
 
 def tried(specs, laws, each, copy, is_few):
     """Tries the narrowings, and returns how many no use tells."""
     names = sorted({use for law in laws.values() for use in law.uses})
-    bad, said = copy.refused(texts_with(specs, laws.values(), {}), names)
-    if bad:
+    proved, said = copy.verdicts(texts_with(specs, laws.values(), {}), names)
+    if bad := [name for name in names if not proved.get(name)]:
         sys.exit(f"{said}\nuses that aren't proved as the laws stand: {', '.join(bad)}")
     print(f"as the laws stand all {len(names)} uses are proved", flush=True)
     able = {}  # the uses that are proved where a law's definitions stand again as they are
     as_they_are = {(one.law, one.target): Narrowing(one.law, "as it is", {}, one.target, specs.definitions[one.target].lines) for one in each if one.target and not is_few}
     for group in rounds(laws, as_they_are.values()):
-        bad, _ = copy.refused(texts_with(specs, laws.values(), group), sorted({use for title in group for use in laws[title].uses}))
-        able |= {(title, one.target): [use for use in laws[title].uses if use not in bad] for title, one in group.items()}
+        proved, _ = copy.verdicts(texts_with(specs, laws.values(), group), sorted({use for title in group for use in laws[title].uses}))
+        able |= {(title, one.target): [use for use in laws[title].uses if proved.get(use)] for title, one in group.items()}
     count = collections.Counter()
     for group in rounds(laws, [one for one in each if not one.target or able.get((one.law, one.target))]):
-        bad, _ = copy.refused(texts_with(specs, laws.values(), group), sorted({use for title in group for use in laws[title].uses}))
+        proved, _ = copy.verdicts(texts_with(specs, laws.values(), group), sorted({use for title in group for use in laws[title].uses}))
         for title, one in group.items():
-            told = [use for use in (able[title, one.target] if one.target else laws[title].uses) if use in bad]
+            told = [use for use in (able[title, one.target] if one.target else laws[title].uses) if proved.get(use) is False]
             count["refused" if told else "not refused"] += 1
             print(f"{title}: {one.said}: {'refused by ' + ', '.join(told) if told else 'NOT REFUSED'}", flush=True)
         if is_few:

@@ -23,6 +23,7 @@ import subprocess
 import sys
 import tempfile
 
+import premises
 import sums
 from calls import Calls
 from statements import NAME, TESTING, TOP, Code, Specs
@@ -346,8 +347,8 @@ class Pages:
         return "\n".join([text, "", "## The definitions, lowest first", "", *self.definitions_text(order, types, "###"), "## Words of the toolchain's library", "", *self.word_lines(words)])
 
     def faults(self):
-        """What is unclear, the clauses of pages and of the laws of `laws.txt` that no use cites, and the clauses that uses cite and that
-        aren't there."""
+        """What is unclear, the clauses of pages and of the laws of `laws.txt` that no use cites, those that uses cite and that aren't there, and
+        those of pages whose premises have no instance."""
         yield from dict.fromkeys(self.unclear)
         named = [name for _, name, _ in self.promises] + [name for name, _ in rows("laws.txt", 2)]
         there = {(name, clause) for name in named for _, clause, _, _ in self.call(name).promised}
@@ -355,6 +356,9 @@ class Pages:
             yield f"promise_uses cites {name}#{clause}, which neither a page nor laws.txt has"
         for name, clause in sorted(there - {*self.uses}):
             yield f"no use in promise_uses cites {name}#{clause}"
+        uses = [call for (crate, _), call in self.code.calls.items() if crate == "promise_uses"]
+        for name, clause, presumed in premises.unmet(self.specs, [(name, self.call(name)) for _, name, _ in self.promises], uses):
+            yield f"promise_uses has no instance of what {name}#{clause} presumes: {'; '.join(presumed)}"
 
 
 def contracts(crate):

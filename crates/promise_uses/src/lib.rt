@@ -18,6 +18,7 @@ mod fits;
 mod halls;
 mod isolation;
 mod needs;
+mod premises;
 mod reserved;
 mod runs;
 mod seen;
@@ -47,6 +48,7 @@ pub use halls::{
 };
 pub use isolation::seven_in_a_running_core;
 pub use needs::{nodes_of_seven_and_nine, segments_of_seven_and_nine, what_a_position_needs};
+pub use premises::{at_a_door, at_calls, in_a_book, in_a_core, in_a_file, in_a_line, in_a_time};
 pub use reserved::{nine_asks_to_depth_eight, seven_asks_again};
 pub use runs::{
     nine_by_its_own_steps, nine_is_undisturbed, refusals, seven_alone, seven_in_both,
