@@ -2,6 +2,7 @@
 from __future__ import annotations
 
 import contextlib
+import math
 import pathlib
 import re
 import shutil
@@ -15,7 +16,7 @@ from coluwen.board import Board
 from coluwen.errors import Refused
 from coluwen.tools import lines, review
 from coluwen.tools.gtp import Gtp
-from coluwen.tools.match import GtpProgram, NBoardProgram, Player, match, openings_of
+from coluwen.tools.match import GtpProgram, NBoardProgram, Outcome, Player, Sprt, Table, match, openings_of
 from coluwen.tools.player import Player as Searcher
 from told import sound, told, value_of
 
@@ -249,7 +250,7 @@ def test_games_are_kept_as_they_end_whatever_names_are_in_them(tmp_path: pathlib
                 if re.match(r"[1-4]: ", line):
                     assert len(games.read_text(encoding="utf-8").splitlines()) >= int(line[0])
                 if number == 3:
-                    assert re.match(r"round 1: 黒 \d+\.\d% \+- 0\.0% of 2 games; Elo ", line)
+                    assert re.match(r"round 1: 黒 \d+\.\d% \+- [1-9]\d*\.\d% of 2 games; Elo ", line)
         assert process.returncode == 0
     kept = list(formats.strictly(formats.games(str(games))))
     assert [(game.black, game.white) for game in kept] == [("黒", "łódź"), ("łódź", "黒")] * 2
@@ -267,6 +268,68 @@ def test_what_was_played_is_kept_where_a_match_is_stopped(tmp_path: pathlib.Path
     with pytest.raises(KeyboardInterrupt):
         match(lambda: contextlib.nullcontext((First("one"), First("other"))), [Board().push("f5")], lambda text: None, 1, kept.append)
     assert len(kept) == 1 and kept[0].game.final().is_over
+
+
+def test_an_engine_that_doesn_t_start_ends_the_match() -> None:
+    """With a sentence, and not with games that are lost by 64; of both protocols, and where there is no such program."""
+    for word in ("gtp:false", "nboard:false", "gtp:sh -c 'exit 3'"):
+        found = command("coluwen-match", "--server", "127.0.0.1:1", word, "gtp:cat")
+        assert found.returncode == 1 and found.stderr == f"coluwen-match: {word} doesn't start: it has ended\n" and not found.stdout
+    assert "no-such-program" in command("coluwen-match", "--server", "127.0.0.1:1", "gtp:no-such-program", "gtp:cat").stderr
+
+
+def test_a_match_that_goes_on(tmp_path: pathlib.Path) -> None:
+    """Pairs that the file has aren't played again; a pair of which a game is missing is; the file of another match is refused."""
+    games, openings = tmp_path / "games.ggf", tmp_path / "openings"
+    openings.write_text("f5d6c3d3\nf5f6e6f4\nf5d6\n")
+    with told(sound()) as server:
+        words = ("coluwen-match", f"--server=127.0.0.1:{server.port}", "--openings", openings, "--games", games, "--resume")
+        whole = command(*words, "one=depth:1", "other=depth:2")
+        kept = games.read_text(encoding="utf-8").splitlines()
+        assert whole.returncode == 0 and len(kept) == 6
+        games.write_text("\n".join(kept[:3]) + "\n", encoding="utf-8")
+        asked = len(server.heard)
+        again = command(*words, "one=depth:1", "other=depth:2")
+        assert again.returncode == 0 and again.stdout.splitlines()[-5:] == whole.stdout.splitlines()[-5:] and len(games.read_text(encoding="utf-8").splitlines()) == 6
+        asked, before = len(server.heard), asked
+        assert asked > before
+        assert command(*words, "one=depth:1", "other=depth:2").returncode == 0 and len(server.heard) < asked + 10  # nothing but whether the server is there
+        assert "games of another match" in command(*words, "two=depth:1", "other=depth:2").stderr
+
+
+def table_of(*pairs: tuple[int, int]) -> Table:
+    """A table of the first one's discs in pairs of games."""
+    table = Table("one", "other")
+    for first, second in pairs:
+        table.add("X", Outcome(formats.Game(), first))
+        table.add("O", Outcome(formats.Game(), -second))
+    return table
+
+
+def test_errors_and_a_sequential_test() -> None:
+    """The error isn't 0 where each pair was shared, or one was played; the test counts pairs, and ends as its bounds say."""
+    shared = table_of(*[(10, -10)] * 16)
+    assert shared.score() == (0.5, pytest.approx(math.sqrt(0.125) / 16)) and "(" in shared.lines()[-1]
+    assert table_of((2, 2)).score() == (1.0, pytest.approx(math.sqrt(0.125))) and "more than +105" in table_of((2, 2)).lines()[-1]
+    sprt = Sprt.of("elo0=0,elo1=20")
+    assert sprt == Sprt() and sprt.bounds == (pytest.approx(-2.944, abs=1e-3), pytest.approx(2.944, abs=1e-3))
+    assert not sprt.is_over(Table("one", "other")) and "undecided" in sprt.verdict(table_of((2, 2)))
+    won, lost = table_of(*[(8, 8), (8, -8)] * 30), table_of(*[(-8, -8), (8, -8)] * 30)
+    assert won.score()[0] == 0.75 and "elo1=20 is accepted" in sprt.verdict(won) and "elo0=0 is accepted" in sprt.verdict(lost)
+    low, high = 1 / (1 + 1), 1 / (1 + 10 ** (-20 / 400))
+    assert won.llr(sprt) == pytest.approx((high - low) * (1.5 - low - high) / (2 * (60 * 0.0625 + 0.125) / 3600))
+    for text in ("elo2=5", "elo0=5,elo1=5", "alpha=0", "beta=0.7", "x"):
+        with pytest.raises(ValueError):
+            Sprt.of(text)
+
+    class First(Player):
+        def move(self, board: Board) -> str:
+            return board.legal[0]
+
+    played = {at: list(outcomes) for at, outcomes in enumerate(zip(*[iter([Outcome(formats.Game(), 8), Outcome(formats.Game(), -8)])] * 2))}
+    said: list[str] = []
+    table, outcomes = match(lambda: contextlib.nullcontext((First("one"), First("other"))), [Board().push("f5")] * 90, said.append, 1, played={at: played[0] for at in range(90)}, sprt=sprt)
+    assert len(outcomes) < 180 and "is accepted" in said[-1] and table.llr(sprt) > 2.94
 
 
 def test_openings_of_the_files_that_people_have(tmp_path: pathlib.Path) -> None:
