@@ -4,7 +4,8 @@ import { Changes, FIELDS, read, startOf, written } from "./address.js";
 import { turnText } from "./board.js";
 import { $, say } from "./dom.js";
 import { Unread } from "./formats/unread.js";
-import { START, isOver, sideOf } from "./rules.js";
+import { START, isOver, other, sideOf } from "./rules.js";
+import { nameOf } from "./scores.js";
 import { DEPTH, keepOptions, newState } from "./state.js";
 import { t } from "./texts.js";
 import { Tree, treeOf } from "./tree.js";
@@ -160,7 +161,7 @@ export class App {
   /** Where one is, in words. */
   where() {
     const { current } = this.tree;
-    const place = current.parent ? t("said.move", { ply: current.ply, side: t(current.side === "X" ? "black" : "white"), move: current.move }) : t("said.start");
-    return [place, ...(current.passed ? [t("said.passed", { side: t(sideOf(current.position) === "X" ? "white" : "black") })] : []), turnText(current.position)].join(" ");
+    const { ply, side, move } = current, place = current.parent ? t("said.move", { ply, side: nameOf(side), move }) : t("said.start");
+    return [place, ...(current.passed ? [t("said.passed", { side: nameOf(other(sideOf(current.position))) })] : []), turnText(current.position)].join(" ");
   }
 }

@@ -2,7 +2,7 @@
 
 import { made, put, shape } from "./dom.js";
 import { SQUARES, count, isOver, legal, sideOf } from "./rules.js";
-import { brief, lossOf, lossWords, tintOf, words } from "./scores.js";
+import { brief, lossOf, lossWords, nameOf, tintOf, words } from "./scores.js";
 import { t } from "./texts.js";
 
 const STEPS = { ArrowLeft: [-1, 0], ArrowRight: [1, 0], ArrowUp: [0, -1], ArrowDown: [0, 1] };
@@ -115,7 +115,7 @@ export class Board {
     const { name, cell, score, text } = square, parts = [], label = [name];
     if (cell !== "-") {
       parts.push(made("span", { class: `disc ${cell === "X" ? "black" : "white"}`, "aria-hidden": "true" }, square.last ? made("span", { class: "last" }) : ""));
-      label.push(t(cell === "X" ? "black" : "white"));
+      label.push(nameOf(cell));
       if (square.last) label.push(t("square.last"));
     } else if (square.legal) {
       label.push(t("square.legal"));

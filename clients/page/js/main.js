@@ -199,7 +199,6 @@ async function begin() {
   classroom = new Classroom(app, files);
   controls = new Controls(app, { board, strip, quiz, local, analyst });
   tabs = new Tabs($("tabs"), (name) => {
-    app.state.tab = name;
     if (!app.views.length) return;
     app.show();
     if (name === "moves") moves.reveal();

@@ -4,7 +4,7 @@
 
 import { made, put, reveal, say } from "./dom.js";
 import { judged } from "./judge.js";
-import { brief, lossWords, words } from "./scores.js";
+import { brief, lossWords, nameOf, words } from "./scores.js";
 import { t } from "./texts.js";
 
 export const MARKS = { doubtful: "?!", weak: "?", grave: "??" };
@@ -106,7 +106,7 @@ export class Moves {
   }
 
   newCell(node) {
-    const cell = { value: made("span", { class: "value" }), mark: made("span", { class: "mark" }), name: nameOf(node), sign: null };
+    const cell = { value: made("span", { class: "value" }), mark: made("span", { class: "mark" }), name: moveName(node), sign: null };
     cell.button = made("button", { type: "button", class: "move", tabindex: -1, onclick: () => this.chosen(node) }, made("span", { class: "what" }, node.move), cell.mark, cell.value);
     this.cells.set(node, cell);
     return cell;
@@ -136,7 +136,7 @@ export class Moves {
   }
 
   small(node) {
-    const button = made("button", { type: "button", class: "move small", tabindex: -1, "aria-label": nameOf(node), onclick: () => this.chosen(node) }, `${node.move}${node.glyph}`);
+    const button = made("button", { type: "button", class: "move small", tabindex: -1, "aria-label": moveName(node), onclick: () => this.chosen(node) }, `${node.move}${node.glyph}`);
     this.smalls.set(node, button);
     return button;
   }
@@ -148,4 +148,4 @@ export const isPass = ({ X, O }) => (O ?? { parent: X }).parent.passed;
 /** What a variation looks like. */
 const signOf = (node) => `${node.move}${node.glyph}(${node.children.map(signOf).join(",")})`;
 
-const nameOf = (node) => [`${node.ply}. ${t(node.side === "X" ? "black" : "white")} ${node.move}`, ...(node.passed ? [t("passed")] : [])].join(", ");
+const moveName = (node) => [`${node.ply}. ${nameOf(node.side)} ${node.move}`, ...(node.passed ? [t("passed")] : [])].join(", ");

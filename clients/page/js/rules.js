@@ -23,16 +23,19 @@ export const turned = (position) => position.slice(0, 65) + other(sideOf(positio
 
 /** A position as two words of 64 bits: the discs of the player who moves, and the opponent's; bit 0 is a1. */
 export function wordsOf(position) {
-  const side = sideOf(position);
-  let own = 0n, opp = 0n;
-  for (let at = 63; at >= 0; at -= 1) {
-    own = (own << 1n) | (position[at] === side ? 1n : 0n);
-    opp = (opp << 1n) | (position[at] !== side && position[at] !== "-" ? 1n : 0n);
+  const side = sideOf(position), halves = [0, 0, 0, 0]; // of the player's word, low and high, and of the opponent's
+  for (let at = 0; at < 64; at += 1) {
+    if (position[at] !== "-") halves[(position[at] === side ? 0 : 2) + (at >> 5)] |= 1 << (at & 31);
   }
-  return [own, opp];
+  const [own, ownHigh, opp, oppHigh] = halves.map((half) => BigInt(half >>> 0));
+  return [own | (ownHigh << 32n), opp | (oppHigh << 32n)];
 }
 
-const isIn = (word, at) => ((word >> BigInt(at)) & 1n) === 1n;
+/** Whether each square is in a word. */
+function within(word) {
+  const halves = [Number(word & 0xffffffffn), Number(word >> 32n)];
+  return (at) => ((halves[at >> 5] >>> (at & 31)) & 1) === 1;
+}
 
 /** The discs that the player who moves would flip by a disc on this square. */
 function flips(position, at) {
@@ -52,8 +55,8 @@ function flips(position, at) {
 export function legal(position) {
   const there = kept.get(position);
   if (there) return there;
-  const word = engine?.legal(...wordsOf(position));
-  const found = SQUARES.map((_, at) => at).filter((at) => (engine ? isIn(word, at) : flips(position, at).length > 0));
+  const isLegal = engine ? within(engine.legal(...wordsOf(position))) : (at) => flips(position, at).length > 0;
+  const found = SQUARES.map((_, at) => at).filter(isLegal);
   if (kept.size >= MOST_KEPT) kept = new Map();
   kept.set(position, found);
   return found;
@@ -72,8 +75,8 @@ export function after(position, at) {
   if (!legal(position).includes(at)) return null;
   const side = sideOf(position), cells = [...position.slice(0, 64)];
   if (engine) {
-    const [own] = engine.after(...wordsOf(position), at); // seen by the other player
-    cells.forEach((cell, square) => cell !== "-" && (cells[square] = isIn(own, square) ? other(side) : side));
+    const isOwn = within(engine.after(...wordsOf(position), at)[0]); // seen by the other player
+    cells.forEach((cell, square) => cell !== "-" && (cells[square] = isOwn(square) ? other(side) : side));
     cells[at] = side;
   } else for (const square of [at, ...flips(position, at)]) cells[square] = side;
   return `${cells.join("")} ${other(side)}`;

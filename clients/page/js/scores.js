@@ -48,7 +48,7 @@ export const tournament = ({ discs, empty = 0 }) => discs + Math.sign(discs) * e
 /** Discs, as the side sees them that has more. */
 const won = (score) => (score.discs < 0 ? flipped(score) : score);
 
-export const nameOf = (side) => t(side === "X" ? "side.black" : "side.white");
+export const nameOf = (side) => t(side === "X" ? "black" : "white");
 
 /** In words: `White by 10 discs`, `draw`, `at most -4 points for Black`. */
 export function words(score) {

@@ -28,7 +28,7 @@ export function newState() {
   return {
     tree: new Tree(), info: {}, faults: [], found: [],
     options: { ...OPTIONS, ...Object.fromEntries(own.map((name) => [name, there[name]])) },
-    tab: "moves", setting: false, stopped: false, hint: "",
+    setting: false, stopped: false, hint: "",
     mistake: null, // a move of the game, where its better ones are looked at
     match: null, // a game against the program: {side, level, fault}
     quiz: null, // {questions, at, right, answered, open, said}

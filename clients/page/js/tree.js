@@ -193,7 +193,7 @@ function* words(text) {
 
 /**
  * The tree of a text of moves from a start. What can't be played is told, never passed over in silence: `faults` has for each what is
- * wrong (illegal, pass, word or bracket), the word, its place in the text from 0, and the number of the move; what stands behind it in
+ * wrong (illegal, pass, move for what is none, or bracket), the word, its place in the text from 0, and the number of the move; what stands behind it in
  * its line isn't read. What stands before it is there.
  */
 export function treeOf(text, start = START) {
@@ -221,7 +221,7 @@ export function treeOf(text, start = START) {
       } else fault("illegal", word, place);
     } else if (PASSES.has(word)) {
       if (!node.passed && !isOver(node.position)) fault("pass", word, place);
-    } else if (!move) fault("word", word, place);
+    } else if (!move) fault("move", word, place);
   }
   if (stack.length) faults.push({ kind: "bracket", word: "(", place: text.length, number: node.ply + 1 });
   tree.goTo(0);

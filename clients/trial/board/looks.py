@@ -216,7 +216,7 @@ def try_print(name, address):
         shown.evaluate("window.dispatchEvent(new Event('beforeprint'))")
         shown.scheme("light", "print")
         told = shown.evaluate("[document.getElementById('sheet').innerText, document.querySelectorAll('#sheet svg').length, [...document.querySelectorAll('button, input, main')].filter((one) => one.checkVisibility()).length]")
-        check(told[1:] == [2, 0] and "Anna – Bo, 2026-11-27" in told[0] and "11. g4" in told[0] and "points" in told[0], f"the sheet: {told}")
+        check(told[1:] == [2, 0] and "Anna – Bo, 2026-11-27" in told[0] and "11. g4" in told[0] and "an opinion" in told[0], f"the sheet: {told}")
     print("board: the sheet for print")
 
 

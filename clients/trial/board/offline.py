@@ -3,6 +3,7 @@ import shutil
 import subprocess
 
 from browsers import opened
+from player import brief
 from stand import GAME, NAMES, PAGE, SCORES, TEXT, TOP, check, chosen, faults_of, files, free_port, play, random_moves, settled, until, whole_game, worths
 
 # Whether each script and style that the page has asked for is kept.
@@ -10,14 +11,6 @@ KEPT = """(caches.open('board').then(async (kept) => {
     const there = new Set((await kept.keys()).map((one) => one.url));
     window.left = performance.getEntriesByType('resource').filter(({ name }) => /[.](js|css)$/.test(name) && !there.has(name)).length + (there.size < 2);
   }), window.left === 0)"""
-
-
-def brief(value, ends):
-    """A value as a square shows it."""
-    if ends or abs(value) > 1184:
-        discs = int(value / 2000)
-        return "D" if not discs else f"{'W' if discs > 0 else 'L'}{abs(discs)}"
-    return f"{value:+d}" if value else "0"
 
 
 def try_file(name, folder):
@@ -31,7 +24,7 @@ def try_file(name, folder):
             shown.check("#game", False)
             shown.known()
             depth = position.empties if position.empties <= 12 else depth
-            wanted = {move: brief(value, depth >= position.empties) for move, value in worths(position, depth).items() if move != "pass"}
+            wanted = {move: brief("en", position.side, value, depth >= position.empties) for move, value in worths(position, depth).items() if move != "pass"}
             check(shown.evaluate(SCORES) == wanted, f"{name}: values from a disk: {shown.evaluate(SCORES)}, not {wanted}")
         asked = shown.evaluate("performance.getEntriesByType('resource').map((one) => one.name).filter((one) => !one.startsWith('blob:'))")
         check(asked == [] and not shown.faults(), f"{name}: the page from a disk asks {asked}")

@@ -12,7 +12,7 @@ WIPED_OUT = "e6f4e3f6g5d6e7f5c5"  # black has all discs, and 51 squares are empt
 FOCUSED = "document.activeElement?.dataset.square"
 CURVE = """(() => { const of = (selector, name) => [...document.querySelectorAll(`#graph ${selector}`)].map((one) => one.getAttribute(name)), numbers = (path) => [...(path ?? "").matchAll(/[ML]([\\d.]+) ([\\d.-]+)/g)].map(([, x, y]) => [Number(x), Number(y)]);
   return { points: numbers(of(".curve:not(.end)", "d")[0]), discs: numbers(of(".curve.end", "d")[0]), border: of(".border", "x1").map(Number), zero: of(".zero", "y1").map(Number), rows: of(".grid", "y1").map(Number),
-    texts: [...document.querySelectorAll("#graph text")].map((one) => one.textContent), marks: [of(".grave", "cx").length, of(".weak", "cx").length] } })()"""
+    texts: [...document.querySelectorAll("#graph text")].map((one) => one.textContent) } })()"""
 
 
 def try_moves(shown, address):
@@ -65,12 +65,12 @@ def try_seen(shown, address):
     found = shown.evaluate("['.square.best .star', '.disc .last', '.square .next'].map((one) => document.querySelectorAll(one).length)")
     check(found == [1, 1, 1] and shown.says("#value-note", "note.points", n=6) and shown.says("#line", "line.best"), f"{shown.name}: what is marked: {found}, {shown.text('#value-note')}")
     told = shown.evaluate("[...document.querySelectorAll('.square .score')].map((one) => [Number(one.textContent), Number(/tint(\\d)/.exec(one.parentElement.className)[1]), one.parentElement.matches('.best')])")
-    told.sort()  # white moves, and values are black's
+    told.sort(reverse=True)  # values are the mover's
     tints = [tint for _, tint, _ in told]
     check(told[0][2] and tints == sorted(tints) and tints[0] == 0 < tints[-1], f"{shown.name}: values and tints: {told}")
     best = told[0][0]
     share = shown.evaluate("Number(getComputedStyle(document.getElementById('bar')).getPropertyValue('--share'))")
-    check((share > 0.5) == (best > 0) and shown.says(shown.evaluate("document.getElementById('bar').getAttribute('aria-label')"), "bar.known"), f"{shown.name}: the bar: {share} of {best}")
+    check((share < 0.5) == (best > 0) and shown.says(shown.evaluate("document.getElementById('bar').getAttribute('aria-label')"), "bar.known"), f"{shown.name}: the bar: {share} of {best}")
     shown.tab("options")
     for option, part in (("values", ".square .score"), ("tints", "[class*=tint]"), ("line", ".marks .knob"), ("bar", "#bar:not([hidden])")):
         shown.check(f"#show-{option}", False)
@@ -101,28 +101,24 @@ def try_ends(shown, address):
 
 
 def try_graph(shown, address):
-    """Points and discs have scales of their own, a line stands where discs begin, and each mark is there once."""
+    """Points and discs have scales of their own, and a line stands where discs begin."""
     shown.open(f"{address}#moves={whole_game(6)}&at=52&depth=4")
     shown.known()
     shown.until("the graph", "document.querySelectorAll('#graph .curve.end').length === 1 && document.querySelector('#graph .curve.end').getAttribute('d').length > 99")
     found, end = shown.evaluate(CURVE), random_moves(6, 70)[-1][1]
     (middle,), rows, heights = found["zero"], sorted(set(found["rows"])), [y for _, y in found["points"] + found["discs"]]
-    check(len(rows) == 2 and rows[0] - 0.1 <= min(heights) and max(heights) <= rows[1] + 0.1, f"{shown.name}: a value leaves the graph: {rows} {heights}")
-    by = [int(text.split()[-1]) for text in found["texts"] if re.fullmatch(said(shown.language, "graph.by"), text)]
-    check(len(by) == 2 and by[0] == by[1] and not [text for text in found["texts"] if re.fullmatch(r"[WLSN]\d+", text)], f"{shown.name}: the graph's scales: {found['texts']}")
+    check(len(rows) == 6 and rows[0] - 0.1 <= min(heights) and max(heights) <= rows[-1] + 0.1, f"{shown.name}: a value leaves the graph: {rows} {heights}")
+    by = [int(text[2:]) for text in found["texts"] if re.fullmatch(r"\S\+\d+", text)]
+    check(len(by) == 2 and by[0] == by[1], f"{shown.name}: the graph's scales: {found['texts']}")
     discs = (middle - found["discs"][-1][1]) / (middle - rows[0]) * by[0]
     check(abs(discs - end.discs("X") + end.discs("O")) < 0.5, f"{shown.name}: the game ends with {discs} discs on the graph's scale of {by[0]}")
     check(len(found["points"]) + len(found["discs"]) == 61 and found["points"][-1][0] < found["border"][0] < found["discs"][0][0], f"{shown.name}: where discs begin: {found['border']}")
-    shown.tab("mistakes")
-    signs = shown.evaluate("[...document.querySelectorAll('.mistake .mark')].map((one) => one.textContent)")
-    check(signs and found["marks"] == [signs.count("??"), signs.count("?")], f"{shown.name}: marks {found['marks']} of {signs}")
-    shown.tab("moves")
 
 
 def try_help(shown, address):
     """Where nothing is there yet it is said, once, what to do; the legend opens when it is asked for."""
     shown.open(f"{address}#depth=2")
-    for tab, place, name in (("moves", "#moves-panel", "moves.none"), ("mistakes", "#mistakes-panel", "mistakes.none"), ("class", "#class-panel", "class.none")):
+    for tab, place, name in (("moves", "#moves-panel", "moves.none"), ("mistakes", "#mistakes", "mistakes.none"), ("class", "#class-panel", "class.none")):
         shown.tab(tab)
         shown.until(f"what {tab} says", f"document.querySelector('{place}').innerText.trim()")
         text = shown.evaluate(f"document.querySelector('{place}').innerText.trim()")
@@ -131,7 +127,7 @@ def try_help(shown, address):
     check(not shown.evaluate("document.getElementById('legend').open"), f"{shown.name}: the legend is open")
     shown.click("#help")
     names = shown.evaluate("[...document.querySelectorAll('#legend[open] dt')].map((one) => one.textContent)")
-    check(len(names) == 7 and "≤+10" in names[0] and shown.evaluate("document.querySelectorAll('#legend dd:not(:empty)').length") == 7, f"{shown.name}: the legend: {names}")
+    check(len(names) == 8 and "≤+10" in names[0] and shown.evaluate("document.querySelectorAll('#legend dd:not(:empty)').length") == 8, f"{shown.name}: the legend: {names}")
     shown.press(KEY["Escape"])
     shown.until("the legend is closed", "!document.getElementById('legend').open")
 
@@ -147,7 +143,7 @@ def try_keys(shown, address):
     check(shown.says(shown.evaluate(f"{NAMES}.c4"), "square.legal"), f"{shown.name}: a square says {shown.evaluate(NAMES)['c4']}")
     shown.press(KEY["Enter"])
     check(shown.evaluate(TEXT) == "c4" and shown.says("#live", "said.move", ply=1, move="c4") and shown.evaluate(FOCUSED) == "c4", f"{shown.name}: Enter on c4: {shown.text('#live')}")
-    until("its value is said", lambda: shown.says("#live-value", "said.value", depth=2))
+    until("its value is said", lambda: shown.says("#live-value", "said.value", n=2))
     shown.press(KEY["PageUp"])
     check(shown.evaluate(HERE) == "" and shown.says("#live", "said.start"), f"{shown.name}: Page Up: {shown.text('#live')}")
     shown.press(KEY["PageDown"])
@@ -166,18 +162,19 @@ def try_mistake(shown, address):
     shown.open(f"{address}#moves={whole}&depth=4")
     shown.known()
     shown.tab("mistakes")
-    row = shown.evaluate(f"{ROWS}.find((row) => row.startsWith('??'))")
+    at = shown.evaluate(f"{ROWS}.findIndex((row) => row.startsWith('??'))")
+    row, pick = shown.evaluate(f"{ROWS}[{at}]"), f"document.querySelectorAll('.mistake')[{at}].click()"
     ply, move = int(re.search(r"(\d+)\. ", row)[1]), re.search(r"[a-h][1-8]", row)[0]
     best = re.findall(r"[a-h][1-8]", row)[1]
-    shown.evaluate("document.querySelector('.mistake').click()")
+    shown.evaluate(pick)
     check(shown.evaluate(TEXT) == whole and shown.evaluate(HERE) == whole[2 * ply - 4:2 * ply - 2], f"{shown.name}: the mistake {move} opens {shown.evaluate(HERE)}")
     check(shown.says(shown.evaluate(LABEL.format(move)), "square.mistake") and shown.says(shown.evaluate(LABEL.format(best)), "square.best"), f"{shown.name}: the board doesn't show {move} and {best}")
     check(shown.evaluate("document.querySelectorAll('.square.slip').length") == 1 and move in shown.text("#strip-text") and best in shown.text("#strip-text"), f"{shown.name}: what is said of it: {shown.text('#strip-text')}")
     shown.evaluate("document.activeElement?.blur()")
     shown.press("n")
-    other = shown.evaluate(f"{ROWS}[1]")
+    other = shown.evaluate(f"{ROWS}[{at + 1}]")
     check(re.search(r"[a-h][1-8]", other)[0] in shown.text("#strip-text"), f"{shown.name}: N opens {shown.text('#strip-text')}, not {other}")
-    shown.evaluate("document.querySelector('.mistake').click()")
+    shown.evaluate(pick)
     shown.press("t")
     check(f"({best})" in shown.evaluate(TEXT) and shown.evaluate("document.querySelector('.square .last')?.closest('.square').dataset.square") == best, f"{shown.name}: T tries {shown.evaluate(TEXT)}")
     shown.press(KEY["Escape"])
@@ -244,31 +241,26 @@ def try_saved(shown, address):
 
 
 def try_sign(shown, address):
-    """Squares, list, graph and mistakes have one side's sign, that is chosen and kept: Black's, or the mover's."""
-    whole = whole_game(6)
-    shown.open(f"{address}#moves={whole}&at=41&depth=4")
-    shown.known()
-    told, parts = {}, """({ squares: Object.fromEntries([...document.querySelectorAll('.score')].map((one) => [one.closest('.square').dataset.square, one.textContent])),
-      list: [...document.querySelectorAll('.pair .move')].map((one) => one.querySelector('.value').textContent) })"""
-    for view in ("mover", "black"):
+    """Points of squares and lists are the mover's, or Black's where that is chosen, and that is kept; discs and the graph stay what they are."""
+    whole, told = whole_game(6), {}
+    for sign in ("mover", "black"):
+        shown.open(f"{address}#moves={whole}&at=41&depth=4")
         shown.tab("options")
-        shown.fill("#view", view)
+        shown.fill("#sign", sign)
+        shown.known()
         shown.tab("mistakes")
-        row = shown.evaluate(f"{ROWS}.find((row) => !row.startsWith('?') && /(41|43|45)?\\. /.test(row))")
-        told[view] = {**shown.evaluate(parts), "row": row, "curves": shown.evaluate("document.querySelectorAll('#graph .curve').length"), "help": shown.text("#mistakes")}
-        check(said(shown.language, f"sign.{view}") and shown.says(told[view]["help"], f"sign.{view}"), f"{shown.name}: whose sign isn't said")
-    turned = {"+": "-", "-": "+"}
-    turn = {"W": "L", "L": "W", "S": "N", "N": "S"} if shown.language != "ja" else {}
-    opposite = {square: turned.get(text[0], turn.get(text[0], text[0])) + text[1:] if text not in ("0", "D", "U") else text for square, text in told["mover"]["squares"].items()}
-    check(told["mover"]["squares"] and told["black"]["squares"] == opposite, f"{shown.name}: with White to move the squares are {told['black']['squares']}, and the mover's {told['mover']['squares']}")
-    same = [one == other for one, other in zip(told["mover"]["list"][::2], told["black"]["list"][::2])]
-    check(all(same[:20]) and any(one != other for one, other in zip(told["mover"]["list"][1::2], told["black"]["list"][1::2])), f"{shown.name}: the list's signs: {told['mover']['list'][:8]} {told['black']['list'][:8]}")
-    check(told["mover"]["curves"] == 2 * told["black"]["curves"], f"{shown.name}: the graph's curves: {told['mover']['curves']} {told['black']['curves']}")
-    shown.tab("options")
-    shown.fill("#view", "mover")
+        told[sign] = {"squares": shown.evaluate(SCORES), "list": shown.evaluate("[...document.querySelectorAll('.pair .move .value')].map((one) => one.textContent)"), "graph": shown.evaluate(CURVE)["points"], "address": shown.evaluate("location.hash")}
+        check(shown.says("#mistakes", f"sign.{sign}"), f"{shown.name}: whose points these are isn't said")
+    turned = {move: text if text == "0" else {"+": "-", "-": "+"}[text[0]] + text[1:] for move, text in told["mover"]["squares"].items()}
+    check(told["black"]["squares"] == turned and turned, f"{shown.name}: with White to move the squares are {told['black']['squares']}, and the mover's {told['mover']['squares']}")
+    pairs = list(zip(told["mover"]["list"], told["black"]["list"]))
+    check(all(one == other for one, other in pairs[::2]) and any(one != other for one, other in pairs[1:40:2]) and all(one == other for one, other in pairs[48:]), f"{shown.name}: the list's signs: {pairs}")
+    check(told["mover"]["graph"] == told["black"]["graph"] and "view=black" in told["black"]["address"] and "view" not in told["mover"]["address"], f"{shown.name}: the graph, or the address: {told['black']['address']}")
     shown.open(f"{address}#depth=2")
-    check(shown.evaluate("document.getElementById('view').value") == "mover", f"{shown.name}: the sign isn't kept")
-    shown.fill("#view", "black")
+    check(shown.evaluate("document.getElementById('sign').value") == "black", f"{shown.name}: the sign isn't kept")
+    shown.tab("options")
+    shown.fill("#sign", "mover")
+    shown.tab("moves")
 
 
 def try_states(shown, address):
@@ -432,17 +424,13 @@ def try_quiz(shown, address):
     """Mistakes become questions: values are hidden until there is an answer."""
     shown.open(f"{address}#moves={whole_game(6)}&depth=4")
     shown.known()
-    shown.tab("mistakes")
-    rows = shown.evaluate("[...document.querySelectorAll('.mistake')].map((one) => one.dataset.sign)")
-    marks = [row.split()[0] for row in rows if row.startswith("?")]
-    check(len(marks) > 3 and marks == sorted(marks, key=len, reverse=True), f"{shown.name}: the order of mistakes: {marks}")
-    points = [row for row in rows if shown.says(row, "mistakes.row.points")]
-    check(points and rows[-len(points):] == points, f"{shown.name}: points stand among discs")
     shown.tab("play")
     shown.click("#quiz-begin")
     check(shown.evaluate(SCORES) == {} and shown.says("#quiz-told", "quiz.ask", n=1), f"{shown.name}: a question: {shown.text('#quiz-told')}")
     discs = shown.evaluate("document.querySelectorAll('.disc').length")
-    shown.click(".square.legal")
+    for square in shown.evaluate("[...document.querySelectorAll('.square.legal')].map((one) => one.dataset.square)")[:2]:
+        if shown.says("#quiz-told", "quiz.ask") or shown.says("#quiz-told", "quiz.again"):
+            shown.click(f'[data-square="{square}"]')
     check(shown.evaluate("document.querySelectorAll('.disc').length") == discs and shown.evaluate(f"Object.keys({SCORES}).length"), f"{shown.name}: an answer")
     check(shown.says("#quiz-told", "quiz.score", n=1), f"{shown.name}: {shown.text('#quiz-told')}")
     shown.click("#quiz-next")

@@ -206,7 +206,7 @@ def ended(position, depth):
 
 def sentence(language, discs):
     """A result as black sees it, in the page's words."""
-    n, side = abs(discs), TEXTS[language]["side.black" if discs > 0 else "side.white"]
+    n, side = abs(discs), TEXTS[language]["black" if discs > 0 else "white"]
     amount = TEXTS[language]["unit.discs"].get("one" if n == 1 else "other", TEXTS[language]["unit.discs"]["other"]).replace("{n}", str(n))
     return TEXTS[language]["value.wins"].replace("{side}", side).replace("{n}", amount) if n else TEXTS[language]["value.draw"]
 
