@@ -1,5 +1,5 @@
 #!/usr/bin/env python3
-"""Shows that the tests of JavaScript and Java tell wrong bodies of their clients: each is put into a copy, and the tests of its language must fail there.
+"""Shows that the tests of JavaScript, Java and the page tell wrong bodies of them: each is put into a copy, and the tests of its language must fail there.
 
 usage: clients/wrong_bodies.py [--list] [--jobs 2] [WORD..]      (numbers, languages, or words of what is wrong; all where none is named; so many at once)
 
@@ -15,8 +15,8 @@ import sys
 import tempfile
 
 HERE = pathlib.Path(__file__).resolve().parent
-SOURCES = {"javascript": "javascript/src/{}.mjs", "java": "java/src/main/java/coluwen/{}.java"}
-TESTS = {"javascript": ["node", "--test", *(f"test/{name}.test.mjs" for name in ("behaviour", "client", "conformance", "core"))]}
+SOURCES = {"javascript": "javascript/src/{}.mjs", "java": "java/src/main/java/coluwen/{}.java", "page": "page/js/{}.js"}
+TESTS = {"javascript": ["node", "--test", *(f"test/{name}.test.mjs" for name in ("behaviour", "client", "conformance", "core"))], "page": ["node", "--test", "test.mjs"]}
 MOST = 900  # seconds that tests may take
 # What is wrong, and in each language the file, what stands in it once, and what comes in its place.
 BODIES = (
@@ -79,6 +79,18 @@ BODIES = (
     ("a full server isn't told", ("core", '[this.#wasTold] = [true, this.#tell("full", refusal)]', "this.#wasTold = true"), ("Core", 'hands.tell().accept("full", answer.refusal());', "")),
 )  # fmt: skip
 
+# The same of the board's page.
+PAGE = (
+    ("a square has Black's sign where nothing is chosen", ("state", 'sign: "mover", // of points', 'sign: "black", // of points')),
+    ("another's win is written as one's own", ("scores", "const won = (score) => (score.discs < 0 ? flipped(score) : score);", "const won = (score) => (score.discs < 0 ? { ...score, discs: -score.discs } : score);")),
+    ("the first turn of a game is said to have lost it", ("judge", "results.findLastIndex((result, number)", "results.findIndex((result, number)")),
+    ("the winner's fall is said to have lost the game", ("judge", "const node = fallOf(line.slice(0, first), analyst, loser);", "const node = fallOf(line.slice(0, first), analyst);")),
+    ("a variation takes a mistake's marks away", ("app", "if (mistake && tree.left !== mistake.parent)", "if (mistake && tree.current !== mistake.parent)")),
+    ("a line of any length is read", ("formats/read", "if (length > LONGEST_LINE) throw", "if (length < 0) throw")),
+    ("many games are one step", ("formats/read", "      yield found.games.length;\n", "")),
+    ("a line from a search less deep counts as the last one's", ("analyst", ".every((move) => known.lines.has(move))", ".every(() => known.line.length > 0)")),
+)
+
 
 def changed(language, name, old, new):
     """A source, and its text with a change."""
@@ -92,6 +104,7 @@ def changed(language, name, old, new):
 def wrong():
     for what, javascript, java in BODIES:
         yield from ((what, language, change) for language, change in (("javascript", javascript), ("java", java)) if change)
+    yield from ((what, "page", change) for what, change in PAGE)
 
 
 def by_java(bodies, jobs):
@@ -118,9 +131,12 @@ def tried(language, change=None):
     """How the tests of a copy end: their status, and what they say."""
     with tempfile.TemporaryDirectory() as folder:
         clients = pathlib.Path(folder, "clients")
-        for name in ("behaviour", "page", language):
+        for name in {"behaviour", "page", language}:
             shutil.copytree(HERE / name, clients / name, symlinks=True, ignore=shutil.ignore_patterns("target", "node_modules"))
-        shutil.copy(HERE / "conformance.txt", clients)
+        shutil.copytree(HERE / "python/tests/fixtures", clients / "python/tests/fixtures")
+        for name in ("conformance.txt", "spellings.txt"):
+            shutil.copy(HERE / name, clients)
+        shutil.copytree(HERE.parent / "docs", clients.parent / "docs", ignore=shutil.ignore_patterns("promises", "*.png"))
         if change:
             path, text = changed(language, *change)
             (clients / path).write_text(text)
@@ -155,17 +171,19 @@ def main():
         if not is_told:
             missed.append(number)
 
-    def one(number, change):
-        status, said = tried("javascript", change)
+    def one(language, number, change):
+        status, said = tried(language, change)
         say(number, status, ", ".join([name for name in re.findall(r"not ok \d+ - (.*)", said) if name != "behaviour rows"][:3]))
 
     bodies = {wanted: [(number, change) for number, _, language, change in chosen if language == wanted] for wanted in SOURCES}
-    if bodies["javascript"]:
-        status, said = tried("javascript")
+    for language in TESTS:
+        if not bodies[language]:
+            continue
+        status, said = tried(language)
         if status:
-            sys.exit("javascript: the tests fail where nothing is wrong:\n" + "\n".join(line for line in said.splitlines() if "not ok" in line or "rror" in line))
+            sys.exit(f"{language}: the tests fail where nothing is wrong:\n" + "\n".join(line for line in said.splitlines() if "not ok" in line or "rror" in line))
         with concurrent.futures.ThreadPoolExecutor(given.jobs) as threads:
-            list(threads.map(lambda each: one(*each), bodies["javascript"]))
+            list(threads.map(lambda each, language=language: one(language, *each), bodies[language]))
     for number, state, said in by_java(bodies["java"], given.jobs) if bodies["java"] else ():
         if state == "no program" or number == 0 and state != "passes":
             sys.exit(f"java: {f'body {number} is no program' if number else 'the tests fail where nothing is wrong'}: {said}")

@@ -217,6 +217,110 @@ test("all values have the sign that is chosen", () => {
   assert.deepEqual(told(), [["+8", "-20", "B+4"], [-20, 4]]);
 });
 
+/** A game whose last positions have these results for Black, one behind the other; the moves before lost these points, by their numbers. */
+function known(text, results, falls = {}) {
+  const found = stateOf(text), nodes = [found.state.tree.root, ...found.state.tree.main()], first = nodes.length - results.length;
+  nodes.forEach(({ position, children: [next] }, at) => {
+    const result = results[at - first], own = result === undefined ? points(0) : discs(position[65] === "X" ? result : 0 - result), move = next?.move ?? "none";
+    const played = at < first ? points(-(falls[at + 1] ?? 0)) : discs((position[65] === "X" ? 1 : -1) * (results[at - first + 1] ?? result));
+    const table = new Map(result !== undefined && next && played.discs === own.discs ? [[move, own]] : [["best", own], [move, played]]);
+    found.analyst.known.set(position, { depth: 8, best: table.keys().next().value, ends: at >= first, score: own, line: [], lines: new Map(), table });
+  });
+  return [found.state.tree, found.analyst];
+}
+
+test("where a game was lost: the last move that gave away what wasn't lost, and before anything is certain the greatest fall", () => {
+  const { tree } = treeOf(WHOLE), game = tree.main(), from = game.findIndex(({ position }) => position.slice(0, 64).split("-").length - 1 <= 12), many = game.length - from;
+  const told = (results, falls) => {
+    const [own, analyst] = known(WHOLE, results, falls), { kind, node, before, after } = verdictOf(own.root, own.main(), analyst);
+    return [kind, node?.ply, before, after];
+  };
+  const row = (...results) => [...results, ...Array(many - results.length).fill(results.at(-1))];
+  assert.deepEqual(told(row(4, -2, 6, 6, -8)), ["turn", from + 5, 6, -8]); // the last of three
+  assert.deepEqual(told(row(2, 0)), ["draw", from + 2, 2, 0]);
+  assert.deepEqual(told(row(0)), ["even", undefined, undefined, undefined]);
+  assert.deepEqual(told(row(-6, -10)), ["never", undefined, undefined, -6]);
+  const black = game.filter(({ side }) => side === "X").map(({ ply }) => ply), [one, two] = [black[3], black[8]];
+  assert.deepEqual(told(row(-6), { [one]: 60, [two]: 90, [game.find(({ side }) => side === "O").ply]: 200 }), ["before", two, undefined, -6]); // the loser's alone
+  const [short, analyst] = known("f5d6c3d3", [], { 3: 70 });
+  const open = verdictOf(short.root, short.main(), analyst);
+  assert.deepEqual([open.kind, open.node.ply], ["open", 3]);
+  analyst.known.delete(short.root.position);
+  assert.equal(verdictOf(short.root, short.main().slice(0, 2), analyst).kind, "waits");
+});
+
+test("from a variation behind a mistake the marks come back, and a step through the game leaves them", () => {
+  globalThis.document ??= { getElementById: () => ({ textContent: "" }) };
+  globalThis.location ??= { hash: "", pathname: "", search: "" };
+  globalThis.history ??= { pushState: () => {}, replaceState: () => {} };
+  const app = new App(), { state } = app;
+  state.tree = treeOf("f5d6c3d3c4").tree;
+  const node = state.tree.main()[3];
+  app.showMistake(node);
+  app.play("f4");
+  assert.deepEqual([state.tree.current.move, state.mistake], ["f4", node]);
+  app.toGame();
+  assert.deepEqual([state.tree.current, state.mistake], [node.parent, node]);
+  app.toGame(); // once more: out of the mistake
+  assert.deepEqual([state.tree.current, state.mistake], [node.parent, null]);
+  app.showMistake(node);
+  app.step(() => state.tree.forward());
+  assert.equal(state.mistake, null);
+});
+
+test("a search is done when the line is there that is as deep", async () => {
+  const asked = [], local = { engine: {}, line: (position, depth, move) => new Promise((done) => asked.push(() => done({ line: [move, "x"], end: null }))) };
+  const analyst = new Analyst(local, () => {}), { position } = treeOf("f5").tree.main()[0];
+  analyst.learn(position, { depth: 12, best: "d6", score: points(9), line: ["d6"], table: new Map([["d6", points(9)], ["f4", points(5)], ["f6", points(1)]]) });
+  analyst.wanted = [{ position, depth: 12 }];
+  assert.deepEqual([bestOf(analyst.of(position)), isLined(analyst.of(position), 1)], [["d6", "f4", "f6"], false]);
+  analyst.askLine(position);
+  asked.shift()();
+  await new Promise(setImmediate);
+  assert.deepEqual([isLined(analyst.of(position), 1), isLined(analyst.of(position), 3), analyst.of(position).line], [true, false, ["d6", "x"]]);
+});
+
+test("what is too large is refused by its size, and what stands round a game is read or named", () => {
+  for (const [text, wanted] of [["f5d6c3".repeat(2e6), /^Line 1: this line has 12000000 letters/], [`${"f5d6\n".repeat(4e6)}`, /^The text has 20\.0 million letters/]]) {
+    const begun = performance.now(), { games, faults } = textRead(text);
+    assert.ok(games.length === 0 && performance.now() - begun < 500);
+    assert.match(faults[0].text, wanted);
+  }
+  assert.ok(LONGEST_LINE < LONGEST_TEXT);
+  const steps = textReading(Array(300).fill(GAME).join("\n")); // one game a step
+  for (let number = 1; number <= 300; number += 1) assert.deepEqual(steps.next(), { value: number, done: false });
+  for (const [text, ...wanted] of [
+    ["Taro (B) vs Jiro (W)\nf5d6c3", "Taro", "Jiro"], ["Jiro (W) - Taro (B)\nf5d6c3", "Taro", "Jiro"], ["Taro vs. Jiro\n1. f5 2. d6 3. c3", "Taro", "Jiro"],
+    ["黒：太郎　白：次郎\nＦ５Ｄ６Ｃ３", "太郎", "次郎"], ["先手: 太郎\n後手: 次郎\n結果: 34-30\nf5d6c3", "太郎", "次郎", "4"], ["<p>Black: Ann</p><p>White: Bo</p><p>f5 d6 <b>c3</b></p>", "Ann", "Bo"],
+  ]) {
+    const { games: [game], faults } = textRead(text);
+    assert.deepEqual([game.black, game.white, game.result, treeOf(game.moves).tree.text(), faults.length], [wanted[0], wanted[1], wanted[2], "f5d6c3", 0], text);
+  }
+  assert.equal(treeOf(textRead("https://example.org/g?id=5&t=f5d6c3d3").games[0].moves).tree.text(), "f5d6c3d3");
+  assert.match(textRead("https://example.org/game/12345").faults[0].text, /^This is a link to example\.org without moves/);
+  assert.match(textRead("<html><body>Nothing</body></html>").faults[0].text, /^This is HTML, a web page, without moves/);
+});
+
+test("what is measured is what the table of docs/VALUES.md says", () => {
+  const rows = [...fs.readFileSync(new URL("../../docs/VALUES.md", import.meta.url), "utf8").matchAll(/^\| (1\d) \| (\d+) \| (\d+) of (\d+),/gm)].map((row) => row.slice(1).map(Number));
+  assert.equal(rows.length, 6 * Object.keys(STARS).length);
+  for (const [empty, plies, right, of] of rows) assert.deepEqual(starOf(empty, plies), { empty, share: Math.round((100 * right) / of) });
+  assert.deepEqual([starOf(40, 8), starOf(17, 9), starOf(13, 1)], [{ empty: 18, share: STARS[18][3] }, { empty: 16, share: STARS[16][3] }, { empty: 13, share: STARS[13][0] }]);
+  assert.ok(LOST.far > LOST.near && LOST.near > LOST.star);
+});
+
+test("points have three steps, each a third of the height", () => {
+  const [better, much] = STEPS;
+  assert.deepEqual([0, better - 1, better, much - 1, much, -much].map((one) => stepOf(points(one))), [0, 0, 1, 1, 2, 2]);
+  assert.deepEqual([0, better, much, -better, 4000].map((one) => heightOf(points(one)).toFixed(3)), ["0.000", "0.333", "0.667", "-0.333", "1.000"]);
+});
+
+test("sentences begin with a capital", () => {
+  for (const [name, text] of Object.entries(LANGUAGES.en)) for (const one of typeof text === "object" ? Object.values(text) : [text]) {
+    if (/[.:]$/.test(one) && !name.startsWith("read.")) assert.ok(/^[^a-z]/.test(one), `${name}: ${one}`);
+  }
+});
+
 test("no pass stands behind a last move", () => {
   const passes = (text) => pairsOf(treeOf(text).tree.main()).filter((pair) => !(pair.X && pair.O)).map(isPass);
   assert.deepEqual([passes("f5"), passes("f5d6c3")], [[false], [false]]);
