@@ -11,8 +11,8 @@ usage: tools/docs/promises.py                     writes the pages
                                                   from a revision's, the words old and new, and what names were and are imported as
 
 Names are resolved: each file's definitions and each call are shown with what their names are imported as, from where; so two that
-are exchanged in an import are a difference. `pages.txt` beside this script names the promises, `words.txt` the meaning of each word
-of the toolchain's library. HOW-TO-READ.md and WHAT-IS-ASSUMED.md in docs/promises are written by hand; all else there is made.
+are exchanged in an import are a difference. `pages.txt` beside this script names the promises, `laws.txt` the laws without a page
+whose clauses are used too, `words.txt` the meaning of each word of the toolchain's library. HOW-TO-READ.md and WHAT-IS-ASSUMED.md in docs/promises are written by hand; all else there is made.
 """
 import difflib
 import functools

@@ -31,7 +31,7 @@
 //! `specs/Needs.antt`); the segments of a frame and of all under it are within its size
 //! (`specs/Sizes.antt`); and sixteen steps a node suffice, as a frame waits only for a child
 //! (`specs/Paces.antt`, `specs/Turns.antt`). [`enough`] says how much that is for a position
-//! (`specs/Enough.antt`).
+//! (`specs/Enough.antt`); for several searches that live it is the sums (`specs/Sums.antt`).
 //!
 //! Why it is so:
 //!

@@ -1,7 +1,8 @@
 //! Each law of `promises`, and of a site's crates, at work: on tenants 7 and 9, their jobs 3 and 5, worker 5, the third entry of a table,
 //! the second line, a failed write, any customer and any guest.
 //!
-//! Each function's comment says which clause it uses; the check of the documents refuses a clause of a page that none uses.
+//! Each function's comment says which clause it uses; the check of the documents refuses a clause of a page that none uses, and one of
+//! the laws that `tools/docs/laws.txt` names.
 //!
 //! Nothing else stands on `promises`, so nothing else would notice where one of its laws came to say less. Each
 //! function here calls one law and says in lower terms, without the words of `promises`, what it gives of such a
