@@ -66,6 +66,9 @@ _INNER, _ALL = 0x7E7E7E7E7E7E7E7E, (1 << 64) - 1
 _WAYS = ((1, _INNER), (7, _INNER), (8, _ALL), (9, _INNER))
 
 
+_AROUND = [sum(1 << 8 * row + column for row in range(8) for column in range(8) if 0 < max(abs(row - at // 8), abs(column - at % 8)) < 2) for at in range(64)]
+
+
 def legal_word(own: int, opp: int) -> int:
     """The squares on which the player with the discs `own` may put one, bit 0 for a1: an empty one from which a run of the opponent's ends at one of its own."""
     found = 0
@@ -114,7 +117,8 @@ def changes(discs: int, side: str, square: int | None) -> int:
     """What a move of the side on a square flips, in the bits of both colours: nothing where it isn't legal."""
     if square is None or discs >> square & EITHER:
         return 0
-    flipped = flips_word(*words_of(discs, side), 1 << square)
+    own, opp = words_of(discs, side)
+    flipped = flips_word(own, opp, 1 << square) if opp & _AROUND[square] else 0
     return flipped | flipped << 64
 
 

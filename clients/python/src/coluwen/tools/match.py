@@ -6,14 +6,15 @@ ONE and OTHER are each `depth:6` (the server of --server, so many plies), `gtp:C
 words, as 'gtp:gtp-rhino -l 2'), with `NAME=` before it if it is to have a name. FILE of --openings has games or positions of any format, transcripts a
 line for example, or a year of WTHOR's; --moves takes so many of each game's moves, and what is the same then is played once. Without it each pair of games
 begins from one of the four first moves and their replies. --games keeps the games as GGF in UTF-8, each as it ends; a match that is stopped has kept those
-that were played, and goes on behind the last pair of them with --resume. --at-once plays so many openings at the same time, each by programs of its own. After each round (an opening in both colours) the score is told.
+that were played, and goes on behind the last pair of them with --resume. --at-once plays so many openings at the same
+time, each by programs of its own. After each round (an opening in both colours) the score is told.
 
     $ coluwen-match --openings openings.txt depth:4 'gtp:gtp-rhino -l 1 -b 0'
 
 The referee keeps the rules itself: an engine that plays what isn't legal, says nothing for --seconds or ends loses that game by 64 discs,
 and is told; one that doesn't start ends the match. Passes are made by the referee, and are told to engines that take them. The score is
-wins and half the draws; its error is that of the mean of the pairs (both colours of an opening), one standard deviation, with the variance of a fair pair added to theirs: so it isn't 0 where each pair
-was shared. Elo is the difference of ratings that such a score stands for, with what the score less and more its error stand for; where one side has won all, a bound.
+wins and half the draws; its error is that of the mean of the pairs (both colours of an opening), one standard deviation, with the variance of a
+fair pair added to theirs: so it isn't 0 where each pair was shared. Elo is the difference of ratings that such a score stands for, with what the score less and more its error stand for; where one side has won all, a bound.
 
 --sprt ends the match as soon as the results decide whether ONE is stronger by elo0 or by elo1 (0 and 20), with the errors alpha and beta (0.05 each), as cutechess does; a pair
 counts as one result, with the variance of pairs: `--sprt elo0=0,elo1=20,alpha=0.05,beta=0.05`. Without a decision it ends with the openings.
