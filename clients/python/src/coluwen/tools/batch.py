@@ -22,7 +22,7 @@ has this package and the program: what a lost worker had is searched by another.
 The status is 0 where all rows are done, 3 where one isn't, 1 where the server can't be reached or was lost for too long, a file can't be read
 (with its line and column) or the rows are others, 130 after Ctrl-C.
 
---compare tells which rows of two runs have other values or moves, which stand in one alone, and how long each run's jobs took; OTHERS may
+--compare tells which rows of two runs have other values or moves (the first twenty, or with --all each), which stand in one alone, and how long each run's jobs took; OTHERS may
 be an .obf too, whose expected moves the results must be among, or another engine's CSV with a head that names `position` and `move` (and
 `value` or `discs`). The status is 0 where nothing differs but the times, and else 1.
 
@@ -50,7 +50,7 @@ from ..board import CELLS, LENGTH, Position
 from ..cluster import Cluster
 from ..errors import FAULTS, ColuwenError, FormatError, Refused, TooDeep
 from .command import LONG_OUTAGE, NO_VALUE, analyst_of, ending, parser, teller
-from .compare import Row, compare, csv_rows
+from .compare import SHOWN, Row, compare, csv_rows
 from .lines import grain_for, question_of
 from .plot import draw
 
@@ -291,6 +291,7 @@ def answer_all(asked: argparse.Namespace) -> int:
 def main(words: Sequence[str] | None = None) -> int:
     options = parser(__doc__, NAME, LONG_OUTAGE)
     options.add_argument("--compare", action="store_true", help="tell how RESULTS and OTHERS differ, and ask nothing")
+    options.add_argument("--all", action="store_true", help="with --compare: show all rows that differ, and not the first twenty alone")
     options.add_argument("--depth", type=int, default=6, help="of the positions that name none (%(default)d)")
     options.add_argument("--sessions", type=int, default=8, metavar="N", help="how many at once (%(default)d); the server has 64 at most")
     options.add_argument("--dask", metavar="ADDRESS", help="by the engines of a Dask cluster's workers, whose scheduler has this address: tcp://HOST:8786")
@@ -306,7 +307,7 @@ def main(words: Sequence[str] | None = None) -> int:
     if asked.compare:
         if len(asked.positions) != 1:
             options.error("two files are compared: RESULTS and OTHERS")
-        return 0 if compare(asked.results, asked.positions[0]) else 1
+        return 0 if compare(asked.results, asked.positions[0], None if asked.all else SHOWN) else 1
     return answer_all(asked)
 
 

@@ -117,8 +117,8 @@ def differ(one: Row, other: Row) -> bool:
     return are_ends or bool(one.depth and other.depth)
 
 
-def compare(one: str, other: str) -> bool:
-    """Tells how two runs differ. Whether they don't."""
+def compare(one: str, other: str, shown: int | None = SHOWN) -> bool:
+    """Tells how two runs differ, so many rows (None: all). Whether they don't."""
     runs = [rows_of(one), rows_of(other)]
     by_depth = all(row.depth for run in runs for row in run)
     depths = [{row.depth for row in run if row.depth} for run in runs]
@@ -129,12 +129,12 @@ def compare(one: str, other: str) -> bool:
     both = [key for key in keyed[0] if key in keyed[1]]
     different = [key for key in both if differ(keyed[0][key], keyed[1][key])]
     print(f"{len(both)} positions in both, {len(different)} with another value or move")
-    for key in different[:SHOWN]:
+    for key in different[:shown]:
         rows = [run[key] for run in keyed]
         told = [" ".join([row.value, " or ".join(row.moves)]).strip() for row in rows]
         print(f"  {rows[0].depth or rows[1].depth} {key[0]}: {told[0]} and {told[1]}")
-    if len(different) > SHOWN:
-        print(f"  and {len(different) - SHOWN} more")
+    if shown is not None and len(different) > shown:
+        print(f"  and {len(different) - shown} more (--all shows them)")
     for path, found, there in ((one, keyed[0], keyed[1]), (other, keyed[1], keyed[0])):
         times = [found[key].milliseconds for key in both] or [0.0]
         taken = f"milliseconds: median {statistics.median(times):.1f}, most {max(times):.1f}, sum {sum(times):.0f}"

@@ -14,7 +14,8 @@ time, each by programs of its own. After each round (an opening in both colours)
 The referee keeps the rules itself: an engine that plays what isn't legal, says nothing for --seconds or ends loses that game by 64 discs,
 and is told; one that doesn't start ends the match. Passes are made by the referee, and are told to engines that take them. The score is
 wins and half the draws; its error is that of the mean of the pairs (both colours of an opening), one standard deviation, with the variance of a
-fair pair added to theirs: so it isn't 0 where each pair was shared. Elo is the difference of ratings that such a score stands for, with what the score less and more its error stand for; where one side has won all, a bound.
+fair pair added to theirs: so it isn't 0 where each pair was shared. Elo is the difference of ratings that such a score stands for, with what the score less and more its error
+stand for; where one side has won all, a bound.
 
 --sprt ends the match as soon as the results decide whether ONE is stronger by elo0 or by elo1 (0 and 20), with the errors alpha and beta (0.05 each), as cutechess does; a pair
 counts as one result, with the variance of pairs: `--sprt elo0=0,elo1=20,alpha=0.05,beta=0.05`. Without a decision it ends with the openings.
