@@ -27,6 +27,7 @@ def try_class(address, name):
         one.open(link)
         one.until("the teacher's game", f"{TEXT} === 'f5d6c3'")
         check("Lehrkraft" in one.text("#class-told"), "a pupil isn't told")
+        check(one.evaluate("(() => { const box = document.getElementById('pupil-name').getBoundingClientRect(); return box.width > 60 && box.top > 0 && box.bottom <= innerHeight })()"), "a pupil isn't asked for a name where the class is joined")
         teacher.until("who follows", "document.getElementById('class-count').textContent === '1 follows.'")
         one.fill("#pupil-name", "Anna <b>")
         teacher.until("the pupil's name", "document.querySelector('#class-pupils li')?.textContent === 'Anna <b> · follows'")
@@ -57,6 +58,20 @@ def try_class(address, name):
         teacher.click("#class-close")
         one.until("the end of the class", "document.getElementById('class-told').textContent.includes('zu Ende')")
         check(asked(f"{address}class/{room}")[0] == 404, "a class that has ended is there")
+
+
+def try_gone(port):
+    """A class whose server is gone says so to the teacher."""
+    with opened("chromium") as teacher, page(port) as (process, address):
+        teacher.open(f"{address}#moves=f5d6c3&at=3&depth=2")
+        teacher.tab("class")
+        teacher.until("a class can be opened", "!document.getElementById('class-open').hidden")
+        teacher.click("#class-open")
+        teacher.until("the link", "document.querySelector('#class-link a')")
+        check(teacher.says("#class-told", "class.teaching"), f"a class begins: {teacher.text('#class-told')}")
+        process.terminate()
+        until("the teacher is told", lambda: teacher.says("#class-told", "class.lost"), 30)
+    print("board: a teacher is told that the class can't be reached")
 
 
 SEARCHES = """(() => { window.searched ??= (() => { const found = { count: 0 }; const post = Worker.prototype.postMessage;
@@ -212,7 +227,7 @@ def try_behind(port, folder):
 
 def try_all(service, port, folder, name, only=""):
     with faults_of(name) as tried:
-        for trial in chosen(only, try_class, try_hidden, try_tabs, try_crowd, try_host, try_behind):
+        for trial in chosen(only, try_class, try_hidden, try_gone, try_tabs, try_crowd, try_host, try_behind):
             if trial in (try_class, try_hidden):
                 tried(trial.__name__, trial, service, name)
             elif name == "chromium" and (trial is not try_behind or shutil.which("nginx")):
