@@ -9,7 +9,7 @@ import { $, made, say } from "./dom.js";
 import { Files } from "./files.js";
 import { Graph } from "./graph.js";
 import { kept } from "./keep.js";
-import { question } from "./lines.js";
+import { pause, question } from "./lines.js";
 import { Local } from "./local.js";
 import { WINS } from "./measured.js";
 import { Mistakes } from "./mistakes.js";
@@ -206,6 +206,7 @@ async function begin() {
   app.choose = (name) => tabs.choose($(`tab-${name}`));
   offer([]);
   listen();
+  await pause(0); // a task of its own shows the game
   app.views = [show];
   app.state.lesson.hidden = /[#&?]follow=/.test(location.href); // until the class says what it shows
   const { follow } = app.open(location);

@@ -69,12 +69,14 @@ def firefox(folder, language, scheme):
     return process, webdriver.Remote(command_executor=Marionette(port), options=webdriver.FirefoxOptions(), file_detector=UselessFileDetector())
 
 
-def chromium(language):
+def chromium(language, traced=False):
     options = webdriver.ChromeOptions()
     options.binary_location = shutil.which("chromium")
     for word in ("--headless=new", "--no-sandbox", "--disable-gpu", "--hide-scrollbars", f"--lang={language}", f"--accept-lang={language}", "--force-device-scale-factor=1", "--disable-dev-shm-usage"):
         options.add_argument(word)
-    options.set_capability("goog:loggingPrefs", {"browser": "ALL"})
+    options.set_capability("goog:loggingPrefs", {"browser": "ALL"} | ({"performance": "ALL"} if traced else {}))
+    if traced:
+        options.add_experimental_option("perfLoggingPrefs", {"enableNetwork": False, "enablePage": False, "traceCategories": "devtools.timeline,disabled-by-default-devtools.timeline"})
     return webdriver.Chrome(service=Service(shutil.which("chromedriver")), options=options)
 
 
@@ -161,6 +163,13 @@ class Shown:
         """What the browser complained of since it was asked last; Firefox tells nobody."""
         return [line["message"] for line in self.driver.get_log("browser") if line["level"] in ("SEVERE", "WARNING")] if self.name == "chromium" else []
 
+    def longest(self):
+        """How many milliseconds of a processor the longest task took of a thread that draws a page, since it was asked last; of a browser that is traced."""
+        found = [json.loads(line["message"])["message"] for line in self.driver.get_log("performance")]
+        events = [one["params"] for one in found if one["method"] == "Tracing.dataCollected"]
+        drawn = {(one["pid"], one["tid"]) for one in events if one.get("name") in ("Layout", "UpdateLayoutTree", "Paint")}
+        return max((one.get("tdur", 0) / 1000 for one in events if one.get("name") == "RunTask" and (one["pid"], one["tid"]) in drawn), default=0)
+
     def renderer(self):
         """The process that draws the page: its first thread is the one that is busy while the page is. On a busy machine it may get little in any time, so it gets work."""
         kinds = {one: pathlib.Path(f"/proc/{one}/cmdline").read_bytes() for one in below(self.root)}
@@ -200,10 +209,10 @@ def names():
 
 
 @contextlib.contextmanager
-def opened(name, language="en", scheme="light", size=(1280, 900)):
+def opened(name, language="en", scheme="light", size=(1280, 900), traced=False):
     """A browser with one page; it ends with the trial."""
     with tempfile.TemporaryDirectory(ignore_cleanup_errors=True) as folder:
-        process, driver = firefox(folder, language, scheme) if name == "firefox" else (None, chromium(language))
+        process, driver = firefox(folder, language, scheme) if name == "firefox" else (None, chromium(language, traced))
         try:
             shown = Shown(driver, name, language, process.pid if process else driver.service.process.pid)
             shown.size(*size)

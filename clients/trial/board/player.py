@@ -457,18 +457,18 @@ def try_questions(shown, address):
 
 def try_busy(name, address):
     """While a game of 60 moves is analysed no task takes more than 100 ms (of a processor, as others may have this machine's), and a value is there within a second."""
-    with opened(name) as shown:
-        if name == "chromium":
-            shown.driver.execute_cdp_cmd("Page.addScriptToEvaluateOnNewDocument", {"source": "window.long = []; new PerformanceObserver((list) => { for (const one of list.getEntries()) window.long.push(Math.round(one.duration)); }).observe({ type: 'longtask', buffered: true });"})
+    with opened(name, traced=name == "chromium") as shown:
         rounds = []
         for _ in range(4):
+            if name == "chromium":
+                shown.longest()
             shown.open(f"{address}#moves={whole_game(6)}&depth=8")
             shown.known(600)
             first = shown.evaluate("Math.round(performance.getEntriesByName('values')[0]?.startTime - (performance.getEntriesByName('first-contentful-paint')[0]?.startTime ?? 0))")
-            rounds.append((max([0, *shown.evaluate("window.long ?? []")]), first))
-        longest, first = min(one for one, _ in rounds), min(two for _, two in rounds)
+            rounds.append((round(shown.longest()) if name == "chromium" else 0, first))
+        longest, first = sorted(one for one, _ in rounds)[2], min(two for _, two in rounds)  # (of four the second longest, as a busy machine's caches are cold)
         check(longest <= 100 and first < 1000, f"{name}: the longest task {longest} ms, first values behind {first} ms: {rounds}")
-        print(f"board: {name}: a game of 60 moves: the longest task {longest} ms, first values behind {first} ms", flush=True)
+        print(f"board: {name}: a game of 60 moves: the longest task {longest} ms of a processor, first values behind {first} ms: {rounds}", flush=True)
 
 
 def try_all(address, name, only=""):
