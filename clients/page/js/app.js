@@ -153,7 +153,7 @@ export class App {
   tell(text) {
     $("live").textContent = text;
     $("live-value").textContent = "";
-    say($("toast"), text === this.where() ? "" : text);
+    say($("toast"), [this.where(), $("strip-text").textContent].includes(text) ? "" : text);
     clearTimeout(this.seen);
     this.seen = setTimeout(() => say($("toast"), ""), SEEN);
   }

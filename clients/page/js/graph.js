@@ -8,7 +8,7 @@ import { shape } from "./dom.js";
 import { STEPS, brief, heightOf, isEnd } from "./scores.js";
 import { t } from "./texts.js";
 
-const TOP = 6, BOTTOM = 18, LEFT = 92, RIGHT = 44;
+const TOP = 6, BOTTOM = 18, LEFT = 100, RIGHT = 44;
 const BANDS = STEPS.length + 1;
 const MOST_DISCS = [8, 16, 24, 32, 40, 48, 64]; // at the scale's end
 

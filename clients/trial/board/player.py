@@ -238,7 +238,8 @@ def try_opinion(shown, address):
         star, thought, label = shown.evaluate(f"[{best}.querySelector('.star').textContent, {best}.matches('.thought'), {best}.getAttribute('aria-label')]")
         if empty <= LAST:
             check(star == "★" and not thought and shown.says(label, "square.best") and not shown.says(label, "square.thought") and shown.evaluate("document.querySelectorAll('.score').length"), f"{shown.name}: a fact's star: {star} {label}")
-            check(not shown.says("#value-note", "note.points") and shown.says("#value-note", "note.full") or shown.says("#value-note", "note.end") or shown.says("#value-note", "note.empty"), f"{shown.name}: a fact: {shown.text('#value-note')}")
+            note = shown.text("#value-note")
+            check(not shown.says(note, "note.points") and any(shown.says(note, name) for name in ("note.full", "note.end", "note.empty")), f"{shown.name}: a fact: {note}")
             continue
         check(star == "☆" and thought and shown.says(label, "square.thought"), f"{shown.name}: an opinion's star: {star} {label}")
         row = min(empty, max(one for one, _ in stars))
@@ -443,6 +444,7 @@ def try_questions(shown, address):
     check(shown.says("#quiz-told", "quiz.again", move=worst) and shown.evaluate(SCORES) == {} and not shown.says("#quiz-told", "quiz.score"), f"{shown.name}: a wrong answer: {shown.text('#quiz-told')!r} {shown.evaluate(SCORES)}")
     shown.click(f'[data-square="{best}"]')
     check(shown.says("#quiz-told", "quiz.right", move=best) and shown.says("#quiz-told", "quiz.score", right=1, n=1), f"{shown.name}: a second try: {shown.text('#quiz-told')!r}")
+    check(shown.text("#toast") != shown.text("#strip-text"), f"{shown.name}: what is said twice: {shown.text('#toast')!r}")
     shown.click("#quiz-end")
     shown.open(f"{address}#moves={GAME}&at=11&depth=6")
     shown.tab("options")

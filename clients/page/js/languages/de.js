@@ -120,7 +120,7 @@ export const de = {
   "points": {"one": "{text} Punkt für {side}", "other": "{text} Punkte für {side}"},
   "bar.known": "Wert: {text}",
   "bar.none": "Wert: noch nicht bekannt",
-  "value.over": "Ergebnis: {text}",
+  "value.over": "{text}",
   "value.wins": "{side} gewinnt mit {n}",
   "value.draw": "Unentschieden",
   "unit.points": {"one": "{n} Punkt", "other": "{n} Punkte"},
