@@ -1,8 +1,10 @@
 """A core by its table of steps: each tenant has a dictionary of frames, and every count is made anew. Slow, and of no code
-of the crates.
+of the crates. After each step it looks whether a job is stuck (`Core.stuck`), which none ever is.
 
 A step is a tuple of its kind, its numbers and its frames, each frame a pair (tenant, serial).
 """
+import copy
+
 NAMES = {
     1: "NoTenant", 2: "NoFrame", 3: "NotReady", 4: "NotHere", 5: "Busy", 6: "NotRunning", 7: "NotComputing", 8: "Mismatch",
     9: "NotReturned", 10: "NoSegments", 11: "NoNodes", 12: "NoSteps", 13: "NoJobsLeft", 14: "Full", 15: "BadAct",
@@ -10,6 +12,7 @@ NAMES = {
 }
 NUMBERS = {name: number for number, name in NAMES.items()}
 LAST_TENANT = 1 << 62
+WORKERS = 4  # those of whom it is asked whether one can go on; in drawn lists all of them are busy now and then
 
 
 class Refused(Exception):
@@ -72,6 +75,7 @@ class Core:
     def __init__(self, procedure, segments, nodes):
         self.procedure, self.segments, self.nodes = procedure, segments, nodes
         self.tenants, self.newest = {}, 0
+        self.gone_on, self.all_busy = 0, 0  # how often somebody could go on; and nobody was free
 
     # what is read
 
@@ -98,10 +102,69 @@ class Core:
 
     def step(self, step):
         """Takes a step: what it did, or ('Err', number)."""
+        answer = self.answer(step)
+        if answer[0] != "Err":
+            stuck = self.stuck()
+            if stuck:
+                raise AssertionError(f"stuck after {step_text(step)}: {stuck}")
+        return answer
+
+    def answer(self, step):
         try:
             return getattr(self, "do_" + step[0])(*step[1:])
         except Refused as refused:
             return ("Err", NUMBERS[refused.name])
+
+    # no job is stuck
+
+    def would_take(self, number, step):
+        """Whether a step of this tenant would be taken. Nothing changes."""
+        tenant = self.tenants[number]
+        self.tenants[number] = copy.deepcopy(tenant)
+        answer = self.answer(step)
+        self.tenants[number] = tenant
+        return answer[0] != "Err"
+
+    def can_go_on(self, worker, name):
+        """Whether a worker can go on with a frame. One that is computed has an answer; whether that has room is the procedure's matter."""
+        frame = self.find(name)
+        kind = frame.state[0]
+        self.gone_on += 1
+        if kind == "Computing" and self.tenants[name[0]].left()[2] > 0:
+            return True
+        if kind == "Ready":
+            step = ("Take", worker, name) if frame.state[1] == worker else ("Steal", worker, frame.state[1], name)
+        else:
+            step = ({"Running": "Advance", "Returned": "Inlet" if len(frame.path) > 1 else "Finish"}.get(kind), worker, name)
+        return any(self.would_take(name[0], each) for each in (step, ("Spend", name)) if each[0])
+
+    def held(self):
+        """The frame that each busy worker holds."""
+        return {frame.state[1]: (number, serial) for number, tenant in self.tenants.items() for serial, frame in tenant.frames.items()
+                if frame.state[0] in ("Running", "Computing")}
+
+    def stuck(self):
+        """What is stuck, if anything is: a frame that waits without a child, or a job with which no worker can go on."""
+        held = self.held()
+        free = [worker for worker in range(1, WORKERS + 1) if worker not in held]
+        for number, tenant in self.tenants.items():
+            newest = {}
+            parents = {frame.path[-2] for frame in tenant.frames.values() if len(frame.path) > 1}
+            for serial, frame in tenant.frames.items():
+                newest[frame.path[0]] = max(serial, newest.get(frame.path[0], 0))
+                if frame.state == ("Waiting",) and serial not in parents:
+                    return f"{number}.{serial} waits without a child"
+            for root in [how[1] for how in tenant.jobs if how[0] == "live"][-3:]:
+                state = tenant.frames[newest[root]].state
+                if state == ("Waiting",):
+                    return f"{number}.{newest[root]}, the newest of its job, waits"
+                who = [state[1]] if state[0] in ("Running", "Computing") else free[:1]
+                self.all_busy += not who
+                names = [(worker, (number, newest[root])) for worker in who] or [(worker, held[worker]) for worker in range(1, WORKERS + 1)]
+                for worker, name in names:
+                    if not self.can_go_on(worker, name):
+                        return f"worker {worker} can't go on with {name[0]}.{name[1]}"
+        return None
 
     def is_room(self, segments, nodes, without=None):
         others = [each for number, each in self.tenants.items() if number != without]

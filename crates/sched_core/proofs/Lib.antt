@@ -10,3 +10,4 @@ pub mod Inlets
 pub mod Stepping
 pub mod Fitting
 pub mod Showing
+pub mod Apart

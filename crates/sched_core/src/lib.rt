@@ -65,6 +65,7 @@ mod decide;
 mod ends;
 mod engine;
 mod moves;
+mod onward;
 mod performing;
 mod scheduler;
 mod steps;

@@ -24,7 +24,7 @@ use tenant_quota::Left;
 /// A scheduling core: a procedure, and the tenants that are there.
 #[derive(Drop)]
 pub struct Core<P: Procedure, A: Allocator = Global> {
-    engine: Engine<P, A>,
+    pub(crate) engine: Engine<P, A>,
     // Whether all frames are known to fit (the procedure's invariant holds of them): so far the procedure said that
     // the root of each Submit fits, also of those that were refused.
     fitting: bool,

@@ -128,7 +128,7 @@ module _ (worker : ℕ) where
   busy-none [] none = refl
   busy-none (x ∷ xs) none = grind (arith, busy-none xs)
 
-  busy-holds : (es : Entries) → AreNumbersApart es → AreShaped es → is_busy_anywhere worker es ≡ true → Holds es
+  pub busy-holds : (es : Entries) → AreNumbersApart es → AreShaped es → is_busy_anywhere worker es ≡ true → Holds es
   busy-holds [] apart shaped busy = absurd (false≢true busy)
   busy-holds (e ∷ es) apart shaped busy = elim (newest (λ (x : F). is_held_by worker x.state) e.1.frames (tree-rising e.1.frames shaped.0.tree)) [
     | inl f ↦ record {
@@ -184,7 +184,7 @@ not-hindered : {I : Type 0} (alone : Result (Outcome I) Refusal) (busy : Bool) �
 not-hindered alone busy free taken = grind arith
 
 -- a frame by its name
-named-in : (shared : CoreState) (name : FrameId) (frame : F) → named shared name ≡ Some frame →
+pub named-in : (shared : CoreState) (name : FrameId) (frame : F) → named shared name ≡ Some frame →
     (tenant : Tenant) × (tenant_in shared.tenants name.tenant ≡ Some tenant) × (frame_at tenant.frames name.serial ≡ Some frame)
 named-in shared name frame at = by (tenant_in shared.tenants name.tenant) refl at
   where

@@ -8,11 +8,11 @@ use Rattle.frame_table.specs.declared.names.State.TheVariants.{Waiting}
 use Rattle.sched_laws.specs.Onward.{EachWaitsForChildren}
 
 -- in these frames each that waits has a child
-abbrev WaitsAll : Tree → Type 0
+abbrev pub WaitsAll : Tree → Type 0
 WaitsAll tree = (s : ℕ) → WaitsAt tree s
 
 -- what a step leaves waits only for children
-abbrev LeftWaiting : Option Tenant → Type 0
+abbrev pub LeftWaiting : Option Tenant → Type 0
 LeftWaiting None = Unit {0}
 LeftWaiting (Some tenant) = WaitsAll tenant.frames
 
@@ -44,7 +44,7 @@ module _ {I A : Type 0} (functions : Functions I A) (t : Tenant) (worker : ℕ) 
 -- the frames that stay at an inlet
 module _ (tenant : Tenant) (shape : IsShaped tenant) (n parent : ℕ) (f : F) (at : frame_at tenant.frames n ≡ Some f) (named : parent_of f.path ≡ Some parent)
     (leaf : children_of tenant.frames n ≡ []) where
-  staying-tree : (abort : Bool) → IsTree (staying tenant.frames n parent abort)
+  pub staying-tree : (abort : Bool) → IsTree (staying tenant.frames n parent abort)
   staying-tree true = tree-aborted parent tenant.frames shape.tree
   staying-tree false = tree-without n tenant.frames shape.tree leaf
 
@@ -68,7 +68,7 @@ module _ (tenant : Tenant) (shape : IsShaped tenant) (n parent : ℕ) (f : F) (a
 
 -- every step of a tenant that has the core to itself
 module _ {I A : Type 0} (functions : Functions I A) (tenant : Tenant) (shape : IsShaped tenant) (all : WaitsAll tenant.frames) where
-  step-waits : (step : StepOf A) (outcome : Outcome I) → lone_step functions tenant step ≡ Ok outcome → LeftWaiting outcome.0
+  pub step-waits : (step : StepOf A) (outcome : Outcome I) → lone_step functions tenant step ≡ Ok outcome → LeftWaiting outcome.0
   step-waits step outcome is = by-effects functions tenant step outcome LeftWaiting is (record {
     at_raise = λ number quota raises enough. all;
     at_submit = λ number words size submits passed s.

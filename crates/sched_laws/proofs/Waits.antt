@@ -15,7 +15,7 @@ module _ (n : ℕ) (state : State) (tree : Tree) (s : ℕ) (t : IsTree tree) whe
   waits-with_state other own f at waits = grind (arith, cases_eq, found-with_state, has_child-with_state, frame_at-other-with_state)
 
 -- other words in a frame
-own-words : (n : ℕ) (words : List ℕ) (tree : Tree) (found : Option F) → frame_at tree n ≡ found → (f : F) → frame_at (with_frame_words n words tree) n ≡ Some f →
+pub own-words : (n : ℕ) (words : List ℕ) (tree : Tree) (found : Option F) → frame_at tree n ≡ found → (f : F) → frame_at (with_frame_words n words tree) n ≡ Some f →
     (g : F) × (frame_at tree n ≡ Some g) × (g.state ≡ f.state)
 own-words n words tree None none f at = absurd (let there = rw (with_frame_words-missing n words tree (no-frame tree n none)) at at in cc)
 own-words n words tree (Some g) is f at =

@@ -3,3 +3,4 @@ pub mod ToyLaws
 pub mod FanRows
 pub mod ChainRows
 pub mod SmallStates
+pub mod GoingRows

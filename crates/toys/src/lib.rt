@@ -7,7 +7,7 @@
 //! a count of one less, waits for it and stores its count in word 2; at count 0 a frame returns.
 //! [`Spin`] goes on for ever. Each is a table (`specs/Toys.antt`), and all frames of all three always fit
 //! (`specs/ToyLaws.antt`). [`rows`],
-//! [`effect_rows`], [`refusal_rows`] and [`law_rows`] are worked examples of the definitions in
+//! [`effect_rows`], [`refusal_rows`], [`going_rows`] and [`law_rows`] are worked examples of the definitions in
 //! `sched_rules` and `sched_laws`: each contract there is computed from the definitions alone, so that
 //! a wrong definition can't pass.
 //!
@@ -37,6 +37,7 @@ mod chain;
 mod counting;
 pub mod effect_rows;
 mod fan;
+pub mod going_rows;
 pub mod law_rows;
 pub mod refusal_rows;
 pub mod rows;

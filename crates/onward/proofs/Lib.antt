@@ -1,0 +1,4 @@
+mod Common
+pub mod Answers
+pub mod Halls
+pub mod Taken

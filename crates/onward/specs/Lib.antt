@@ -1,0 +1,1 @@
+pub use Rattle.sched_laws.specs as sched_laws
