@@ -3,8 +3,6 @@ of the crates. After each step it looks whether a job is stuck (`Core.stuck`), w
 
 A step is a tuple of its kind, its numbers and its frames, each frame a pair (tenant, serial).
 """
-import copy
-
 NAMES = {
     1: "NoTenant", 2: "NoFrame", 3: "NotReady", 4: "NotHere", 5: "Busy", 6: "NotRunning", 7: "NotComputing", 8: "Mismatch",
     9: "NotReturned", 10: "NoSegments", 11: "NoNodes", 12: "NoSteps", 13: "NoJobsLeft", 14: "Full", 15: "BadAct",
@@ -41,6 +39,13 @@ class Tenant:
     def __init__(self, segments, nodes):
         self.segments, self.nodes = segments, nodes
         self.serials, self.steps, self.jobs, self.frames = 0, 0, [], {}
+
+    def copy(self):
+        """The tenant, as steps change it: they put other words and states in, and change no list of words."""
+        other = Tenant(self.segments, self.nodes)
+        other.serials, other.steps, other.jobs = self.serials, self.steps, list(self.jobs)
+        other.frames = {serial: Frame(frame.path, frame.words, frame.state) for serial, frame in self.frames.items()}
+        return other
 
     def left(self):
         used = sum(charge(len(frame.words)) for frame in self.frames.values())
@@ -120,7 +125,7 @@ class Core:
     def would_take(self, number, step):
         """Whether a step of this tenant would be taken. Nothing changes."""
         tenant = self.tenants[number]
-        self.tenants[number] = copy.deepcopy(tenant)
+        self.tenants[number] = tenant.copy()
         answer = self.answer(step)
         self.tenants[number] = tenant
         return answer[0] != "Err"
