@@ -11,7 +11,12 @@ ghost use Rattle.sched_rules.specs.Runs.{only};
 ghost use Rattle.sched_rules.specs.Trees.{Tenant};
 ghost use Rattle.sched_rules.specs.Cores.{CoreState, shared_by_nobody, tenant_in};
 ghost use Rattle.sched_rules.specs.Headline.{AreAnswersTo, AreNumbersGiven, IsAnswerTo, after_answers, taken_steps};
+ghost use Rattle.sched_rules.specs.Views.{job_of};
 ghost use Rattle.sched_laws.specs.Fitted.{origins_of};
+ghost use Rattle.jamboree_core.specs.jamboree.declared.reply.Reply.{Reply};
+ghost use Rattle.jamboree_core.specs.declared.outcomes.Outcome.{Outcome};
+ghost use Rattle.jamboree_core.specs.declared.outcomes.Outcome.TheVariants.{Done};
+ghost use Rattle.jamboree_core.specs.Outcomes.{IsOutcomeIn};
 ghost use Rattle.jamboree_rules.specs.declared.leaf.Leaf.{Leaf};
 ghost use Rattle.jamboree_rules.specs.declared.leaf.LeafAnswer.{LeafAnswer};
 ghost use Rattle.jamboree_rules.specs.Procedure.{jamboree};
@@ -42,3 +47,19 @@ pub fn with_several_jobs()
     positions_suffice();
     who_asks_with_enough_is_never_spent();
 }
+
+/// Of the law on tables: two cores with tenant 9, whose first job, a search of no disc to depth 0, is done.
+pub fn in_two_runs()
+    ensures jobs { (grain : ℕ) × (before : CoreState) × (other_before : CoreState) × (steps : List (StepOf LeafAnswer)) × (other_steps : List (StepOf LeafAnswer))
+        × (answers : List (Result (DidOf Leaf) Refusal)) × (other_answers : List (Result (DidOf Leaf) Refusal)) × (number : ℕ)
+        × AreNumbersGiven before × AreNumbersGiven other_before × (tenant_in before.tenants number ≡ tenant_in other_before.tenants number)
+        × AreAnswersTo (jamboree grain) before steps answers × AreAnswersTo (jamboree grain) other_before other_steps other_answers
+        × (only number (taken_steps steps answers) ≡ only number (taken_steps other_steps other_answers)) }
+    ensures tables { (grain : ℕ) × (before : CoreState) × (other_before : CoreState) × (steps : List (StepOf LeafAnswer)) × (other_steps : List (StepOf LeafAnswer))
+        × (answers : List (Result (DidOf Leaf) Refusal)) × (other_answers : List (Result (DidOf Leaf) Refusal)) × (number : ℕ) × (job : ℕ) × (first : Reply) × (told : Option Outcome)
+        × AreNumbersGiven before × AreNumbersGiven other_before × (tenant_in before.tenants number ≡ tenant_in other_before.tenants number)
+        × AreAnswersTo (jamboree grain) before steps answers × AreAnswersTo (jamboree grain) other_before other_steps other_answers
+        × (only number (taken_steps steps answers) ≡ only number (taken_steps other_steps other_answers))
+        × IsOutcomeIn (job_of (after_answers (jamboree grain) before steps answers) number job) (Some (Done first))
+        × IsOutcomeIn (job_of (after_answers (jamboree grain) other_before other_steps other_answers) number job) told }
+{}

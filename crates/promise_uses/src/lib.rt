@@ -48,7 +48,7 @@ pub use fits::{a_root_to_depth_eight, frames_of_seven_and_nine, jobs_of_seven_an
 pub use halls::{
     any_step, entry_of_nine, seven_and_nine, seven_cancels, value_of_nine, value_of_seven,
 };
-pub use instances::with_several_jobs;
+pub use instances::{in_two_runs, with_several_jobs};
 pub use isolation::seven_in_a_running_core;
 pub use needs::{nodes_of_seven_and_nine, segments_of_seven_and_nine, what_a_position_needs};
 pub use premises::{at_a_door, at_calls, in_a_book, in_a_core, in_a_file, in_a_line, in_a_time};
