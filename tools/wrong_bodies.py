@@ -4,7 +4,7 @@
 usage: tools/wrong_bodies.py [--resume] [--goals|--tests] [CRATE..]      (all crates where none is named, else those in this order; --goals: none
 of those that a test tells; --tests: those alone, with no proof; status 1 where a body is told by nothing, or a crate isn't proved)
        tools/wrong_bodies.py --listed      (those that tools/docs/bodies.txt lists as told by a test, with no proof: the gate runs it. Those that
-different tests of one crate tell are in one build: by --tests each is seen to be told alone)
+different tests of one crate tell are in one build, where they change different crates; by --tests each is seen to be told alone)
 
 A wrong body is a file `crates/CRATE/must-fail/NAME.edit`, or `wrong-bodies/NAME.edit`: the gate tries the first, this script all. It
 has a line `file: PATH`, then pairs of lines `old: TEXT` and `new: TEXT`; a line `# test: CRATE WORD` says that no clause can tell
@@ -212,12 +212,14 @@ def by_tests(where, told):
 
 
 def listed():
-    """The edits that bodies.txt lists as told by a test, in builds: each the crate of the tests, and its edits by the tests' names."""
+    """The edits that bodies.txt lists as told by a test, in builds: each the crate of the tests, and its edits by the tests' names. Edits of
+    one crate aren't in one build, as one may hide the other."""
     builds = []
     for name, where, word in re.findall(r"^(\w+) \| .* \| test: (\w+) (\S+)$", (TOP / "tools/docs/bodies.txt").read_text(), re.M):
         for edit in sorted(TOP.glob(f"crates/*/wrong-bodies/{name}.edit")):
             if TESTED.search(edit.read_text()):
-                build = next((told for crate, told in builds if crate == where and word not in told), None)
+                changes = edit.parents[1]
+                build = next((told for crate, told in builds if crate == where and word not in told and all(other.parents[1] != changes for other in told.values())), None)
                 if build is None:
                     build = {}
                     builds.append((where, build))
