@@ -357,8 +357,13 @@ class Pages:
         for name, clause in sorted(there - {*self.uses}):
             yield f"no use in promise_uses cites {name}#{clause}"
         uses = [call for (crate, _), call in self.code.calls.items() if crate == "promise_uses"]
+        owed, found = {name for name, _ in rows("owed.txt", 2)}, set()
         for name, clause, presumed in premises.unmet(self.specs, [(name, self.call(name)) for _, name, _ in self.promises], uses):
-            yield f"promise_uses has no instance of what {name}#{clause} presumes: {'; '.join(presumed)}"
+            found.add(name)
+            if name not in owed:
+                yield f"promise_uses has no instance of what {name}#{clause} presumes: {'; '.join(presumed)}"
+        for name in sorted(owed - found):
+            yield f"owed.txt names {name}, whose premises have instances"
 
 
 def contracts(crate):

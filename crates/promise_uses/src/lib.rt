@@ -16,6 +16,7 @@ mod customers;
 mod desks;
 mod directories;
 mod fits;
+mod going;
 mod halls;
 mod instances;
 mod isolation;
@@ -45,6 +46,11 @@ pub use desks::{
 };
 pub use directories::{lines_at_a_rate, what_is_accepted};
 pub use fits::{a_root_to_depth_eight, frames_of_seven_and_nine, jobs_of_seven_and_nine};
+pub use going::{
+    five_goes_on, five_has_an_answer, job_three_after_a_list, job_three_at_a_step,
+    job_three_in_a_core, job_three_in_a_hall, job_three_of_seven, newest_of_job_three,
+    who_stands_first, who_waits,
+};
 pub use halls::{
     any_step, entry_of_nine, seven_and_nine, seven_cancels, value_of_nine, value_of_seven,
 };
