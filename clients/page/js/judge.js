@@ -29,7 +29,7 @@ export function mistakesOf(line, analyst, side = "") {
   return all.filter(({ loss }) => loss && loss.class !== "good");
 }
 
-/** What a player's moves lost: the sum of discs, in how many moves, how many of these are weak and grave; and how many others are doubtful, of how many. */
+/** What a player's moves lost: discs in all, in how many moves, how many are weak and grave; and of the others how many are doubtful. */
 export function totalsOf(line, side, analyst) {
   const losses = line.filter((node) => node.side === side).map((node) => judged(node, analyst).loss).filter(Boolean);
   const known = (unit) => losses.filter((loss) => loss.unit === unit), number = (kind) => losses.filter((loss) => loss.class === kind).length;
@@ -37,7 +37,7 @@ export function totalsOf(line, side, analyst) {
   return { discs, weak: number("weak"), grave: number("grave"), doubtful: number("doubtful"), inDiscs: known("discs").length, inPoints: known("points").length };
 }
 
-/** The results for black by best play from each position of a game on, from the first on that is searched to the end; none where one isn't yet. */
+/** The results for black by best play, from the first position on that is searched to the end; none where one isn't yet. */
 export function resultsOf(nodes, analyst) {
   const first = nodes.findIndex(({ position }) => count(position, "-") <= TO_THE_END || isOver(position));
   const known = first < 0 ? [] : nodes.slice(first).map(({ position }) => [analyst.of(position), sideOf(position)]);

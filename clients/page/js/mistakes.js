@@ -1,5 +1,5 @@
-// The mistakes of the game in its order: discs that were lost for certain, and what is doubtful by the evaluation, each with its own mark. A click
-// opens the position before the move.
+// The mistakes of the game in its order: discs that were lost for certain, and what is doubtful by the evaluation, each
+// with its own mark. A click opens the position before the move.
 
 import { made, put } from "./dom.js";
 import { resultsOf, totalsOf } from "./judge.js";
@@ -20,7 +20,7 @@ export function rowText({ node, loss, best, bestMove, score }, scene, say = brie
 
 /** What the result changed by, where all is searched to the end; and what both players lost. */
 export function totalsText({ tree, game, ...scene }) {
-  const { results } = resultsOf([tree.root, ...game], scene), [from, to] = results?.length ? [results[0], results.at(-1)] : [];
+  const results = resultsOf([tree.root, ...game], scene).results ?? [], [from, to] = [results[0], results.at(-1)];
   const sums = ["X", "O"].map((side) => {
     const all = totalsOf(game, side, scene);
     return all.inDiscs + all.inPoints ? t("totals", { ...all, side: nameOf(side), discs: t("unit.discs", { n: all.discs }) }) : "";

@@ -423,11 +423,16 @@ def try_true(shown, address):
                 check(zero not in text and not shown.says(text, "mistakes.no"), f"{shown.name}: without an engine {tab} says {text[:200]!r}")
             check(shown.says("#mistakes", "fault.engine") and shown.says("#why-text", "fault.engine"), f"{shown.name}: why there is nothing: {shown.text('#why-text')!r}")
             shown.tab("moves")
+    shown.open(f"{address}#moves={GAME}&at=11&depth=2")
+    shown.check("#game", False)
+    shown.known()
+    shown.driver.execute_script("window.told = []; new MutationObserver(() => window.told.push([document.getElementById('state').textContent, document.getElementById('line').textContent])).observe(document.getElementById('state'), { childList: true, characterData: true, subtree: true });")
     for depth in (6, 8):
-        shown.open(f"{address}#moves={GAME}&at=11&depth={depth}")
-        shown.until("done", f"/{said(shown.language, 'state.done', n=depth)}/.test(document.getElementById('state').textContent)")
-        line = re.findall(r"[a-h][1-8]", shown.text("#line"))
-        check(len(line) == depth, f"{shown.name}: {depth} plies deep and done, and the line is {line}")
+        shown.fill("#depth", str(depth))
+        done = said(shown.language, "state.done", n=depth)
+        shown.until("done", f"window.told.some(([state]) => /{done}/.test(state))")
+        lines = [re.findall(r"[a-h][1-8]", line) for state, line in shown.evaluate("window.told") if re.search(done, state)]
+        check(all(len(line) == depth for line in lines), f"{shown.name}: {depth} plies deep and done, and the line is {lines}")
 
 
 def try_questions(shown, address):

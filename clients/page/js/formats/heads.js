@@ -1,4 +1,4 @@
-// What stands round the moves of a game where people copy it: a link, the HTML of a page, and lines above that say who played.
+// What stands round the moves of a game where people copy it: a link, a page's HTML, lines above that say who played.
 
 import { Unread } from "./unread.js";
 
@@ -7,8 +7,9 @@ const ENTITIES = { amp: "&", lt: "<", gt: ">", quot: '"', nbsp: " " };
 
 /** The text of a page's HTML. */
 function bare(html) {
-  const text = html.replace(/<(script|style|head)\b[\s\S]*?<\/\1\s*>/gi, " ").replace(/<(br|p|div|tr|li|h\d)\b[^>]*>/gi, "\n").replace(/<[^>]*>/g, " ");
-  return text.replace(/&(?:#(\d+)|(\w+));/g, (whole, code, name) => (code ? String.fromCodePoint(Math.min(code, 0xffff)) : (ENTITIES[name] ?? whole)));
+  const body = html.replace(/<(script|style|head)\b[\s\S]*?<\/\1\s*>/gi, " ").replace(/<(br|p|div|tr|li|h\d)\b[^>]*>/gi, "\n");
+  const letter = (whole, code, name) => (code ? String.fromCodePoint(Math.min(code, 0xffff)) : (ENTITIES[name] ?? whole));
+  return body.replace(/<[^>]*>/g, " ").replace(/&(?:#(\d+)|(\w+));/g, letter);
 }
 
 /** A text without a link or HTML round it; `Unread` where neither has moves. */
@@ -31,9 +32,11 @@ const LABELS = {
 };
 const ANY = Object.values(LABELS).join("|");
 const LABELLED = new RegExp(`(?:^|[\\s,;])(${ANY})\\s*[:=]\\s*(.*?)(?=[\\s,;]+(?:${ANY})\\s*[:=]|$)`, "giu");
-const SIDE = { black: "[(（]\\s*(?:b|black|schwarz|黒番?|●)\\s*[)）]", white: "[(（]\\s*(?:w|white|weiß|白番?|○)\\s*[)）]" };
+const NAMED = { black: "b|black|schwarz|黒番?|●", white: "w|white|weiß|白番?|○" };
+const WHO = (side) => `\\s*(.+?)\\s*[(（]\\s*(?:${NAMED[side]})\\s*[)）]`;
 const AGAINST = "\\s*(?:vs?\\.?|gegen|対|×|[-–])\\s*";
-const PAIRS = [["black", "white"], ["white", "black"]].map(([one, two]) => [one, two, new RegExp(`^\\s*(.+?)\\s*${SIDE[one]}${AGAINST}(.+?)\\s*${SIDE[two]}`, "iu")]);
+const PAIR = (one, two) => [one, two, new RegExp(`^${WHO(one)}${AGAINST}${WHO(two)}`, "iu")];
+const PAIRS = [PAIR("black", "white"), PAIR("white", "black")];
 const PLAIN = new RegExp("^\\s*(\\S.{0,40}?)\\s+(?:vs?\\.?|gegen|対)\\s+(\\S.{0,40}?)\\s*$", "iu"); // the first one is Black
 
 /** What a line says of a game, as {black, white, event, date, result}; nothing where it says nothing of it. */
@@ -52,7 +55,7 @@ function lineRead(line) {
   return found ? { black: found[1], white: found[2] } : null;
 }
 
-/** The lines above the first with moves: {info, count}. A line that says nothing of a game is its event, where others do. */
+/** The lines above the first with moves: {info, count}. One that says nothing of a game is its event, where others do. */
 export function headsOf(lines) {
   const count = lines.findIndex(({ line }) => MOVES.test(line)), info = {};
   const heads = count > 0 ? lines.slice(0, count).map(({ line }) => [line.trim(), lineRead(line)]) : [];
