@@ -14,7 +14,7 @@ const GRACE = 200; // for so long the answer to a line may still come where a jo
 const LOSSES = 4; // a question isn't asked again once so many sessions were lost with it
 // Where many wait, and jobs are quick, a session says the lines of many questions at once (`Seat.flight`).
 const [MOST_FLYING, LEAST_FLYING] = [32, 8]; // how many, and how many have to wait for each session
-const FLIGHT = 500; // milliseconds that they may take, by what the last jobs of their depth took
+const FLIGHT = 2000; // milliseconds that they may take, by what the last jobs of their depth took
 const [SLOW, FORGETS] = [1000, 0.7]; // of a depth whose jobs weren't quick; a quick one counts for less by and by
 // What is reserved where nobody says it: by the first session, and at most; between them RESERVE raises.
 const LEVELS = [{ segments: 256, nodes: 8192 }, { segments: 1024, nodes: 65536 }];

@@ -484,7 +484,7 @@ def test_many_quick_ones_are_asked_ahead(ahead: int) -> None:
 
 
 def test_few_or_slow_ones_are_asked_one_by_one() -> None:
-    for job, count in ((0.002, 8), (0.2, 40)):
+    for job, count in ((0.002, 8), (0.4, 40)):
         works = [Question(3, POSITIONS[at % 20]) for at in range(count)]
         stage = Stage(Model(job=job), sessions=1)
         stage.ask(*works)

@@ -34,7 +34,7 @@ MOST_LOSSES = 3  # of a question; at the next it isn't asked again
 LONGEST_SILENCE = 30.0  # seconds, of a session whose questions were met by silence before
 # Where many wait, and jobs are quick, a session says the lines of many questions at once (`_Session.flying`).
 MOST_FLYING, LEAST_FLYING = 32, 8  # how many, and how many have to wait for each session
-FLIGHT = 0.5  # seconds that they may take, by what the last job of their depth took
+FLIGHT = 2.0  # seconds that they may take, by what the last job of their depth took
 SLOW, FORGETS = 1.0, 0.7  # seconds, of a depth whose jobs weren't quick; a quick one counts for less by and by
 # Mid-game positions with many moves, by which the server's grain is found out: deeper than it by two a search opens many frames.
 PROBES = ("-O-------O-------OXOO---XOXXOO--OOXXOOO---OXO------OO----------- X", "-----X-------XX---OOOXO---OXX----OOOOXO---OO--X--OXO------X----- X")

@@ -21,7 +21,7 @@ final class Core {
   private static final int LOSSES = 4; // a question isn't asked again once so many sessions were lost with it
   // Where many wait, and jobs are quick, a session says the lines of many questions at once: how many, and how many have to wait for each session.
   private static final int MOST_FLYING = 32, LEAST_FLYING = 8;
-  private static final double FLIGHT = 500; // milliseconds that they may take, by what the last jobs of their depth took
+  private static final double FLIGHT = 2000; // milliseconds that they may take, by what the last jobs of their depth took
   private static final double SLOW = 1000, FORGETS = 0.7; // of a depth whose jobs weren't quick; a quick one counts for less by and by
   private static final double NEVER = Double.POSITIVE_INFINITY;
 
