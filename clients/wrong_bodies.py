@@ -42,7 +42,6 @@ BODIES = (
      ("Core", "if (seats.size() >= most) break;", "")),
     ("lines aren't said ahead", ("core", "LEAST_FLYING] = [32, 8];", "LEAST_FLYING] = [32, 1e9];"), ("Core", "LEAST_FLYING = 8;", "LEAST_FLYING = 1 << 30;")),
     ("what a line said ahead is answered counts for another job", ("core", 'question.job === question.number && word === "WAIT"', 'word === "WAIT"'), ("Core", 'isRight && word.equals("WAIT")', 'word.equals("WAIT")')),
-    ("behind a refusal lines are said ahead again", ("core", "seat.isCareful || seat.isRetired) return found", "seat.isRetired) return found"), ("Core", "seat.isCareful || seat.isRetired) return found", "seat.isRetired) return found")),
     ("a long job among those ahead is silence", ("core", 'now >= seat.deadline && seat.asked.word === "WAIT"', "false"), ("Core", 'now >= seat.deadline && seat.word().equals("WAIT")', "seat.jobs < 0")),
     ("256 jobs are forgotten", ("core", "seat.isRetired ||= seat.jobs >= MOST_JOBS;", ""), ("Core", "seat.isRetired |= seat.jobs >= MOST_JOBS;", "")),
     ("ERR 13 is a fault", ("core", "const USED_UP = [10, 11, 13];", "const USED_UP = [10, 11];"), ("Core", "USED_UP = List.of(10, 11, 13);", "USED_UP = List.of(10, 11);")),
