@@ -24,9 +24,9 @@ def told(data: bytes, *words: str) -> subprocess.CompletedProcess[bytes]:
 def test_worked_lines() -> None:
     """Each line of the text that a proved program plays, by `--ordered`."""
     found, spelled = [], {b"\\s": b" ", b"\\r": b"\r"}
-    for part in ROWS.read_bytes().split(b"\n= solve ")[1:]:
+    for part in ROWS.read_bytes().split(b"\n= ")[1:]:
         head, _, lines = part.partition(b"\n")
-        if b"ordered" in head or b"grain" in head:
+        if head.startswith(b"solve ") and b"ordered" in head:
             found += re.findall(rb"^>(?: (.*))?\n< (.*)$", lines, re.M)
     sent = [re.sub(rb"\\[sr]", lambda one: spelled[one[0]], line) for line, _ in found if not line.endswith(rb"\-")]
     wanted = [answer for line, answer in found if not line.endswith(rb"\-")]
