@@ -2,7 +2,7 @@
 """Narrows each law that has a page, and sees that a use of it in `promise_uses` is then refused: a use that isn't is hollow there.
 
 usage: tools/narrowings.py [--few] [--gate] [--list] [--clauses] [WORD..]      (--few: one narrowing of each law; --gate: of one law of each
-crate, as ./gate calls it; --list: prints them and tries none; --clauses: none of definitions; WORD: only laws whose name has it; status 1 where
+crate, in the least time; --list: prints them and tries none; --clauses: none of definitions; WORD: only laws whose name has it; status 1 where
 a use isn't proved as a law stands, or no use tells a narrowing: one of which the check says nothing tells nothing). All of them before a release.
 
 In a copy of `promise_uses` each law stands again as a function of that crate, with the words of its own contract, and its uses call that one.
